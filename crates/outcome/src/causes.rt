@@ -8,5 +8,4 @@ pub fn causes_join()
     ensures later { (before middle now : ℕ) → before ≤ middle → Rose middle now → Rose before now }
     ensures sum { (n m before middle now : ℕ) → RoseBy n before middle → RoseBy m middle now → RoseBy (n + m) before now }
     ensures one { (before now : ℕ) → Rose before now → RoseBy 1 before now }
-{
-}
+{}

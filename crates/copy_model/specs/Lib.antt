@@ -1,0 +1,5 @@
+pub mod Volume
+pub mod Job
+pub mod Moment
+pub mod Promise
+pub mod Laws
