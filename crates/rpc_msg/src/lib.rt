@@ -12,6 +12,8 @@ mod memory;
 mod planned;
 mod sink;
 mod source;
+#[cfg(test)]
+mod tests;
 mod whole;
 
 pub use adapters::{Reading, Writing};
