@@ -1,7 +1,7 @@
 -- Where the first chunk begins that has not landed, for any log: nothing here knows of a cursor.
-use Rattle.std.proofs.Common.{◌≡◌, ℕ, zero, suc, ◌+◌, ◌*◌, ◌<◌, ◌≤◌, Bool, true, false, None, Some, List, refl, arith, inl, inr, subst}
+use Rattle.std.proofs.Common.{◌≡◌, ℕ, zero, suc, ◌+◌, ◌*◌, ◌<◌, ◌≤◌, Bool, true, false, Option, None, Some, List, refl, ap, arith, inl, inr, subst}
 use Rattle.std.specs.Prelude.{◌⊎◌, if◌then◌else◌}
-use Rattle.std.proofs.lemmas.Bool.{cases_eq}
+use Rattle.std.proofs.lemmas.Bool.{cases_eq, cases_order, both_ways}
 use Rattle.copy_model.specs.Job.{Entry, has_landed, chunk_size, chunks_of, IsChunk, unlanded_from, unlanded}
 
 -- of n chunks from the k-th on, the first that has not landed begins at off
@@ -91,3 +91,29 @@ unlanded-None es total e off c =
     let P : ℕ → Type 0 = λ n. has_landed es n ≡ true in
     let s : c.number * chunk_size ≡ off = (let t = c.start in omega arith) in
     subst P s (none es (chunks_of total) 0 0 (omega arith) e c.number (omega arith) (let t = c.start in let w = c.within in omega arith))
+
+same_first : (es : List Entry) (total a b : ℕ) → FirstUnlanded es total a → FirstUnlanded es total b
+    → (a ≡ b) ⊎ ((a < b) ⊎ (b < a)) → a ≡ b
+same_first es total a b f g (inl same) = same
+same_first es total a b f g (inr (inl before)) = absurd (both_ways (has_landed es a) f.is_new (g.earlier a f.chunk before))
+same_first es total a b f g (inr (inr after)) = absurd (both_ways (has_landed es b) g.is_new (f.earlier b g.chunk after))
+
+first_of_all : (es : List Entry) (total off : ℕ) (o : Option ℕ) → unlanded es total ≡ o → FirstUnlanded es total off → o ≡ Some off
+first_of_all es total off None e f = absurd (both_ways (has_landed es off) f.is_new (unlanded-None es total e off f.chunk))
+first_of_all es total off (Some at) e f =
+    ap (λ (n : ℕ). Some n) (same_first es total at off (unlanded-Some es total at e) f (cases_order at off))
+
+-- only one chunk is the first that has not landed
+pub unlanded-FirstUnlanded : (es : List Entry) (total off : ℕ) → FirstUnlanded es total off → unlanded es total ≡ Some off
+unlanded-FirstUnlanded es total off f = first_of_all es total off (unlanded es total) refl f
+
+none_of_all : (es : List Entry) (total : ℕ) (o : Option ℕ) → unlanded es total ≡ o
+    → ((off : ℕ) → IsChunk total off → has_landed es off ≡ true) → o ≡ None
+none_of_all es total None e all = refl
+none_of_all es total (Some at) e all =
+    let f = unlanded-Some es total at e in
+    absurd (both_ways (has_landed es at) f.is_new (all at f.chunk))
+
+-- where every chunk has landed, unlanded gives none
+pub unlanded-all_landed : (es : List Entry) (total : ℕ) → ((off : ℕ) → IsChunk total off → has_landed es off ≡ true) → unlanded es total ≡ None
+unlanded-all_landed es total all = none_of_all es total (unlanded es total) refl all
