@@ -1,10 +1,16 @@
-ghost use Rattle.std.specs.Prelude.{◌≡◌, ℕ, IfOk, Result, Some, length};
+ghost use Rattle.std.specs.Prelude.{◌≡◌, ℕ, ◌+◌, ◌-◌, ◌<◌, ◌≤◌, ◌^◌, IfOk, IfErr, Result, Some, false, length, []};
+ghost use Rattle.copy_model.specs.Volume.{file_at};
+ghost use Rattle.copy_model.specs.Job.{size_of, has_ended, unlanded};
+ghost use Rattle.copy_job.specs.Log.{next_chunk};
+ghost use Rattle.plain_machine.specs.Machine as machine;
+ghost use Rattle.sched_run.specs.Copy.{copying_of, state_of, whole_plan, CanWork};
+ghost use Rattle.sched_run.specs.Running.{IsStep};
 
 use block_file::PlainVolume;
-use copy_job::{Chunk, Job};
+use copy_job::{Chunk, Job, Plan};
 use nfs_base::{JobName, Note, Status, Stop};
 use outcome::Mem;
-use sched_text::{CopySpec, Line};
+use sched_text::Line;
 use std::alloc::Global;
 
 /// The one copy of a run: the client's number of it, the file that it reads at the source, and its job
@@ -16,8 +22,10 @@ pub struct Copying {
     pub job: Job,
 }
 
-/// The name of the destination's job.
-fn job_name(dest: &PlainVolume) -> JobName {
+/// The name of the destination's one job.
+pub fn job_name(dest: &PlainVolume) -> JobName
+    ensures { result ≡ record { boot = dest.now.boot; number = 1 } }
+{
     JobName {
         boot: dest.boot(),
         number: 1,
@@ -25,30 +33,167 @@ fn job_name(dest: &PlainVolume) -> JobName {
 }
 
 /// The status that a client learns of a stopped job.
-fn stop_status(cause: Stop) -> Status {
+fn stop_status(cause: Stop) -> Status
+    ensures { result ≡ machine.stop_status cause }
+{
     match cause {
         Stop::PastEnd => Status::INVAL,
         Stop::NoRoom => Status::FBIG,
     }
 }
 
+/// The length of the range to copy, given the source file's size and the capacity of the destination's
+/// files, or why it can't be copied.
+fn sizing(source_file: u32, plan: Plan, size: u64, capacity: u64) -> Result<u64, Stop>
+    ensures sizing { result ≡ machine.sizing (whole_plan source_file plan) size capacity }
+    ensures reads { IfOk result (λ len. plan.from + len ≤ size) }
+    ensures fits { IfOk result (λ len. plan.to + len ≤ capacity) }
+{
+    match plan.from.checked_add(plan.count) {
+        Some(end) if end <= size => {}
+        _ => return Err(Stop::PastEnd),
+    }
+    let len = if plan.count == 0 {
+        size - plan.from
+    } else {
+        plan.count
+    };
+    match plan.to.checked_add(len) {
+        Some(end) if end <= capacity => Ok(len),
+        _ => Err(Stop::NoRoom),
+    }
+}
+
+/// A list of one line.
+pub fn one_line(alloc: Global, note: Note) -> Mem<Vec<Line>>
+    ensures { IfOk result (λ lines. lines.items ≡ Line.Note note ∷ []) }
+{
+    let mut lines = Vec::new(alloc);
+    lines.push(Line::Note(note))?;
+    Ok(lines)
+}
+
+/// A list of two lines.
+fn two_lines(alloc: Global, first: Note, second: Note) -> Mem<Vec<Line>>
+    ensures { IfOk result (λ lines. lines.items ≡ Line.Note first ∷ Line.Note second ∷ []) }
+{
+    let mut lines = Vec::new(alloc);
+    lines.push(Line::Note(first))?;
+    lines.push(Line::Note(second))?;
+    Ok(lines)
+}
+
 impl Copying {
-    /// The length of the range to copy, given the source file's size and the capacity of the
-    /// destination's files, or why it can't be copied.
-    fn sizing(&self, size: u64, capacity: u64) -> Result<u64, Stop> {
-        let plan = self.job.plan();
-        match plan.from.checked_add(plan.count) {
-            Some(end) if end <= size => {}
-            _ => return Err(Stop::PastEnd),
+    /// One step of the destination's worker at this copy.
+    pub fn work(
+        &mut self,
+        alloc: Global,
+        source: &PlainVolume,
+        dest: &mut PlainVolume,
+    ) -> Mem<Vec<Line>>
+        requires can { CanWork source.now dest.old self.old }
+        requires worn { dest.old.writes < 2 ^ 32 - 1 }
+        ensures { IfOk result (λ lines. IsStep
+            (machine.works (state_of source.now dest.old self.old) (Some (copying_of self.old)))
+            (state_of source.now dest.new self.new)
+            lines.items) }
+    {
+        if self.job.is_ended() {
+            return Ok(Vec::new(alloc));
         }
-        let len = if plan.count == 0 {
-            size - plan.from
-        } else {
-            plan.count
-        };
-        match plan.to.checked_add(len) {
-            Some(end) if end <= capacity => Ok(len),
-            _ => Err(Stop::NoRoom),
+        match self.job.len() {
+            Some(_) => self.go_on(alloc, source, dest),
+            None => self.begin(alloc, source, dest),
+        }
+    }
+
+    /// The first step: sizes the copy by the source file's size and goes on, or stops it.
+    fn begin(
+        &mut self,
+        alloc: Global,
+        source: &PlainVolume,
+        dest: &mut PlainVolume,
+    ) -> Mem<Vec<Line>>
+        requires can { CanWork source.now dest.old self.old }
+        requires worn { dest.old.writes < 2 ^ 32 - 1 }
+        requires not_sized { size_of self.old.job.entries ≡ None }
+        requires running { has_ended self.old.job.entries ≡ false }
+        ensures { IfOk result (λ lines. IsStep
+            (machine.sizes (state_of source.now dest.old self.old) (copying_of self.old)
+                (machine.sizing (copying_of self.old).plan (length (file_at source.now self.old.source_file).now) dest.old.capacity))
+            (state_of source.now dest.new self.new)
+            lines.items) }
+    {
+        let size = source.file(self.source_file).size;
+        match sizing(self.source_file, self.job.plan(), size, dest.capacity()) {
+            Ok(len) => self.begin_sized(alloc, source, dest, len),
+            Err(cause) => {
+                let stopped = Note::Stopped {
+                    job: job_name(dest),
+                    cause,
+                };
+                let failed = Note::Failed {
+                    copy: self.number,
+                    status: stop_status(cause),
+                };
+                let lines = two_lines(alloc, stopped, failed)?;
+                self.job.stop(cause);
+                Ok(lines)
+            }
+        }
+    }
+
+    /// Sizes the copy and goes on in the same step.
+    fn begin_sized(
+        &mut self,
+        alloc: Global,
+        source: &PlainVolume,
+        dest: &mut PlainVolume,
+        len: u64,
+    ) -> Mem<Vec<Line>>
+        requires can { CanWork source.now dest.old self.old }
+        requires worn { dest.old.writes < 2 ^ 32 - 1 }
+        requires not_sized { size_of self.old.job.entries ≡ None }
+        requires running { has_ended self.old.job.entries ≡ false }
+        requires reads { self.old.job.plan.from + len < 2 ^ 64 }
+        requires fits { self.old.job.plan.to + len ≤ dest.old.capacity }
+        ensures { IfOk result (λ lines. IsStep
+            (machine.moves_sized (state_of source.now dest.old self.old) (copying_of self.old) len)
+            (state_of source.now dest.new self.new)
+            lines.items) }
+    {
+        let mut lines = one_line(
+            alloc,
+            Note::Sized {
+                job: job_name(dest),
+                len,
+            },
+        )?;
+        self.job.size(len);
+        let mut later = self.go_on(alloc, source, dest)?;
+        lines.append(&mut later)?;
+        Ok(lines)
+    }
+
+    /// A step of a sized copy: lands the first chunk that hasn't landed, or commits.
+    fn go_on(
+        &mut self,
+        alloc: Global,
+        source: &PlainVolume,
+        dest: &mut PlainVolume,
+    ) -> Mem<Vec<Line>>
+        requires can { CanWork source.now dest.old self.old }
+        requires worn { dest.old.writes < 2 ^ 32 - 1 }
+        requires sized { IsSome (size_of self.old.job.entries) }
+        requires running { has_ended self.old.job.entries ≡ false }
+        ensures { IfOk result (λ lines. IsStep
+            (machine.works_at (state_of source.now dest.old self.old) (copying_of self.old) (size_of self.old.job.entries))
+            (state_of source.now dest.new self.new)
+            lines.items) }
+    {
+        match self.job.unlanded() {
+            Some(chunk) => self.land(alloc, source, dest, chunk),
+            None => self.commit(alloc, dest),
         }
     }
 }

@@ -1,0 +1,5 @@
+pub mod Chunks
+pub mod Landings
+pub mod Logs
+pub mod Cursors
+pub mod Lawful
