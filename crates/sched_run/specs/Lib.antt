@@ -1,3 +1,4 @@
 pub mod Running
 pub mod Copy
+pub mod System
 pub mod Run

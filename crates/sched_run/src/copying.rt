@@ -1,12 +1,12 @@
-ghost use Rattle.std.specs.Prelude.{◌≡◌, ℕ, ◌+◌, ◌-◌, ◌<◌, ◌≤◌, ◌^◌, IfOk, IfErr, Result, Some, false, length, []};
+ghost use Rattle.std.specs.Prelude.{◌≡◌, ◌+◌, ◌-◌, ◌<◌, ◌≤◌, ◌^◌, IfOk, Some, None, false, length, [], ◌∷◌};
 ghost use Rattle.copy_model.specs.Volume.{file_at};
 ghost use Rattle.copy_model.specs.Job.{size_of, has_ended, unlanded};
-ghost use Rattle.copy_job.specs.Log.{next_chunk};
+ghost use Rattle.copy_job.specs.Log.{next_chunk, IsInside};
 ghost use Rattle.plain_machine.specs.Machine as machine;
 ghost use Rattle.sched_run.specs.Copy.{copying_of, state_of, whole_plan, CanWork};
 ghost use Rattle.sched_run.specs.Running.{IsStep};
 
-use block_file::PlainVolume;
+use block_file::{PlainVolume, TooFar};
 use copy_job::{Chunk, Job, Plan};
 use nfs_base::{JobName, Note, Status, Stop};
 use outcome::Mem;
@@ -102,7 +102,7 @@ impl Copying {
             return Ok(Vec::new(alloc));
         }
         match self.job.len() {
-            Some(_) => self.go_on(alloc, source, dest),
+            Some(total) => self.go_on(alloc, source, dest, total),
             None => self.begin(alloc, source, dest),
         }
     }
@@ -170,7 +170,7 @@ impl Copying {
             },
         )?;
         self.job.size(len);
-        let mut later = self.go_on(alloc, source, dest)?;
+        let mut later = self.go_on(alloc, source, dest, len)?;
         lines.append(&mut later)?;
         Ok(lines)
     }
@@ -181,19 +181,86 @@ impl Copying {
         alloc: Global,
         source: &PlainVolume,
         dest: &mut PlainVolume,
+        total: u64,
     ) -> Mem<Vec<Line>>
         requires can { CanWork source.now dest.old self.old }
         requires worn { dest.old.writes < 2 ^ 32 - 1 }
-        requires sized { IsSome (size_of self.old.job.entries) }
+        requires sized { size_of self.old.job.entries ≡ Some total }
         requires running { has_ended self.old.job.entries ≡ false }
         ensures { IfOk result (λ lines. IsStep
-            (machine.works_at (state_of source.now dest.old self.old) (copying_of self.old) (size_of self.old.job.entries))
+            (machine.moves (state_of source.now dest.old self.old) (copying_of self.old) total (unlanded self.old.job.entries total))
             (state_of source.now dest.new self.new)
             lines.items) }
     {
         match self.job.unlanded() {
-            Some(chunk) => self.land(alloc, source, dest, chunk),
-            None => self.commit(alloc, dest),
+            Some(chunk) => self.land(alloc, source, dest, chunk, total),
+            None => self.commit(alloc, source, dest, total),
         }
+    }
+
+    /// Reads a chunk at the source and lands it at the destination.
+    fn land(
+        &mut self,
+        alloc: Global,
+        source: &PlainVolume,
+        dest: &mut PlainVolume,
+        chunk: Chunk,
+        total: u64,
+    ) -> Mem<Vec<Line>>
+        requires can { CanWork source.now dest.old self.old }
+        requires worn { dest.old.writes < 2 ^ 32 - 1 }
+        requires sized { size_of self.old.job.entries ≡ Some total }
+        requires running { has_ended self.old.job.entries ≡ false }
+        requires next { next_chunk self.old.job.entries ≡ Some chunk }
+        requires inside { IsInside self.old.job.plan self.old.job.entries chunk }
+        ensures { IfOk result (λ lines. IsStep
+            (machine.moves (state_of source.now dest.old self.old) (copying_of self.old) total (Some chunk.off))
+            (state_of source.now dest.new self.new)
+            lines.items) }
+    {
+        let plan = self.job.plan();
+        let lines = one_line(
+            alloc,
+            Note::Landed {
+                job: job_name(dest),
+                off: chunk.off,
+                len: chunk.len,
+            },
+        )?;
+        let mut piece = vec![in alloc; 0; chunk.len as usize]?;
+        source.read(self.source_file, plan.from + chunk.off, &mut piece);
+        match dest.write(plan.file, plan.to + chunk.off, &piece)? {
+            Ok(()) => {}
+            Err(TooFar) => unreachable!(),
+        }
+        self.job.land(chunk);
+        Ok(lines)
+    }
+
+    /// Commits the destination file: the copy is whole, and the client learns that it is stable.
+    fn commit(
+        &mut self,
+        alloc: Global,
+        source: &PlainVolume,
+        dest: &mut PlainVolume,
+        total: u64,
+    ) -> Mem<Vec<Line>>
+        requires can { CanWork source.now dest.old self.old }
+        requires sized { size_of self.old.job.entries ≡ Some total }
+        requires running { has_ended self.old.job.entries ≡ false }
+        requires landed { next_chunk self.old.job.entries ≡ None }
+        ensures { IfOk result (λ lines. IsStep
+            (machine.moves (state_of source.now dest.old self.old) (copying_of self.old) total None)
+            (state_of source.now dest.new self.new)
+            lines.items) }
+    {
+        let committed = Note::Committed {
+            job: job_name(dest),
+        };
+        let stable = Note::Stable { copy: self.number };
+        let lines = two_lines(alloc, committed, stable)?;
+        dest.commit(self.job.plan().file)?;
+        self.job.commit();
+        Ok(lines)
     }
 }
