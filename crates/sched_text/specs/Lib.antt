@@ -1,2 +1,4 @@
 pub mod Admission
 pub mod LineText
+pub mod Numerals
+pub mod Words

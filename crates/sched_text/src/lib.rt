@@ -4,6 +4,8 @@
 mod context;
 mod event;
 mod line;
+mod numerals;
+mod words;
 
 pub use context::Context;
 pub use event::{CopySpec, Event};
