@@ -1,5 +1,5 @@
 -- Numbers and bytes as they are spelled in a schedule. Own format.
-use Rattle.std.specs.Prelude.{ℕ, ◌+◌, ◌-◌, ◌*◌, ◌^◌, nat_lt, nat_le, ◌==◌, Bool, ◌&&◌, Option, None, Some, option_and_then, List, [], ◌∷◌, length, if◌then◌else◌}
+use Rattle.std.specs.Prelude.{ℕ, ◌+◌, ◌-◌, ◌*◌, ◌^◌, nat_lt, ◌==◌, ◌&&◌, Option, None, Some, option_and_then, List, [], ◌∷◌, length, if◌then◌else◌}
 use Rattle.sched_text.specs.Admission.{is_between}
 
 -- what follows from a value, where there is one

@@ -53,13 +53,10 @@ pub(crate) fn two(line: &[u8]) -> Option<(&[u8], &[u8])>
     ensures { MatchOption result ((a b : List ℕ) → words_of line.now ≢ a ∷ b ∷ [])
         (λ w. words_of line.now ≡ w.0.now ∷ w.1.now ∷ []) }
 {
-    match first_word(line) {
-        (_, None) => None,
-        (first, Some(rest)) => {
-            let second = one(rest)?;
-            Some((first, second))
-        }
-    }
+    let (first, Some(rest)) = first_word(line) else {
+        return None;
+    };
+    Some((first, one(rest)?))
 }
 
 /// The words of a line that has three.
@@ -67,13 +64,11 @@ pub(crate) fn three(line: &[u8]) -> Option<(&[u8], &[u8], &[u8])>
     ensures { MatchOption result ((a b c : List ℕ) → words_of line.now ≢ a ∷ b ∷ c ∷ [])
         (λ w. words_of line.now ≡ w.0.now ∷ w.1.now ∷ w.2.now ∷ []) }
 {
-    match first_word(line) {
-        (_, None) => None,
-        (first, Some(rest)) => {
-            let (second, third) = two(rest)?;
-            Some((first, second, third))
-        }
-    }
+    let (first, Some(rest)) = first_word(line) else {
+        return None;
+    };
+    let (second, third) = two(rest)?;
+    Some((first, second, third))
 }
 
 /// The words of a line that has four.
@@ -81,11 +76,24 @@ pub(crate) fn four(line: &[u8]) -> Option<(&[u8], &[u8], &[u8], &[u8])>
     ensures { MatchOption result ((a b c d : List ℕ) → words_of line.now ≢ a ∷ b ∷ c ∷ d ∷ [])
         (λ w. words_of line.now ≡ w.0.now ∷ w.1.now ∷ w.2.now ∷ w.3.now ∷ []) }
 {
-    match first_word(line) {
-        (_, None) => None,
-        (first, Some(rest)) => {
-            let (second, third, fourth) = three(rest)?;
-            Some((first, second, third, fourth))
-        }
-    }
+    let (first, Some(rest)) = first_word(line) else {
+        return None;
+    };
+    let (second, third, fourth) = three(rest)?;
+    Some((first, second, third, fourth))
+}
+
+/// The words of a line that has six.
+pub(crate) fn six(line: &[u8]) -> Option<(&[u8], &[u8], &[u8], &[u8], &[u8], &[u8])>
+    ensures { MatchOption result ((a b c d e f : List ℕ) → words_of line.now ≢ a ∷ b ∷ c ∷ d ∷ e ∷ f ∷ [])
+        (λ w. words_of line.now ≡ w.0.now ∷ w.1.now ∷ w.2.now ∷ w.3.now ∷ w.4.now ∷ w.5.now ∷ []) }
+{
+    let (first, Some(rest)) = first_word(line) else {
+        return None;
+    };
+    let (second, Some(rest)) = first_word(rest) else {
+        return None;
+    };
+    let (third, fourth, fifth, sixth) = four(rest)?;
+    Some((first, second, third, fourth, fifth, sixth))
 }
