@@ -1,2 +1,6 @@
 pub mod Admission
+pub mod Grammar
 pub mod LineText
+pub mod Numerals
+pub mod ScheduleText
+pub mod Words

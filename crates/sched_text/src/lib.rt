@@ -3,8 +3,13 @@
 
 mod context;
 mod event;
+mod grammar;
 mod line;
+mod numerals;
+mod schedule;
+mod words;
 
 pub use context::Context;
 pub use event::{CopySpec, Event};
 pub use line::Line;
+pub use schedule::{BadLine, Schedule};
