@@ -2,3 +2,4 @@ pub mod Running
 pub mod Copy
 pub mod System
 pub mod Run
+pub mod Client

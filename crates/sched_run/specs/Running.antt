@@ -22,6 +22,11 @@ pub record IsStep (step : Step) (state : State) (lines : List Line) : Type 0 whe
   pub state_is : state ≡ step.state
   pub lines_is : lines ≡ step.lines
 
+-- the event was carried out, and these are its lines
+pub record IsDone (old new : Running) (event : Event) (lines : List Line) : Type 0 where
+  pub context : new.context ≡ after old.context event
+  pub step : IsStep (happens old.state event) new.state lines
+
 -- the event was carried out, and this is the text of its lines
 pub record IsCarriedOut (old new : Running) (event : Event) (text : List ℕ) : Type 0 where
   pub context : new.context ≡ after old.context event

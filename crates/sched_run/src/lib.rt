@@ -4,6 +4,7 @@
 //! lines (crate `plain_machine`), whose history keeps the promise of crate `copy_model`.
 #![tactic(auto)]
 
+mod client;
 mod copying;
 mod system;
 
