@@ -1,5 +1,5 @@
 -- Small runs, written by hand. One copies two bytes, commits them, reports them as stable, and crashes;
--- each of the others differs from it in one respect, and breaks the promise. Own examples.
+-- each of the others departs from it in one way, and breaks the promise. Own examples.
 use Rattle.std.specs.Prelude.{true, false, List, [], ◌∷◌, length, slice_index_or}
 use Rattle.copy_model.specs.Job.{Plan}
 use Rattle.copy_model.specs.Volume.{Volume, formatted, write, commit, Old, crash}

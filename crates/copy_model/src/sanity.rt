@@ -13,7 +13,7 @@ pub fn kept_example()
     ensures in_range { InRange ((good 5).copy 0) 3 }
 {}
 
-/// Runs that differ from that one in one respect, and break the promise.
+/// Runs that depart from that one in one way each, and break the promise.
 pub fn refused_examples()
     ensures uncommitted { IsKept uncommitted → ⊥ }
     ensures changed { IsKept changed → ⊥ }

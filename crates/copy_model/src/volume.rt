@@ -43,7 +43,9 @@ pub fn recovered_files()
     // All that a commit made safe is there afterwards, as it was before.
     ensures committed { (v : Volume) (file : ℕ) (kept : Kept) → v.doubt ≡ None
         → file_at (crash (commit v file) kept) file ≡ committed (file_at v file) }
-    ensures old { (v : Volume) (file : ℕ) → file_at (crash v Old) file ≡ recovered (file_at v file) }
+    // The safe bytes come back with the change attribute that belongs to them.
+    ensures old { (v : Volume) (file : ℕ) → let f = file_at v file in
+        file_at (crash v Old) file ≡ record f { now = f.safe; change = f.safe_change } }
     ensures new { (v : Volume) (file : ℕ)
         → file_at (crash (fail_commit v file) New) file ≡ committed (file_at v file) }
     ensures others { (v : Volume) (file : ℕ) (kept : Kept) (other : ℕ) → (other ≡ file → ⊥)
