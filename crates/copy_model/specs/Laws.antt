@@ -2,7 +2,7 @@
 -- the promise proves these and nothing else. Own definitions.
 use Rattle.std.specs.Prelude.{◌≡◌, ℕ, suc, ◌+◌, ◌<◌, ◌≤◌, Bool, true, false, ◌⊎◌}
 use Rattle.copy_model.specs.Moment.{Copy, Moment, History}
-use Rattle.copy_model.specs.Promise.{InRange, IsAcceptedBy, source_byte, LandsOf, LandsAt, IsCrash, Reaches, Shows, IsAlike}
+use Rattle.copy_model.specs.Promise.{InRange, IsAcceptedBy, IsCompletedBy, HasExtent, source_byte, LandsOf, LandsAt, IsCrash, Reaches, Shows, IsAlike}
 
 -- How far a copy is, which no promise speaks of: which bytes of its range have landed, whether it may
 -- still land, whether the landed bytes stand (no crash of the destination since), and whether a commit
@@ -94,6 +94,9 @@ pub record IsLawfulRun (h : History) (progress : ℕ → ℕ → Progress) : Typ
   pub start : StartLaws (h 0)
   pub moments : (k : ℕ) → MomentLaws (h k) (progress k)
   pub steps : (k : ℕ) → StepLaws h progress k
+
+  -- what is completed was copied in full
+  pub extent : (j k : ℕ) → IsCompletedBy h j k → HasExtent h j ((h k).copy j)
   -- one change attribute, one contents
   pub same_change : (i k file place : ℕ) → (h i).source.broken ≡ false → (h k).source.broken ≡ false
       → (h i).source.change file ≡ (h k).source.change file → (h i).source.now file place ≡ (h k).source.now file place
