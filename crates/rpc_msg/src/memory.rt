@@ -63,10 +63,13 @@ impl Source for MemSource {
 
     ghost faults = { λ s. planned_faults s.plan };
 
+    ghost failing = { λ s. s.plan.failing };
+
     fn take(&mut self, buf: &mut [u8]) -> Take
         ensures within { TakesWithin result buf.new }
         ensures bytes { TakesBytes (Some self.old.left) (Some self.new.left) result buf.new }
         ensures cause { TakeHasCause (planned_faults self.old.plan) (planned_faults self.new.plan) result }
+        ensures failing { self.new.plan.failing ≡ self.old.plan.failing }
         ensures answer { result ≡ take_of self.old (length buf.old) }
         ensures plan { self.new.plan ≡ after_call self.old.plan }
     {
@@ -151,11 +154,14 @@ impl Sink for MemSink {
 
     ghost faults = { λ s. planned_faults s.plan + s.starved };
 
+    ghost failing = { λ s. s.plan.failing };
+
     fn put(&mut self, piece: &[u8]) -> Put
         ensures within { PutsWithin result piece.now }
         ensures bytes { PutsBytes (Some self.old.taken) (Some self.new.taken) result piece.now }
         ensures cause { PutHasCause (planned_faults self.old.plan + self.old.starved)
             (planned_faults self.new.plan + self.new.starved) result }
+        ensures failing { self.new.plan.failing ≡ self.old.plan.failing }
         ensures answer { PutIs self.old self.new result piece.now }
     {
         if self.plan.fails() {

@@ -1,8 +1,8 @@
-ghost use Rattle.std.specs.Prelude.{◌≡◌, ◌==◌, ◌≤◌};
+ghost use Rattle.std.specs.Prelude.{◌≡◌, ◌==◌, ℕ, ◌+◌, ◌≤◌, []};
 ghost use Rattle.std.specs.Bool.{OnTrue};
 ghost use Rattle.std.specs.List.{list_any};
 ghost use Rattle.outcome.specs.Causes.{Rose};
-ghost use Rattle.rpc_msg.specs.Plan.{is_due, after_call, planned_faults};
+ghost use Rattle.rpc_msg.specs.Plan.{Plan, is_due, after_call, planned_faults};
 
 use std::marker::Model;
 
@@ -51,6 +51,15 @@ impl Planned {
         contains(self.failing.as_slice(), self.calls)
     }
 }
+
+/// Where no call is planned to fail, none does. Over a source in memory no fault is left then, and
+/// over a sink in memory only want of memory, whatever the calls went through.
+pub fn nothing_planned()
+    ensures source { (old new : Plan) → old.failing ≡ [] → new.failing ≡ old.failing
+        → Rose (planned_faults old) (planned_faults new) → ⊥ }
+    ensures sink { (old new : Plan) (before now : ℕ) → old.failing ≡ [] → new.failing ≡ old.failing
+        → Rose (planned_faults old + before) (planned_faults new + now) → Rose before now }
+{}
 
 fn contains(numbers: &[u64], number: u64) -> bool
     ensures { result ≡ list_any (λ n. n == number) numbers.now }

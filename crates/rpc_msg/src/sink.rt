@@ -1,4 +1,4 @@
-ghost use Rattle.std.specs.Prelude.{ℕ, List};
+ghost use Rattle.std.specs.Prelude.{◌≡◌, ℕ, List, []};
 ghost use Rattle.std.specs.declared.option.Option.{Option};
 ghost use Rattle.rpc_msg.specs.Sink.{PutsWithin, PutsBytes, PutHasCause};
 
@@ -19,9 +19,13 @@ pub trait Sink {
     // How many calls failed. The count stops at the end of its type.
     ghost faults: { Self → ℕ };
 
+    // The numbers of the calls that are to fail, where that was planned. They stay as they are.
+    ghost failing: { Self → List ℕ } = { λ _. [] };
+
     /// Gives the sink a piece, of which it takes as many bytes from the front as it cares to.
     fn put(&mut self, piece: &[u8]) -> Put
         ensures within { PutsWithin result piece.now }
         ensures bytes { PutsBytes (taken self.old) (taken self.new) result piece.now }
-        ensures cause { PutHasCause (faults self.old) (faults self.new) result };
+        ensures cause { PutHasCause (faults self.old) (faults self.new) result }
+        ensures failing { failing self.new ≡ failing self.old };
 }

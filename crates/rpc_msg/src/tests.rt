@@ -1,5 +1,6 @@
-use crate::{MemSink, MemSource, Put, Reading, Sink, Source, Take, Whole, Writing};
-use crate::{put_all, read_whole};
+use crate::{
+    MemSink, MemSource, Put, Reading, Sink, Source, Take, Whole, Writing, put_all, read_whole,
+};
 use std::alloc::{AllocError, Global};
 use std::io::{self, Cursor, ErrorKind, Read};
 use std::process::Abort;

@@ -1,4 +1,4 @@
-ghost use Rattle.std.specs.Prelude.{◌≡◌, ℕ, ◌≤◌, List, ◌++◌, length, IfOk, OnOk, OnErr};
+ghost use Rattle.std.specs.Prelude.{◌≡◌, ℕ, ◌≤◌, List, ◌++◌, length, Some, codes, IfOk, OnOk, OnErr};
 ghost use Rattle.std.specs.declared.option.Option.{Option};
 ghost use Rattle.std.specs.Io.KnownBytes.{Appends};
 ghost use Rattle.outcome.specs.Causes.{HasCause};
@@ -31,6 +31,8 @@ pub enum Whole {
 pub struct WriteFault;
 
 impl fmt::Display for WriteFault {
+    ghost output = { λ _. Some (codes "a write failed") };
+
     fn fmt<W: fmt::Write>(&self, f: &mut fmt::Formatter<W>) -> fmt::Result {
         f.write_str("a write failed")
     }
@@ -44,6 +46,7 @@ pub fn read_whole<S: Source>(alloc: Global, source: &mut S, limit: usize) -> Mem
     ensures err { OnErr result (TakesFront (S.left source.old) (S.left source.new)) }
     ensures later { S.faults source.old ≤ S.faults source.new }
     ensures cause { IfOk result (WholeHasCause (S.faults source.old) (S.faults source.new)) }
+    ensures failing { S.failing source.new ≡ S.failing source.old }
 {
     let mut text = Vec::new(alloc);
     let mut room = [0; ROOM];
@@ -62,6 +65,7 @@ pub fn put_all<K: Sink>(sink: &mut K, bytes: &[u8]) -> Result<(), WriteFault>
     ensures ok { OnOk result (Appends (K.taken sink.old) (K.taken sink.new) bytes.now) }
     ensures err { OnErr result (AppendsFront (K.taken sink.old) (K.taken sink.new) bytes.now) }
     ensures cause { HasCause (K.faults sink.old) (K.faults sink.new) result }
+    ensures failing { K.failing sink.new ≡ K.failing sink.old }
 {
     let mut at = 0;
     'puts: while at < bytes.len() {
