@@ -1,9 +1,10 @@
 -- The runner's copy and the machine's: the job at the destination, with what the client and the source
 -- know of it.
-use Rattle.std.specs.Prelude.{◌≡◌, ℕ, ◌+◌, ◌<◌, ◌≤◌, Some, length}
+use Rattle.std.specs.Prelude.{◌≡◌, ℕ, ◌+◌, ◌<◌, ◌≤◌, None, Some, [], length}
 use Rattle.copy_model.specs.Volume.{Volume}
 use Rattle.copy_model.specs.Job.{Plan, size_of}
 use Rattle.copy_job.specs.declared.plan.Plan.{Plan as JobPlan}
+use Rattle.sched_text.specs.declared.event.CopySpec.{CopySpec}
 use Rattle.sched_run.specs.declared.copying.Copying.{Copying}
 use Rattle.plain_machine.specs.Machine.{State}
 use Rattle.plain_machine.specs.Machine as machine
@@ -26,6 +27,19 @@ copying_of c =
       number = c.number;
       plan = whole_plan c.source_file c.job.plan;
       entries = c.job.entries;
+    }
+
+-- a copy that was just accepted
+abbrev pub new_copying : ℕ → CopySpec → Copying
+new_copying number spec =
+    record {
+      number = number;
+      source_file = spec.source_file;
+      job = record {
+        plan = record { file = spec.file; from = spec.from; to = spec.to; count = spec.count; consecutive = spec.consecutive };
+        entries = [];
+        cause = None;
+      };
     }
 
 -- the machine's state while there is a copy

@@ -3,14 +3,14 @@ ghost use Rattle.copy_model.specs.Volume.{file_at};
 ghost use Rattle.copy_model.specs.Job.{size_of, has_ended, unlanded};
 ghost use Rattle.copy_job.specs.Log.{next_chunk, IsInside};
 ghost use Rattle.plain_machine.specs.Machine as machine;
-ghost use Rattle.sched_run.specs.Copy.{copying_of, state_of, whole_plan, CanWork};
+ghost use Rattle.sched_run.specs.Copy.{copying_of, state_of, whole_plan, new_copying, CanWork};
 ghost use Rattle.sched_run.specs.Running.{IsStep};
 
 use block_file::{PlainVolume, TooFar};
 use copy_job::{Chunk, Job, Plan};
 use nfs_base::{JobName, Note, Status, Stop};
 use outcome::Mem;
-use sched_text::Line;
+use sched_text::{CopySpec, Line};
 use std::alloc::Global;
 
 /// The one copy of a run: the client's number of it, the file that it reads at the source, and its job
@@ -84,6 +84,24 @@ fn two_lines(alloc: Global, first: Note, second: Note) -> Mem<Vec<Line>>
 }
 
 impl Copying {
+    /// A copy that was just accepted.
+    pub fn new(number: u8, spec: CopySpec) -> Copying
+        ensures { result ≡ new_copying number spec }
+    {
+        let plan = Plan {
+            file: spec.file,
+            from: spec.from,
+            to: spec.to,
+            count: spec.count,
+            consecutive: spec.consecutive,
+        };
+        Copying {
+            number,
+            source_file: spec.source_file,
+            job: Job::new(plan),
+        }
+    }
+
     /// One step of the destination's worker at this copy.
     pub fn work(
         &mut self,

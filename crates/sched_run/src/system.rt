@@ -1,16 +1,13 @@
-ghost use Rattle.std.specs.Prelude.{◌≡◌, ℕ, ◌≤◌, List, length, IfOk, OnErr, IsTrue};
-ghost use Rattle.copy_model.specs.Volume.{file_at, bytes_at};
+ghost use Rattle.std.specs.Prelude.{◌≡◌, ◌≤◌, IfOk, OnErr, IsTrue};
+ghost use Rattle.std.specs.String.{string_bytes};
 ghost use Rattle.rpc_msg.specs.Sink.{AppendsFront};
-ghost use Rattle.sched_text.specs.Admission.{admits, at_start, after};
+ghost use Rattle.sched_text.specs.Admission.{admits, after};
 ghost use Rattle.sched_text.specs.LineText.{lines_text};
-ghost use Rattle.plain_machine.specs.Machine as machine;
-ghost use Rattle.sched_run.specs.Running.{Running, at_rest, IsCarriedOut, IsStep};
-ghost use Rattle.sched_run.specs.Run.{run_text, RanIs, RanHasCause};
 
+use crate::client::{client_writes, peek, progress, refusal};
 use crate::copying::{Copying, job_name, one_line};
-use block_file::{PlainVolume, TooFar};
-use copy_job::{Job, Plan};
-use nfs_base::{BLOCK_SIZE, Note, Side, Status};
+use block_file::PlainVolume;
+use nfs_base::{Note, Side};
 use outcome::Mem;
 use rpc_msg::{Sink, put_all};
 use sched_text::{Context, CopySpec, Event, Line, Schedule};
@@ -54,6 +51,11 @@ impl Model for System {
 }
 
 impl System {
+    ghost use Rattle.std.specs.Prelude.{◌≡◌, IfOk, IsTrue};
+    ghost use Rattle.std.specs.String.{string_bytes};
+    ghost use Rattle.sched_text.specs.Admission.{admits, after};
+    ghost use Rattle.sched_run.specs.Running.{at_rest, IsDone, IsCarriedOut};
+
     /// Before the first event: no volume is there.
     pub fn new() -> System
         ensures { result ≡ at_rest }
@@ -68,9 +70,9 @@ impl System {
 
     /// Carries out one event, and gives the text of its lines. After want of memory the run is over:
     /// what the event did so far stands.
-    pub fn step(&mut self, alloc: Global, event: &Event) -> Mem<Octets>
+    pub fn step(&mut self, alloc: Global, event: &Event) -> Mem<String>
         requires { IsTrue (admits self.old.context event.now) }
-        ensures { IfOk result (λ text. IsCarriedOut self.old self.new event.now text) }
+        ensures { IfOk result (λ text. IsCarriedOut self.old self.new event.now (string_bytes text)) }
     {
         let lines = self.carry_out(alloc, event)?;
         text_of(alloc, &lines)
@@ -238,3 +240,68 @@ impl System {
     }
 }
 
+
+impl System {
+    ghost use Rattle.std.specs.Prelude.{◌≡◌, ◌≤◌, IfOk, OnErr};
+    ghost use Rattle.rpc_msg.specs.Sink.{AppendsFront};
+    ghost use Rattle.sched_run.specs.Running.{at_rest};
+    ghost use Rattle.sched_run.specs.Run.{run_text, RanIs, RanHasCause};
+
+    /// Carries out a schedule and puts its transcript, the lines of each event as soon as it is done.
+    pub fn run<K: Sink>(
+        &mut self,
+        alloc: Global,
+        schedule: &Schedule,
+        out: &mut K,
+    ) -> Mem<Ran>
+        requires { self.old ≡ at_rest }
+        ensures ran { IfOk result (RanIs (K.taken out.old) (K.taken out.new) (run_text schedule.now)) }
+        ensures err { OnErr result (AppendsFront (K.taken out.old) (K.taken out.new) (run_text schedule.now)) }
+        ensures later { K.faults out.old ≤ K.faults out.new }
+        ensures cause { IfOk result (RanHasCause (K.faults out.old) (K.faults out.new)) }
+    {
+        for event in schedule.events() {
+            let text = self.step(alloc, event)?;
+            match put_all(out, text.as_bytes()) {
+                Ok(()) => {}
+                Err(_) => return Ok(Ran::WriteFault),
+            }
+        }
+        let last = text_of(alloc, &[Line::End { records: 0 }])?;
+        match put_all(out, last.as_bytes()) {
+            Ok(()) => Ok(Ran::Whole),
+            Err(_) => Ok(Ran::WriteFault),
+        }
+    }
+}
+
+/// The text of lines, one after the other.
+fn text_of(alloc: Global, lines: &[Line]) -> Mem<String>
+    ensures { IfOk result (λ text. string_bytes text ≡ lines_text lines.now) }
+{
+    let mut text = String::new(alloc);
+    for line in lines {
+        line.push_to(&mut text)?;
+    }
+    Ok(text)
+}
+
+#[cfg(test)]
+mod tests {
+    use super::*;
+    use rpc_msg::MemSink;
+    use std::test::Fail;
+
+    #[test]
+    fn copies_ten_bytes(rt: HostRuntime) -> Result<(), Fail> {
+        let text = b"volume s 1 1\nvolume d 1 1\nwrite s 1 0 30313233343536373839\ncopy 1 1 0 1 0 10 c\nwork 1\nstatus 1\nwork 1\npeek d 1 0 10\n";
+        let schedule = Schedule::parse(rt.alloc(), text)?.ok().ok_or("a schedule")?;
+        let mut out = MemSink::new(rt.alloc(), Vec::new(rt.alloc()));
+        let mut system = System::new();
+        let ran = system.run(rt.alloc(), &schedule, &mut out)?;
+        assert_eq!(rt; ran, Ran::Whole);
+        let want = b"written s 1 10\naccepted 1.1 1 0 10\nsized 1.1 10\nlanded 1.1 0 10\ncopied 1 10\ncommitted 1.1\nstable 1\nbytes d 1 0 30313233343536373839\nend 0\n";
+        assert_eq!(rt; out.bytes(), want.as_slice());
+        Ok(())
+    }
+}
