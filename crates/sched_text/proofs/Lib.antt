@@ -1,3 +1,4 @@
 pub mod GrammarLemmas
+pub mod HexLemmas
 pub mod ScanLemmas
 pub mod WordsLemmas
