@@ -1,4 +1,5 @@
 pub mod GrammarLemmas
 pub mod HexLemmas
+pub mod NumeralLemmas
 pub mod ScanLemmas
 pub mod WordsLemmas

@@ -3,4 +3,5 @@ pub mod Grammar
 pub mod LineText
 pub mod Numerals
 pub mod ScheduleText
+pub mod Spelling
 pub mod Words
