@@ -1,3 +1,4 @@
+pub mod FirstBadLemmas
 pub mod GrammarLemmas
 pub mod HexLemmas
 pub mod NumeralLemmas

@@ -1,6 +1,10 @@
-ghost use Rattle.std.specs.Prelude.{ℕ, ◌≡◌, ◌<◌, ◌≤◌, ◌^◌, List, Some, All, decimal, length};
+ghost use Rattle.std.specs.Prelude.{ℕ, ◌≡◌, ◌+◌, ◌<◌, ◌≤◌, ◌^◌, ◌++◌, List, Some, Ok, Err, All, decimal, length};
+ghost use Rattle.sched_text.specs.declared.event.Event.{Event};
+ghost use Rattle.sched_text.specs.Admission.{at_start, IsAdmitted};
 ghost use Rattle.sched_text.specs.LineText.{hex_text};
 ghost use Rattle.sched_text.specs.Numerals.{bytes_of, number_of};
+ghost use Rattle.sched_text.specs.ScheduleText.{FirstBad, scan, schedule_of};
+ghost use Rattle.sched_text.specs.Words.{lines_of};
 
 /// A number is spelled by its decimal digits, and by no other word.
 pub fn number_words()
@@ -13,4 +17,17 @@ pub fn byte_words()
     ensures reads_back { (bytes : List ℕ) → All (λ b. b < 256) bytes → 1 ≤ length bytes → length bytes ≤ 65536
         → bytes_of (hex_text bytes) ≡ Some bytes }
     ensures only { (word bytes : List ℕ) → bytes_of word ≡ Some bytes → All (λ b. b < 256) bytes × (word ≡ hex_text bytes) }
+{}
+
+/// A text is bad just where its first bad line is: the lines before that one are good, and with it they
+/// are not, whatever lines follow.
+pub fn first_bad_line()
+    ensures first { (text : List ℕ) (n : ℕ) → schedule_of text ≡ Err n → FirstBad at_start 1 (lines_of text) n }
+    ensures bad { (text : List ℕ) (n : ℕ) → FirstBad at_start 1 (lines_of text) n → schedule_of text ≡ Err n }
+    ensures later { (lines more : List (List ℕ)) (n : ℕ) → scan at_start 1 lines ≡ Err n → scan at_start 1 (lines ++ more) ≡ Err n }
+{}
+
+/// Each event of a schedule may come after those before it.
+pub fn events_admitted()
+    ensures { (text : List ℕ) (events : List Event) → schedule_of text ≡ Ok events → IsAdmitted at_start events }
 {}
