@@ -3,4 +3,5 @@ pub mod GrammarLemmas
 pub mod HexLemmas
 pub mod NumeralLemmas
 pub mod ScanLemmas
+pub mod SpellingLemmas
 pub mod WordsLemmas

@@ -58,6 +58,10 @@ word_from (c ∷ d ∷ cs) digits some lead small =
     let no_zero : c ≡ 48 → ⊥ = λ zero. let one = lead zero in omega arith in
     rw (ne_eqb c 48 no_zero) (digits_from (c ∷ d ∷ cs) 0 digits small)
 
+-- a number is written in digits
+pub plain_digits : (n : ℕ) → n < 2 ^ 64 → all_ascii_digits (decimal n) ≡ true
+plain_digits n small = digits_decimal own n small
+
 -- a number's digits read as the number
 pub number_of-decimal : (n : ℕ) → n < 2 ^ 64 → number_of (decimal n) ≡ Some n
 number_of-decimal n small =

@@ -1,10 +1,12 @@
-ghost use Rattle.std.specs.Prelude.{ℕ, ◌≡◌, ◌+◌, ◌<◌, ◌≤◌, ◌^◌, ◌++◌, List, Some, Ok, Err, All, decimal, length};
+ghost use Rattle.std.specs.Prelude.{ℕ, ◌≡◌, ◌+◌, ◌<◌, ◌≤◌, ◌^◌, ◌++◌, List, Some, Ok, Err, All, IsTrue, decimal, length};
 ghost use Rattle.sched_text.specs.declared.event.Event.{Event};
-ghost use Rattle.sched_text.specs.Admission.{at_start, IsAdmitted};
+ghost use Rattle.sched_text.specs.Admission.{at_start, is_within, IsAdmitted};
+ghost use Rattle.sched_text.specs.Grammar.{event_of};
 ghost use Rattle.sched_text.specs.LineText.{hex_text};
 ghost use Rattle.sched_text.specs.Numerals.{bytes_of, number_of};
 ghost use Rattle.sched_text.specs.ScheduleText.{FirstBad, scan, schedule_of};
-ghost use Rattle.sched_text.specs.Words.{lines_of};
+ghost use Rattle.sched_text.specs.Words.{lines_of, words_of};
+ghost use Rattle.sched_text.specs.Spelling.{spelling, FitsFields};
 
 /// A number is spelled by its decimal digits, and by no other word.
 pub fn number_words()
@@ -30,4 +32,12 @@ pub fn first_bad_line()
 /// Each event of a schedule may come after those before it.
 pub fn events_admitted()
     ensures { (text : List ℕ) (events : List Event) → schedule_of text ≡ Ok events → IsAdmitted at_start events }
+{}
+
+/// Each event has one line that spells it, and only that line reads as it.
+pub fn event_lines()
+    ensures reads_back { (event : Event) → FitsFields event → IsTrue (is_within event)
+        → event_of (words_of (spelling event)) ≡ Some event }
+    ensures only { (line : List ℕ) (event : Event) → event_of (words_of line) ≡ Some event
+        → (line ≡ spelling event) × FitsFields event }
 {}
