@@ -4,4 +4,5 @@ pub mod HexLemmas
 pub mod NumeralLemmas
 pub mod ScanLemmas
 pub mod SpellingLemmas
+pub mod TextLemmas
 pub mod WordsLemmas

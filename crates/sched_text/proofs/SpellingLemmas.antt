@@ -23,15 +23,15 @@ use Rattle.sched_text.proofs.NumeralLemmas.{plain_digits, number_of-decimal, dec
 use Rattle.sched_text.proofs.HexLemmas.{bytes_of-hex_text, hex_text-bytes_of}
 
 -- whether no byte of a word is a space or a control character
-abbrev is_plain : List ℕ → Bool
+abbrev pub is_plain : List ℕ → Bool
 is_plain [] = true
 is_plain (b ∷ bs) = ltb 32 b && is_plain bs
 
-abbrev are_plain : List (List ℕ) → Bool
+abbrev pub are_plain : List (List ℕ) → Bool
 are_plain [] = true
 are_plain (word ∷ words) = is_plain word && are_plain words
 
-lacks : (separator : ℕ) → separator ≤ 32 → (word : List ℕ) → is_plain word ≡ true → All (λ b. (b == separator) ≡ false) word
+pub lacks : (separator : ℕ) → separator ≤ 32 → (word : List ℕ) → is_plain word ≡ true → All (λ b. (b == separator) ≡ false) word
 lacks separator low [] plain = All-nil (λ b. (b == separator) ≡ false)
 lacks separator low (b ∷ word) plain =
     let tests = and_parts (ltb 32 b) (is_plain word) plain in
@@ -73,7 +73,7 @@ plain_consecutive : (consecutive : Bool) → is_plain (consecutive_text consecut
 plain_consecutive true = refl
 plain_consecutive false = refl
 
-plain_words : (event : Event) → FitsFields event → are_plain (words_for event) ≡ true
+pub plain_words : (event : Event) → FitsFields event → are_plain (words_for event) ≡ true
 plain_words (Volume side files blocks) fits =
     rw (plain_side side, plain_decimal files (omega (arith, fits.0)), plain_decimal blocks (omega (arith, fits.1))) refl
 plain_words (Write file off bytes) fits =

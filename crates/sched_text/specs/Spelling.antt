@@ -1,6 +1,6 @@
 -- How each event of a schedule is spelled. Own format.
-use Rattle.std.specs.Prelude.{ℕ, ◌^◌, ◌<◌, Bool, true, false, List, [], ◌∷◌, codes, decimal, All}
-use Rattle.std.specs.List.{join_with_byte}
+use Rattle.std.specs.Prelude.{ℕ, ◌++◌, ◌^◌, ◌<◌, Bool, true, false, List, [], ◌∷◌, codes, decimal, All}
+use Rattle.std.specs.List.{join_with_byte, flat_map}
 use Rattle.nfs_base.specs.Text.{side_text}
 use Rattle.sched_text.specs.declared.event.CopySpec.{CopySpec}
 use Rattle.sched_text.specs.declared.event.Event.{Event}
@@ -43,3 +43,7 @@ FitsFields (Copy copy spec) = (copy < 2 ^ 8) × FitsSpec spec
 FitsFields Work = Unit {0}
 FitsFields (Status copy) = copy < 2 ^ 8
 FitsFields (Peek side file off len) = (file < 2 ^ 32) × (off < 2 ^ 64) × (len < 2 ^ 8)
+
+-- a text of these events, a line for each
+abbrev pub text_of : List Event → List ℕ
+text_of events = flat_map (λ event. spelling event ++ 10 ∷ []) events

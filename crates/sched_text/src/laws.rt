@@ -6,7 +6,7 @@ ghost use Rattle.sched_text.specs.LineText.{hex_text};
 ghost use Rattle.sched_text.specs.Numerals.{bytes_of, number_of};
 ghost use Rattle.sched_text.specs.ScheduleText.{FirstBad, scan, schedule_of};
 ghost use Rattle.sched_text.specs.Words.{lines_of, words_of};
-ghost use Rattle.sched_text.specs.Spelling.{spelling, FitsFields};
+ghost use Rattle.sched_text.specs.Spelling.{spelling, text_of, FitsFields};
 
 /// A number is spelled by its decimal digits, and by no other word.
 pub fn number_words()
@@ -40,4 +40,9 @@ pub fn event_lines()
         → event_of (words_of (spelling event)) ≡ Some event }
     ensures only { (line : List ℕ) (event : Event) → event_of (words_of line) ≡ Some event
         → (line ≡ spelling event) × FitsFields event }
+{}
+
+/// Each list of events that may come one after the other has a text, of a line for each.
+pub fn schedule_texts()
+    ensures { (events : List Event) → All FitsFields events → IsAdmitted at_start events → schedule_of (text_of events) ≡ Ok events }
 {}
