@@ -1,12 +1,11 @@
 -- The first bad line decides, whatever follows it.
-use Rattle.std.proofs.Common.{◌≡◌, ℕ, ◌+◌, ◌<◌, zero, suc, List, [], ◌∷◌, ◌++◌, length, take, Result, Ok, Err, IsOk, refl, sym, ap, ◌∙◌, add-one, arith, drop, take-append-drop}
+use Rattle.std.proofs.Common.{◌≡◌, ℕ, ◌+◌, suc, List, [], ◌∷◌, ◌++◌, take, Result, Ok, Err, IsOk, refl, add-one, arith, drop, take-append-drop}
 use Rattle.sched_text.specs.declared.event.Event.{Event}
 use Rattle.sched_text.specs.declared.context.Context.{Context}
 use Rattle.sched_text.specs.declared.schedule.Meaning.{Meaning}
 use Rattle.sched_text.specs.declared.schedule.Meaning.TheVariants.{Passed, Gives, Bad}
-use Rattle.sched_text.specs.Admission.{at_start, after}
-use Rattle.sched_text.specs.Words.{lines_of}
-use Rattle.sched_text.specs.ScheduleText.{meaning_of, after_line, joined, scan, schedule_of, FirstBad}
+use Rattle.sched_text.specs.Admission.{after}
+use Rattle.sched_text.specs.ScheduleText.{meaning_of, after_line, joined, scan, FirstBad}
 
 -- what is read of the lines from one on, where it has this meaning
 abbrev rest_of : ℕ → Meaning → Context → List (List ℕ) → Result (List Event) ℕ
@@ -56,12 +55,12 @@ first_bad context number (line ∷ lines) bad is =
             refused = rw (add-one (suc later.before), means) (rw (rw (add-one later.before) at later.refused) refl);
           }
       | Bad ↦ λ means reads. record {
-            before = 0;
-            number = omega (arith, let same : number ≡ bad = cc reads in same);
-            inside = omega arith;
-            good = refl;
-            refused = rw means reads;
-          }
+        before = 0;
+        number = omega (arith, let same : number ≡ bad = cc reads in same);
+        inside = omega arith;
+        good = refl;
+        refused = rw means reads;
+      }
     ] in
     by_meaning (meaning_of context line) refl is
 

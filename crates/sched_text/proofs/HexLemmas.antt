@@ -1,9 +1,8 @@
 -- The hexadecimal digits of bytes, one byte more.
-use Rattle.std.proofs.Common.{◌≡◌, ℕ, ◌+◌, ◌<◌, ◌/◌, ◌%◌, List, [], ◌∷◌, ◌++◌, length, get_or, take, refl, sym, ap, ◌∙◌, append_assoc, encode_utf8, ◌*◌, ◌≤◌, Option, None, Some, Bool, true, false, cond, All, arith, ◌-◌, leb, ltb, option_and_then, inl, inr}
+use Rattle.std.proofs.Common.{◌≡◌, ℕ, ◌+◌, ◌<◌, ◌/◌, ◌%◌, List, [], ◌∷◌, ◌++◌, length, get_or, take, refl, sym, ap, ◌∙◌, append_assoc, encode_utf8, ◌*◌, ◌≤◌, None, Some, Bool, true, false, cond, All, arith, ◌-◌, option_and_then, inl, inr}
 use Rattle.std.proofs.lemmas.List.{take_more}
 use Rattle.std.proofs.lemmas.List.Elements.{All-nil, All-cons, All-head, All-tail}
-use Rattle.std.proofs.lemmas.Bool.{ltb-true, ltb-false, leb-true, leb-false, lt-ltb, le-ltb, le-leb, lt-leb, and_parts, and_from, cases_lt}
-use Rattle.std.proofs.lemmas.Bool.Decides.{nat_tests}
+use Rattle.std.proofs.lemmas.Bool.{leb-true, lt-ltb, le-ltb, le-leb, lt-leb, and_parts, and_from, cases_lt}
 use Rattle.std.proofs.lemmas.Option.{cond_some, option_and_then_some, same_Some}
 use Rattle.sched_text.specs.Admission.{is_between}
 use Rattle.sched_text.specs.LineText.{hex_digit, hex_text}
@@ -20,8 +19,8 @@ digits_more start now middle next bytes at high low lt so_far first one first_is
     ∙ append_assoc now (high ∷ []) (low ∷ []) ∙ ap (λ text. text ++ high ∷ low ∷ []) so_far
     ∙ append_assoc start (hex_text (take at bytes)) (high ∷ low ∷ [])
     ∙ ap (λ digits. start ++ digits) (
-        rw (first_is, second_is) (sym (hex_text-push (take at bytes) (get_or bytes at 0)))
-        ∙ ap hex_text (sym (take_more bytes at 0 lt)))
+    rw (first_is, second_is) (sym (hex_text-push (take at bytes) (get_or bytes at 0)))
+    ∙ ap hex_text (sym (take_more bytes at 0 lt)))
 
 -- a digit reads as its value
 value_of-digit : (v : ℕ) → v < 16 → hex_value (hex_digit v) ≡ Some v
@@ -66,15 +65,15 @@ digits-byte_of : (first second byte : ℕ) → byte_of first second ≡ Some byt
 unfolding byte_of
 digits-byte_of first second byte is =
     option_and_then_some (λ high. option_and_then (λ low. Some (16 * high + low)) (hex_value second)) (hex_value first) byte is (λ high first_is rest.
-        option_and_then_some (λ low. Some (16 * high + low)) (hex_value second) byte rest (λ low second_is sum.
-            let h = digit-value_of first high first_is in
-            let l = digit-value_of second low second_is in
-            let small : high < 16 = h.0 in
-            let small_low : low < 16 = l.0 in
-            let same : 16 * high + low ≡ byte = same_Some _ _ sum in
-            let over : byte / 16 ≡ high = omega arith in
-            let under : byte % 16 ≡ low = omega arith in
-            (omega arith, rw over h.1, rw under l.1)))
+    option_and_then_some (λ low. Some (16 * high + low)) (hex_value second) byte rest (λ low second_is sum.
+    let h = digit-value_of first high first_is in
+    let l = digit-value_of second low second_is in
+    let small : high < 16 = h.0 in
+    let small_low : low < 16 = l.0 in
+    let same : 16 * high + low ≡ byte = same_Some _ _ sum in
+    let over : byte / 16 ≡ high = omega arith in
+    let under : byte % 16 ≡ low = omega arith in
+    (omega arith, rw over h.1, rw under l.1)))
 
 -- the digits of bytes read as those bytes
 pub bytes_from-hex_text : (bytes : List ℕ) → All (λ b. b < 256) bytes → bytes_from (hex_text bytes) ≡ Some bytes
@@ -88,11 +87,11 @@ hex_text-bytes_from [] bytes is = let same : [] ≡ bytes = same_Some _ _ is in 
 hex_text-bytes_from (digit ∷ []) bytes is = absurd (cc is)
 hex_text-bytes_from (first ∷ second ∷ digits) bytes is =
     option_and_then_some (λ byte. option_and_then (λ more. Some (byte ∷ more)) (bytes_from digits)) (byte_of first second) bytes is (λ byte byte_is rest.
-        option_and_then_some (λ more. Some (byte ∷ more)) (bytes_from digits) bytes rest (λ more more_is all.
-            let one = digits-byte_of first second byte byte_is in
-            let others = hex_text-bytes_from digits more more_is in
-            let same : byte ∷ more ≡ bytes = same_Some _ _ all in
-            rw (sym same) (All-cons (λ b. b < 256) byte more one.0 others.0, rw (sym one.1, sym one.2, sym others.1) refl)))
+    option_and_then_some (λ more. Some (byte ∷ more)) (bytes_from digits) bytes rest (λ more more_is all.
+    let one = digits-byte_of first second byte byte_is in
+    let others = hex_text-bytes_from digits more more_is in
+    let same : byte ∷ more ≡ bytes = same_Some _ _ all in
+    rw (sym same) (All-cons (λ b. b < 256) byte more one.0 others.0, rw (sym one.1, sym one.2, sym others.1) refl)))
 
 length-hex_text : (bytes : List ℕ) → length (hex_text bytes) ≡ 2 * length bytes
 length-hex_text [] = refl

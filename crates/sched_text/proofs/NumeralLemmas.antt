@@ -1,8 +1,7 @@
 -- A number's word is its decimal digits, and no other word.
-use Rattle.std.proofs.Common.{◌≡◌, ℕ, ◌+◌, ◌-◌, ◌*◌, ◌^◌, ◌<◌, ◌≤◌, ◌&&◌, List, [], ◌∷◌, length, get_or, Option, None, Some, Bool, true, false, cond, refl, sym, ap, ◌∙◌, arith, decimal, option_and_then, ltb, eqb, rules, zero, suc}
+use Rattle.std.proofs.Common.{◌≡◌, ℕ, ◌+◌, ◌-◌, ◌*◌, ◌^◌, ◌<◌, ◌≤◌, List, [], ◌∷◌, length, get_or, None, Some, Bool, true, false, cond, refl, sym, ap, ◌∙◌, arith, decimal, ltb, eqb, rules, zero, suc}
 use Rattle.std.specs.Str.{all_ascii_digits}
-use Rattle.std.proofs.lemmas.Bool.{ltb-true, leb-true, eqb-false, eq-eqb, ne_eqb, lt-ltb, le-leb, and_parts, and_from}
-use Rattle.std.proofs.lemmas.Bool.Decides.{nat_tests}
+use Rattle.std.proofs.lemmas.Bool.{ltb-true, eqb-false, ne_eqb, lt-ltb, and_parts, and_from}
 use Rattle.std.proofs.lemmas.Option.{cond_some, option_and_then_some, same_Some}
 use Rattle.std.proofs.lemmas.Str.Parse.{IsNumeralModel, numerals_by_fold, tells_all_ascii_digits}
 use Rattle.std.proofs.lemmas.Fmt.{digits_decimal, digits_value-decimal, decimal-digits_value, decimal_nonempty, decimal_digit, first_decimal}
@@ -35,9 +34,9 @@ digits_give : (ds : List ℕ) (n m : ℕ) → n < 2 ^ 64 → number_from n ds �
 digits_give [] n m small is = let same = same_Some n m is in (refl, same, rw (sym same) small)
 digits_give (c ∷ cs) n m small is =
     option_and_then_some (λ more. number_from more cs) (with_digit n c) m is (λ more first rest.
-        let one = digit_gives n c more first in
-        let others = digits_give cs more m one.2 rest in
-        (and_from _ _ one.0 others.0, rw one.1 others.1, others.2))
+    let one = digit_gives n c more first in
+    let others = digits_give cs more m one.2 rest in
+    (and_from _ _ one.0 others.0, rw one.1 others.1, others.2))
 
 grows : (ds : List ℕ) (n : ℕ) → n ≤ read_on n ds
 grows [] n = omega arith
@@ -103,6 +102,6 @@ pub decimal-number_below : (limit : ℕ) (word : List ℕ) (n : ℕ) → number_
 unfolding number_below
 decimal-number_below limit word n is =
     option_and_then_some (λ k. cond (ltb k limit) (Some k) None) (number_of word) n is (λ k reads test.
-        let both = cond_some _ _ _ test in
-        let below : k < limit = ltb-true k limit both.0 in
-        (rw (sym both.1) below, rw (sym both.1) (decimal-number_of word k reads).1))
+    let both = cond_some _ _ _ test in
+    let below : k < limit = ltb-true k limit both.0 in
+    (rw (sym both.1) below, rw (sym both.1) (decimal-number_of word k reads).1))

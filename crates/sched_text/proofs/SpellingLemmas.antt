@@ -1,11 +1,11 @@
 -- Each event of a schedule has one spelling.
-use Rattle.std.proofs.Common.{◌≡◌, ℕ, ◌+◌, ◌/◌, ◌%◌, ◌^◌, ◌<◌, ◌≤◌, ◌⊎◌, inl, inr, ◌==◌, ◌&&◌, List, [], ◌∷◌, ◌++◌, Option, None, Some, Bool, true, false, cond, All, refl, sym, ap, ◌∙◌, arith, codes, decimal, option_and_then, ltb, eqb, flat_map}
-use Rattle.std.specs.List.{slice_split, join_with_byte}
+use Rattle.std.proofs.Common.{◌≡◌, ℕ, ◌+◌, ◌/◌, ◌%◌, ◌^◌, ◌<◌, ◌≤◌, ◌⊎◌, inl, inr, ◌==◌, ◌&&◌, List, [], ◌∷◌, Option, None, Some, Bool, true, false, cond, All, refl, sym, ap, ◌∙◌, arith, codes, decimal, ltb}
+use Rattle.std.specs.List.{join_with_byte}
 use Rattle.std.specs.Str.{bytes_eq, all_ascii_digits}
 use Rattle.std.proofs.lemmas.Bool.{and_parts, and_from, lt-ltb, ltb-true, ne_eqb, leb-true, cond_both, cases_Bool}
-use Rattle.std.proofs.lemmas.List.Elements.{All-nil, All-cons, All-head, All-tail}
+use Rattle.std.proofs.lemmas.List.Elements.{All-nil, All-cons}
 use Rattle.std.proofs.lemmas.List.Splits.{slice_split_none, slice_split_at, join_with_byte-slice_split}
-use Rattle.std.proofs.lemmas.Option.{cond_some, option_and_then_some, same_Some}
+use Rattle.std.proofs.lemmas.Option.{option_and_then_some, same_Some}
 use Rattle.std.proofs.lemmas.Slice.Eq.{bytes_eq-Decides}
 use Rattle.nfs_base.specs.declared.side.Side.{Side}
 use Rattle.nfs_base.specs.declared.side.Side.TheVariants.{Source, Dest}
@@ -13,9 +13,9 @@ use Rattle.nfs_base.specs.Text.{side_text}
 use Rattle.sched_text.specs.declared.event.CopySpec.{CopySpec}
 use Rattle.sched_text.specs.declared.event.Event.{Event}
 use Rattle.sched_text.specs.declared.event.Event.TheVariants.{Volume, Write, Copy, Work, Status, Peek}
-use Rattle.sched_text.specs.Admission.{is_within, is_between}
+use Rattle.sched_text.specs.Admission.{is_within}
 use Rattle.sched_text.specs.LineText.{hex_digit, hex_text}
-use Rattle.sched_text.specs.Words.{words_of, lines_of}
+use Rattle.sched_text.specs.Words.{words_of}
 use Rattle.sched_text.specs.Numerals.{number_of, number_below, bytes_of}
 use Rattle.sched_text.specs.Grammar.{side_of, consecutive_of, volume_of, write_of, copy_spec_of, copy_of, work_of, status_of, peek_of, event_of}
 use Rattle.sched_text.specs.Spelling.{consecutive_text, words_for, spelling, FitsSpec, FitsFields}
@@ -145,9 +145,9 @@ unfolding side_of
 side-side_of word side is = elim (choice word (codes "s") (Some Source) (cond (bytes_eq word (codes "d")) (Some Dest) None) side is) [
   | inl source ↦ rw (sym (same_Some _ _ source.1)) source.0
   | inr other ↦ elim (choice word (codes "d") (Some Dest) None side other) [
-      | inl dest ↦ rw (sym (same_Some _ _ dest.1)) dest.0
-      | inr none ↦ absurd (cc none)
-    ]
+    | inl dest ↦ rw (sym (same_Some _ _ dest.1)) dest.0
+    | inr none ↦ absurd (cc none)
+  ]
 ]
 
 consecutive-consecutive_of : (word : List ℕ) (consecutive : Bool) → consecutive_of word ≡ Some consecutive → word ≡ consecutive_text consecutive
@@ -155,9 +155,9 @@ unfolding consecutive_of
 consecutive-consecutive_of word consecutive is = elim (choice word (codes "c") (Some true) (cond (bytes_eq word (codes "n")) (Some false) None) consecutive is) [
   | inl yes' ↦ rw (sym (same_Some _ _ yes'.1)) yes'.0
   | inr other ↦ elim (choice word (codes "n") (Some false) None consecutive other) [
-      | inl no' ↦ rw (sym (same_Some _ _ no'.1)) no'.0
-      | inr none ↦ absurd (cc none)
-    ]
+    | inl no' ↦ rw (sym (same_Some _ _ no'.1)) no'.0
+    | inr none ↦ absurd (cc none)
+  ]
 ]
 
 -- these words spell the event, and its numbers fit their types
@@ -168,12 +168,12 @@ volume_spells : (words : List (List ℕ)) (event : Event) → volume_of words �
 unfolding volume_of
 volume_spells (x ∷ f ∷ b ∷ []) event is =
     option_and_then_some _ (side_of x) event is (λ side side_is after_side.
-        option_and_then_some _ (number_below (2 ^ 32) f) event after_side (λ files files_is after_files.
-            option_and_then_some _ (number_below (2 ^ 32) b) event after_files (λ blocks blocks_is whole.
-                let f_is = decimal-number_below (2 ^ 32) f files files_is in
-                let b_is = decimal-number_below (2 ^ 32) b blocks blocks_is in
-                let same : Volume side files blocks ≡ event = same_Some _ _ whole in
-                rw (sym same) (rw (side-side_of x side side_is, f_is.1, b_is.1) refl, (f_is.0, b_is.0)))))
+    option_and_then_some _ (number_below (2 ^ 32) f) event after_side (λ files files_is after_files.
+    option_and_then_some _ (number_below (2 ^ 32) b) event after_files (λ blocks blocks_is whole.
+    let f_is = decimal-number_below (2 ^ 32) f files files_is in
+    let b_is = decimal-number_below (2 ^ 32) b blocks blocks_is in
+    let same : Volume side files blocks ≡ event = same_Some _ _ whole in
+    rw (sym same) (rw (side-side_of x side side_is, f_is.1, b_is.1) refl, (f_is.0, b_is.0)))))
 volume_spells words event is = absurd (cc is)
 
 write_spells : (words : List (List ℕ)) (event : Event) → write_of words ≡ Some event → Spells (codes "write" ∷ words) event
@@ -182,13 +182,13 @@ write_spells (x ∷ f ∷ o ∷ h ∷ []) event is =
     elim (choice x (codes "s") _ None event is) [
       | inl chosen ↦
           option_and_then_some _ (number_below (2 ^ 32) f) event chosen.1 (λ file file_is after_file.
-              option_and_then_some _ (number_of o) event after_file (λ off off_is after_off.
-                  option_and_then_some _ (bytes_of h) event after_off (λ bytes bytes_is whole.
-                      let f_is = decimal-number_below (2 ^ 32) f file file_is in
-                      let o_is = decimal-number_of o off off_is in
-                      let h_is = hex_text-bytes_of h bytes bytes_is in
-                      let same : Write file off bytes ≡ event = same_Some _ _ whole in
-                      rw (sym same) (rw (chosen.0, f_is.1, o_is.1, h_is.2) refl, (f_is.0, o_is.0, h_is.1)))))
+          option_and_then_some _ (number_of o) event after_file (λ off off_is after_off.
+          option_and_then_some _ (bytes_of h) event after_off (λ bytes bytes_is whole.
+          let f_is = decimal-number_below (2 ^ 32) f file file_is in
+          let o_is = decimal-number_of o off off_is in
+          let h_is = hex_text-bytes_of h bytes bytes_is in
+          let same : Write file off bytes ≡ event = same_Some _ _ whole in
+          rw (sym same) (rw (chosen.0, f_is.1, o_is.1, h_is.2) refl, (f_is.0, o_is.0, h_is.1)))))
       | inr none ↦ absurd (cc none)
     ]
 write_spells words event is = absurd (cc is)
@@ -197,20 +197,21 @@ copy_spec_spells : (words : List (List ℕ)) (spec : CopySpec) → copy_spec_of 
 unfolding copy_spec_of
 copy_spec_spells (s ∷ o ∷ d ∷ t ∷ n ∷ c ∷ []) spec is =
     option_and_then_some _ (number_below (2 ^ 32) s) spec is (λ source_file source_file_is after_source_file.
-        option_and_then_some _ (number_of o) spec after_source_file (λ from from_is after_from.
-            option_and_then_some _ (number_below (2 ^ 32) d) spec after_from (λ file file_is after_file.
-                option_and_then_some _ (number_of t) spec after_file (λ to to_is after_to.
-                    option_and_then_some _ (number_of n) spec after_to (λ count count_is after_count.
-                        option_and_then_some _ (consecutive_of c) spec after_count (λ consecutive consecutive_is whole.
-                            let s_is = decimal-number_below (2 ^ 32) s source_file source_file_is in
-                            let o_is = decimal-number_of o from from_is in
-                            let d_is = decimal-number_below (2 ^ 32) d file file_is in
-                            let t_is = decimal-number_of t to to_is in
-                            let n_is = decimal-number_of n count count_is in
-                            let same : ◌≡◌ {A = CopySpec} (record { source_file = source_file; from = from; file = file; to = to; count = count; consecutive = consecutive }) spec = same_Some _ _ whole in
-                            rw (sym same) (
-                                rw (s_is.1, o_is.1, d_is.1, t_is.1, n_is.1, consecutive-consecutive_of c consecutive consecutive_is) refl,
-                                record { source_file = s_is.0; from = o_is.0; file = d_is.0; to = t_is.0; count = n_is.0 })))))))
+    option_and_then_some _ (number_of o) spec after_source_file (λ from from_is after_from.
+    option_and_then_some _ (number_below (2 ^ 32) d) spec after_from (λ file file_is after_file.
+    option_and_then_some _ (number_of t) spec after_file (λ to to_is after_to.
+    option_and_then_some _ (number_of n) spec after_to (λ count count_is after_count.
+    option_and_then_some _ (consecutive_of c) spec after_count (λ consecutive consecutive_is whole.
+    let s_is = decimal-number_below (2 ^ 32) s source_file source_file_is in
+    let o_is = decimal-number_of o from from_is in
+    let d_is = decimal-number_below (2 ^ 32) d file file_is in
+    let t_is = decimal-number_of t to to_is in
+    let n_is = decimal-number_of n count count_is in
+    let same : ◌≡◌ {A = CopySpec} (record { source_file = source_file; from = from; file = file; to = to; count = count; consecutive = consecutive }) spec = same_Some _ _ whole in
+    rw (sym same) (
+      rw (s_is.1, o_is.1, d_is.1, t_is.1, n_is.1, consecutive-consecutive_of c consecutive consecutive_is) refl,
+      record { source_file = s_is.0; from = o_is.0; file = d_is.0; to = t_is.0; count = n_is.0 },
+    )))))))
 copy_spec_spells words spec is = absurd (cc is)
 
 copy_spells : (words : List (List ℕ)) (event : Event) → copy_of words ≡ Some event → Spells (codes "copy" ∷ words) event
@@ -218,11 +219,11 @@ unfolding copy_of
 copy_spells [] event is = absurd (cc is)
 copy_spells (j ∷ words) event is =
     option_and_then_some _ (number_below (2 ^ 8) j) event is (λ copy copy_is after_copy.
-        option_and_then_some _ (copy_spec_of words) event after_copy (λ spec spec_is whole.
-            let j_is = decimal-number_below (2 ^ 8) j copy copy_is in
-            let words_are = copy_spec_spells words spec spec_is in
-            let same : Copy copy spec ≡ event = same_Some _ _ whole in
-            rw (sym same) (rw (j_is.1, words_are.0) refl, (j_is.0, words_are.1))))
+    option_and_then_some _ (copy_spec_of words) event after_copy (λ spec spec_is whole.
+    let j_is = decimal-number_below (2 ^ 8) j copy copy_is in
+    let words_are = copy_spec_spells words spec spec_is in
+    let same : Copy copy spec ≡ event = same_Some _ _ whole in
+    rw (sym same) (rw (j_is.1, words_are.0) refl, (j_is.0, words_are.1))))
 
 work_spells : (words : List (List ℕ)) (event : Event) → work_of words ≡ Some event → Spells (codes "work" ∷ words) event
 unfolding work_of
@@ -237,23 +238,23 @@ status_spells : (words : List (List ℕ)) (event : Event) → status_of words �
 unfolding status_of
 status_spells (j ∷ []) event is =
     option_and_then_some _ (number_below (2 ^ 8) j) event is (λ copy copy_is whole.
-        let j_is = decimal-number_below (2 ^ 8) j copy copy_is in
-        let same : Status copy ≡ event = same_Some _ _ whole in
-        rw (sym same) (rw j_is.1 refl, j_is.0))
+    let j_is = decimal-number_below (2 ^ 8) j copy copy_is in
+    let same : Status copy ≡ event = same_Some _ _ whole in
+    rw (sym same) (rw j_is.1 refl, j_is.0))
 status_spells words event is = absurd (cc is)
 
 peek_spells : (words : List (List ℕ)) (event : Event) → peek_of words ≡ Some event → Spells (codes "peek" ∷ words) event
 unfolding peek_of
 peek_spells (x ∷ f ∷ o ∷ n ∷ []) event is =
     option_and_then_some _ (side_of x) event is (λ side side_is after_side.
-        option_and_then_some _ (number_below (2 ^ 32) f) event after_side (λ file file_is after_file.
-            option_and_then_some _ (number_of o) event after_file (λ off off_is after_off.
-                option_and_then_some _ (number_below (2 ^ 8) n) event after_off (λ len len_is whole.
-                    let f_is = decimal-number_below (2 ^ 32) f file file_is in
-                    let o_is = decimal-number_of o off off_is in
-                    let n_is = decimal-number_below (2 ^ 8) n len len_is in
-                    let same : Peek side file off len ≡ event = same_Some _ _ whole in
-                    rw (sym same) (rw (side-side_of x side side_is, f_is.1, o_is.1, n_is.1) refl, (f_is.0, o_is.0, n_is.0))))))
+    option_and_then_some _ (number_below (2 ^ 32) f) event after_side (λ file file_is after_file.
+    option_and_then_some _ (number_of o) event after_file (λ off off_is after_off.
+    option_and_then_some _ (number_below (2 ^ 8) n) event after_off (λ len len_is whole.
+    let f_is = decimal-number_below (2 ^ 32) f file file_is in
+    let o_is = decimal-number_of o off off_is in
+    let n_is = decimal-number_below (2 ^ 8) n len len_is in
+    let same : Peek side file off len ≡ event = same_Some _ _ whole in
+    rw (sym same) (rw (side-side_of x side side_is, f_is.1, o_is.1, n_is.1) refl, (f_is.0, o_is.0, n_is.0))))))
 peek_spells words event is = absurd (cc is)
 
 -- a kind of line, by its first word

@@ -1,5 +1,5 @@
 -- Each list of events that may come one after the other is a text's schedule.
-use Rattle.std.proofs.Common.{◌≡◌, ℕ, ◌+◌, ◌<◌, ◌≤◌, ◌==◌, List, [], ◌∷◌, ◌++◌, Option, Some, Result, Ok, Bool, true, false, All, refl, sym, ap, ◌∙◌, append_assoc, IsTrue, arith}
+use Rattle.std.proofs.Common.{◌≡◌, ℕ, ◌+◌, ◌==◌, List, [], ◌∷◌, Ok, true, false, All, refl, ap, ◌∙◌, append_assoc, IsTrue, arith}
 use Rattle.std.specs.List.{slice_split, join_with_byte}
 use Rattle.std.proofs.lemmas.Bool.{and_parts}
 use Rattle.std.proofs.lemmas.List.Elements.{All-nil, All-cons, All-head, All-tail, All-append}
@@ -7,11 +7,9 @@ use Rattle.std.proofs.lemmas.List.Splits.{slice_split_at}
 use Rattle.sched_text.specs.declared.event.Event.{Event}
 use Rattle.sched_text.specs.declared.event.Event.TheVariants.{Volume, Write, Copy, Work, Status, Peek}
 use Rattle.sched_text.specs.declared.context.Context.{Context}
-use Rattle.sched_text.specs.declared.schedule.Meaning.{Meaning}
-use Rattle.sched_text.specs.declared.schedule.Meaning.TheVariants.{Passed, Gives, Bad}
+use Rattle.sched_text.specs.declared.schedule.Meaning.TheVariants.{Gives}
 use Rattle.sched_text.specs.Admission.{at_start, admits, after, is_within, IsAdmitted}
-use Rattle.sched_text.specs.Words.{words_of, lines_of}
-use Rattle.sched_text.specs.Grammar.{event_of}
+use Rattle.sched_text.specs.Words.{lines_of}
 use Rattle.sched_text.specs.Spelling.{words_for, spelling, text_of, FitsFields}
 use Rattle.sched_text.specs.ScheduleText.{is_passed, meaning_of, scan, schedule_of}
 use Rattle.sched_text.proofs.WordsLemmas.{lines-more}

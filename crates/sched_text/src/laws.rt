@@ -4,6 +4,7 @@ ghost use Rattle.sched_text.specs.Admission.{at_start, is_within, IsAdmitted};
 ghost use Rattle.sched_text.specs.Grammar.{event_of};
 ghost use Rattle.sched_text.specs.LineText.{hex_text};
 ghost use Rattle.sched_text.specs.Numerals.{bytes_of, number_of};
+ghost use Rattle.sched_text.specs.ScheduleOf.{IsScheduleOf};
 ghost use Rattle.sched_text.specs.ScheduleText.{FirstBad, scan, schedule_of};
 ghost use Rattle.sched_text.specs.Words.{lines_of, words_of};
 ghost use Rattle.sched_text.specs.Spelling.{spelling, text_of, FitsFields};
@@ -29,11 +30,6 @@ pub fn first_bad_line()
     ensures later { (lines more : List (List ℕ)) (n : ℕ) → scan at_start 1 lines ≡ Err n → scan at_start 1 (lines ++ more) ≡ Err n }
 {}
 
-/// Each event of a schedule may come after those before it.
-pub fn events_admitted()
-    ensures { (text : List ℕ) (events : List Event) → schedule_of text ≡ Ok events → IsAdmitted at_start events }
-{}
-
 /// Each event has one line that spells it, and only that line reads as it.
 pub fn event_lines()
     ensures reads_back { (event : Event) → FitsFields event → IsTrue (is_within event)
@@ -45,4 +41,11 @@ pub fn event_lines()
 /// Each list of events that may come one after the other has a text, of a line for each.
 pub fn schedule_texts()
     ensures { (events : List Event) → All FitsFields events → IsAdmitted at_start events → schedule_of (text_of events) ≡ Ok events }
+{}
+
+/// A text is the schedule of just the events that its lines spell, where each of them may come after
+/// those before it.
+pub fn schedule_lines()
+    ensures only { (text : List ℕ) (events : List Event) → schedule_of text ≡ Ok events → IsScheduleOf text events }
+    ensures reads { (text : List ℕ) (events : List Event) → IsScheduleOf text events → schedule_of text ≡ Ok events }
 {}

@@ -12,6 +12,8 @@ mod words;
 
 pub use context::Context;
 pub use event::{CopySpec, Event};
-pub use laws::{byte_words, event_lines, events_admitted, first_bad_line, number_words, schedule_texts};
+pub use laws::{
+    byte_words, event_lines, first_bad_line, number_words, schedule_lines, schedule_texts,
+};
 pub use line::Line;
 pub use schedule::{BadLine, Schedule};
