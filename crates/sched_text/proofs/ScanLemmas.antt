@@ -48,10 +48,10 @@ line_gives context line event is =
     by_test (is_passed line) is
 
 -- the events of the lines to come, after a line of this meaning
-abbrev rest_of : ℕ → Meaning → Context → List (List ℕ) → Result (List Event) ℕ
+abbrev pub rest_of : ℕ → Meaning → Context → List (List ℕ) → Result (List Event) ℕ
 rest_of number meaning context lines = joined number meaning (scan (after_line context meaning) (number + 1) lines)
 
-admitted_next : (number : ℕ) (event : Event) (others : Result (List Event) ℕ) (events : List Event) → joined number (Gives event) others ≡ Ok events → (more : List Event) × (others ≡ Ok more) × (events ≡ event ∷ more)
+pub admitted_next : (number : ℕ) (event : Event) (others : Result (List Event) ℕ) (events : List Event) → joined number (Gives event) others ≡ Ok events → (more : List Event) × (others ≡ Ok more) × (events ≡ event ∷ more)
 admitted_next number event (Ok more) events is = (more, refl, cc is)
 admitted_next number event (Err bad) events is = absurd (cc is)
 

@@ -1,5 +1,5 @@
 -- A schedule's text as the events that it spells. Own format.
-use Rattle.std.specs.Prelude.{◌≡◌, ℕ, ◌+◌, Bool, true, ◌==◌, Option, None, Some, Result, Ok, Err, List, [], ◌∷◌, if◌then◌else◌}
+use Rattle.std.specs.Prelude.{◌≡◌, ℕ, ◌+◌, ◌<◌, Bool, true, ◌==◌, Option, None, Some, Result, Ok, Err, IsOk, List, [], ◌∷◌, length, take, if◌then◌else◌}
 use Rattle.sched_text.specs.declared.event.Event.{Event}
 use Rattle.sched_text.specs.declared.context.Context.{Context}
 use Rattle.sched_text.specs.declared.schedule.Meaning.{Meaning}
@@ -50,3 +50,12 @@ schedule_of text = scan at_start 1 (lines_of text)
 abbrev pub Reads : Result (List Event) BadLine → Result (List Event) ℕ → Type 0
 Reads (Ok events) spelled = spelled ≡ Ok events
 Reads (Err bad) spelled = spelled ≡ Err bad.line
+
+-- The first bad line, where the lines are counted on from a number: those before it are good, and with
+-- it they are not.
+pub record FirstBad (context : Context) (from : ℕ) (lines : List (List ℕ)) (bad : ℕ) : Type 0 where
+  pub before : ℕ
+  pub number : bad ≡ from + before
+  pub inside : before < length lines
+  pub good : IsOk (scan context from (take before lines))
+  pub refused : scan context from (take (before + 1) lines) ≡ Err bad
