@@ -1,8 +1,8 @@
 -- Laws of single steps. A run whose every step obeys them keeps and stops its copies: the machine below
 -- the promise proves these and nothing else. Own definitions.
 use Rattle.std.specs.Prelude.{◌≡◌, ℕ, suc, ◌+◌, ◌<◌, ◌≤◌, Bool, true, false, ◌⊎◌}
-use Rattle.copy_model.specs.Moment.{Dest, Copy, Moment, History}
-use Rattle.copy_model.specs.Promise.{InRange, IsAcceptedBy, source_byte, WritesTo, LandsOf, LandsAt, IsCrash, Reaches, Shows, IsAlike}
+use Rattle.copy_model.specs.Moment.{Copy, Moment, History}
+use Rattle.copy_model.specs.Promise.{InRange, IsAcceptedBy, source_byte, LandsOf, LandsAt, IsCrash, Reaches, Shows, IsAlike}
 
 -- How far a copy is, which no promise speaks of: which bytes of its range have landed, whether it may
 -- still land, whether the landed bytes stand (no crash of the destination since), and whether a commit

@@ -1,6 +1,6 @@
 -- What is seen of a run between two steps. Bytes are seen one at a time, as functions of a file's
 -- number and a place, so that nothing here speaks of lists, blocks or caches.
-use Rattle.std.specs.Prelude.{◌≡◌, ℕ, ◌+◌, ◌<◌, ◌≤◌, Bool, Option, None, Some, ◌==◌, if◌then◌else◌}
+use Rattle.std.specs.Prelude.{ℕ, Bool, Option, None, Some, ◌==◌, if◌then◌else◌}
 use Rattle.copy_model.specs.Volume.{Volume, Doubt, file_at, byte_at}
 use Rattle.copy_model.specs.Job.{Plan}
 

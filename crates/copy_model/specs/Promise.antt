@@ -1,6 +1,6 @@
 -- The promise: what holds of every run, whatever comes. Read this file to know what nfscopy is for.
 -- Own definitions, in the words of RFC 7862 section 4 (inter-server copy) and section 15.2 (COPY).
-use Rattle.std.specs.Prelude.{◌≡◌, ℕ, suc, ◌+◌, ◌-◌, ◌<◌, ◌≤◌, Bool, true, false, Option, Some, ◌⊎◌}
+use Rattle.std.specs.Prelude.{◌≡◌, ℕ, suc, ◌+◌, ◌-◌, ◌<◌, ◌≤◌, true, false, Some, ◌⊎◌}
 use Rattle.copy_model.specs.Job.{Plan}
 use Rattle.copy_model.specs.Moment.{Dest, Copy, Did, Rested, Wrote, Landed, Crashed, Moment, History}
 

@@ -1,0 +1,4 @@
+mod Later
+mod Untouched
+mod Settled
+mod Elsewhere
