@@ -179,3 +179,42 @@ written_goes_on v file off (b ∷ bs) stamped other =
     other
     (λ same there. record { rises = omega arith; same = λ e place. absurd (omega arith) })
     (goes_on (file_at v other))
+
+-- What a write at a place of a file leaves of a volume that has the file.
+pub record HasWritten (before now : Volume) (file at : ℕ) (piece : List ℕ) : Type 0 where
+  pub broken : now.broken ≡ before.broken
+  pub doubt : now.doubt ≡ before.doubt
+  pub files : length now.files ≡ length before.files
+  pub safe : (other : ℕ) → (file_at now other).safe ≡ (file_at before other).safe
+  pub within : (place : ℕ) → at ≤ place → place < at + length piece → byte_at (file_at now file).now place ≡ byte_at piece (place - at)
+  pub outside : (other place : ℕ) → (other ≡ file → at ≤ place → place < at + length piece → ⊥)
+      → byte_at (file_at now other).now place ≡ byte_at (file_at before other).now place
+
+broken-write : (v : Volume) (file at : ℕ) (piece : List ℕ) → (write v file at piece).broken ≡ v.broken
+broken-write v file at [] = refl
+broken-write v file at (b ∷ bs) = refl
+
+doubt-write : (v : Volume) (file at : ℕ) (piece : List ℕ) → (write v file at piece).doubt ≡ v.doubt
+doubt-write v file at [] = refl
+doubt-write v file at (b ∷ bs) = refl
+
+pub has_written : (v : Volume) (file at : ℕ) (piece : List ℕ) → file < length v.files → HasWritten v (write v file at piece) file at piece
+has_written v file at piece there =
+    let own = file_at-write v file at piece there in
+    record {
+      broken = broken-write v file at piece;
+      doubt = doubt-write v file at piece;
+      files = length-write v file at piece;
+      safe = λ other.
+          ⊎_elim
+          (λ (same : other ≡ file). subst (λ i. (file_at (write v file at piece) i).safe ≡ (file_at v i).safe) (sym same) own.safe)
+          (λ (apart : other ≡ file → ⊥). ap (λ (f : File). f.safe) (file_at-write_other v file at piece other apart))
+          (cases_eq other file);
+      within = own.within;
+      outside = λ other place out.
+          ⊎_elim
+          (λ (same : other ≡ file).
+          subst (λ i. byte_at (file_at (write v file at piece) i).now place ≡ byte_at (file_at v i).now place) (sym same) (own.outside place (out same)))
+          (λ (apart : other ≡ file → ⊥). ap (λ (f : File). byte_at f.now place) (file_at-write_other v file at piece other apart))
+          (cases_eq other file);
+    }

@@ -5,3 +5,6 @@ mod Progress
 mod Sound
 mod Schedule
 mod Steps
+mod Ready
+mod Landing
+mod Commit

@@ -2,12 +2,11 @@
 -- have; and what is known of them.
 use Rattle.std.proofs.Common.{◌≡◌, ◌⊎◌, inl, inr, ⊎_elim, ℕ, zero, suc, ◌+◌, ◌<◌, ◌≤◌, Bool, true, false, ◌&&◌, not, ltb, leb, Option, None, Some, IfSome, unwrap_or, List, [], ◌∷◌, ◌++◌, length, slice_index_or, refl, arith}
 use Rattle.std.specs.List.{list_any}
-use Rattle.std.proofs.lemmas.Bool.{and_parts, and_from, leb-true, ltb-true, le-leb, lt-ltb, not_from_true}
+use Rattle.std.proofs.lemmas.Bool.{both_ways, false_from_ne_true, and_parts, and_from, leb-true, ltb-true, le-leb, lt-ltb, not_from_true}
 use Rattle.copy_model.specs.Volume.{Volume}
 use Rattle.copy_model.specs.Job.{Entry, Sized, Landed, Stopped, Committed, Reported, size_of, has_landed, has_ended, is_end, chunk_len, IsLawful}
 use Rattle.copy_model.specs.Moment.{Copy, Did}
 use Rattle.copy_model.specs.Laws.{Progress, MomentLaws}
-use Rattle.sched_text.specs.declared.context.Context.{Context}
 use Rattle.sched_text.specs.declared.event.Event.{Event}
 use Rattle.plain_machine.specs.Machine.{Copying, State, no_volume}
 use Rattle.plain_machine.specs.History.{Watched, World, unwatched, moment_of, world_after}
@@ -118,11 +117,11 @@ pub record IsSoundDest (files : Option ℕ) (v : Volume) : Type 0 where
   pub absent : files ≡ None → v ≡ no_volume
   pub full : (n : ℕ) → files ≡ Some n → length v.files ≡ n + 1
 
--- what is known of a world when the lines so far leave this context
-pub record IsSound (context : Context) (s d : Volume) (c : Option Copying) : Type 0 where
-  pub source : IsSoundSource context.source s
-  pub dest : IsSoundDest context.dest d
-  pub none : context.copied ≡ None → c ≡ None
+-- what is known of a world when the lines so far leave these volumes, of so many files, and this copy
+pub record IsSound (sources dests copied : Option ℕ) (s d : Volume) (c : Option Copying) : Type 0 where
+  pub source : IsSoundSource sources s
+  pub dest : IsSoundDest dests d
+  pub none : copied ≡ None → c ≡ None
   pub copy : IfSome c (IsSoundCopy d)
 
 -- a copy that is stopped or committed has ended
@@ -147,10 +146,15 @@ pub committed_ended : (es : List Entry) → list_any is_commit es ≡ true → h
 committed_ended = any_implies is_commit is_end commit_ends
 
 -- a mark of a copy is that of its entries
-stable_durable : (c : Option Copying) (j : ℕ) → (copy_in c j).stable ≡ true → (progress_in c j).durable ≡ true
+pub stable_durable : (c : Option Copying) (j : ℕ) → (copy_in c j).stable ≡ true → (progress_in c j).durable ≡ true
 stable_durable None j h = h
 stable_durable (Some c) zero h = h
 stable_durable (Some c) (suc j) h = h
+
+pub durable_stable : (c : Option Copying) (j : ℕ) → (progress_in c j).durable ≡ true → (copy_in c j).stable ≡ true
+durable_stable None j h = h
+durable_stable (Some c) zero h = h
+durable_stable (Some c) (suc j) h = h
 
 durable_completed : (c : Option Copying) (j : ℕ) → (progress_in c j).durable ≡ true → (copy_in c j).completed ≡ true
 durable_completed None j h = h
@@ -203,3 +207,10 @@ pub covers_landing : (q off len : ℕ) → covers q (Landed off len) ≡ true �
 covers_landing q off len h =
     let parts = and_parts (leb off q) (ltb q (off + len)) h in
     (leb-true off q parts.0, ltb-true q (off + len) parts.1)
+
+-- a copy that hasn't ended is neither stopped nor committed
+pub not_stopped : (es : List Entry) → has_ended es ≡ false → list_any is_stop es ≡ false
+not_stopped es live = false_from_ne_true (list_any is_stop es) (λ stopped. both_ways (has_ended es) live (stopped_ended es stopped))
+
+pub not_committed : (es : List Entry) → has_ended es ≡ false → list_any is_commit es ≡ false
+not_committed es live = false_from_ne_true (list_any is_commit es) (λ committed. both_ways (has_ended es) live (committed_ended es committed))
