@@ -190,7 +190,7 @@ pub record HasWritten (before now : Volume) (file at : ℕ) (piece : List ℕ) :
   pub outside : (other place : ℕ) → (other ≡ file → at ≤ place → place < at + length piece → ⊥)
       → byte_at (file_at now other).now place ≡ byte_at (file_at before other).now place
 
-broken-write : (v : Volume) (file at : ℕ) (piece : List ℕ) → (write v file at piece).broken ≡ v.broken
+pub broken-write : (v : Volume) (file at : ℕ) (piece : List ℕ) → (write v file at piece).broken ≡ v.broken
 broken-write v file at [] = refl
 broken-write v file at (b ∷ bs) = refl
 

@@ -8,3 +8,8 @@ mod Steps
 mod Ready
 mod Landing
 mod Commit
+mod Volumes
+mod Shown
+mod Work
+mod Happens
+mod Whole

@@ -4,7 +4,7 @@ use Rattle.sched_text.specs.declared.context.Context.{Context}
 use Rattle.sched_text.specs.declared.event.Event.{Event}
 use Rattle.sched_text.specs.Admission.{admits, after, IsAdmitted}
 
-abbrev after_next : Context → Option Event → Context
+abbrev pub after_next : Context → Option Event → Context
 after_next context None = context
 after_next context (Some e) = after context e
 
