@@ -1,6 +1,5 @@
 -- The step that commits a copy: all its bytes are safe from then on.
-use Rattle.std.proofs.Common.{◌≡◌, ◌⊎◌, inl, inr, ⊎_elim, ℕ, zero, suc, ◌+◌, ◌<◌, true, false, None, Some, List, [], ◌∷◌, ◌++◌, length, Contains, refl, sym, ◌∙◌, ap, subst, arith}
-use Rattle.std.specs.List.{list_any}
+use Rattle.std.proofs.Common.{◌≡◌, inl, inr, ⊎_elim, ℕ, zero, suc, ◌+◌, true, false, None, Some, List, [], ◌∷◌, ◌++◌, length, Contains, refl, sym, ◌∙◌, ap, subst, arith}
 use Rattle.std.proofs.lemmas.Bool.{not_from_false, cases_eq}
 use Rattle.copy_model.specs.Volume.{Volume, file_at, byte_at, commit}
 use Rattle.copy_model.specs.Job.{Entry, Committed, has_ended, unlanded}
@@ -16,7 +15,7 @@ use Rattle.plain_machine.specs.Machine.{Copying}
 use Rattle.plain_machine.specs.History.{moment_of}
 use Rattle.plain_machine.proofs.Bytes.{now-commit, file_at-commit, file_at-commit_other, length-commit, goes_on}
 use Rattle.plain_machine.proofs.Entries.{any_cases, any_new, size_kept}
-use Rattle.plain_machine.proofs.Progress.{covers, copy_in, progress_in, world_of, len_of, is_commit, IsSoundSource, IsSoundDest, IsSoundCopy, IsSound}
+use Rattle.plain_machine.proofs.Progress.{covers, progress_in, world_of, len_of, is_commit, IsSound}
 use Rattle.plain_machine.proofs.Sound.{len_at, sound_committed, all_covered}
 use Rattle.plain_machine.proofs.Ready.{IsReady}
 use Rattle.plain_machine.proofs.Steps.{two, both, DestGoesOn, copies_go_on, calm_lawful, MarksGoOn, IsGood}

@@ -1,8 +1,8 @@
 -- A copy's entries with one more at the end.
-use Rattle.std.proofs.Common.{◌≡◌, ◌⊎◌, inl, inr, ⊎_elim, ℕ, zero, suc, ◌+◌, ◌<◌, ◌≤◌, Bool, true, false, ◌||◌, Option, None, Some, List, [], ◌∷◌, ◌++◌, take, slice_get, refl, sym, ◌∙◌, ap, subst, arith}
+use Rattle.std.proofs.Common.{◌≡◌, ◌⊎◌, inl, inr, ⊎_elim, ℕ, zero, suc, Bool, true, false, ◌||◌, None, Some, List, [], ◌∷◌, ◌++◌, take, slice_get, refl, sym, ap, subst}
 use Rattle.std.specs.List.{list_any}
-use Rattle.std.proofs.lemmas.Bool.{both_ways, or_cases, or_left, or_right}
-use Rattle.copy_model.specs.Job.{Entry, Sized, Landed, Stopped, Committed, Reported, size_of, has_landed, has_ended, is_end, Allows, IsLawful}
+use Rattle.std.proofs.lemmas.Bool.{or_cases, or_left, or_right}
+use Rattle.copy_model.specs.Job.{Entry, Sized, Landed, Stopped, Committed, Reported, size_of, Allows, IsLawful}
 
 -- a test that an entry passed goes on to be passed
 pub any_keeps : (p : Entry → Bool) (es : List Entry) (e : Entry) → list_any p es ≡ true → list_any p (es ++ e ∷ []) ≡ true

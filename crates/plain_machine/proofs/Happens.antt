@@ -1,11 +1,10 @@
 -- What each event of an admitted schedule does is good.
-use Rattle.std.proofs.Common.{◌≡◌, ◌⊎◌, ℕ, ◌+◌, ◌-◌, ◌*◌, ◌^◌, ◌<◌, ◌≤◌, Bool, true, false, ◌&&◌, ◌||◌, nat_lt, nat_le, Option, None, Some, is_some, is_none, List, [], ◌∷◌, length, if◌then◌else◌, refl, subst, arith}
+use Rattle.std.proofs.Common.{◌≡◌, ℕ, ◌+◌, ◌-◌, ◌*◌, ◌^◌, ◌<◌, Bool, true, false, ◌&&◌, ◌||◌, nat_lt, nat_le, Option, None, Some, is_some, is_none, List, length, if◌then◌else◌, refl, subst, arith}
 use Rattle.std.specs.Option.{option_map_or}
 use Rattle.std.proofs.lemmas.Bool.{cond_both, and_parts, leb-true}
-use Rattle.copy_model.specs.Volume.{Volume, formatted, file_at, write}
+use Rattle.copy_model.specs.Volume.{Volume, file_at, write}
 use Rattle.copy_model.specs.Job.{has_ended, landed_bytes}
 use Rattle.copy_model.specs.Moment.{Did}
-use Rattle.copy_model.specs.Moment as did
 use Rattle.nfs_base.specs.declared.side.Side.TheVariants.{Source, Dest}
 use Rattle.nfs_base.specs.declared.note.Note.TheVariants as note
 use Rattle.sched_text.specs.Admission.{admits, after, is_within, is_in_order, is_between, is_ready, has_file, most_events, most_writes}
@@ -16,11 +15,11 @@ use Rattle.sched_text.specs.declared.event.Event.TheVariants as event
 use Rattle.plain_machine.specs.Machine.{Copying, State, Step, says, job_name, inval, fbig, plan_of, client_writes, asks, tells, happens}
 use Rattle.plain_machine.specs.History.{World, next}
 use Rattle.plain_machine.proofs.Bytes.{goes_on}
-use Rattle.plain_machine.proofs.Progress.{world_of, IsSoundCopy, IsSoundDest, IsSound}
+use Rattle.plain_machine.proofs.Progress.{world_of, IsSoundDest, IsSound}
 use Rattle.plain_machine.proofs.Sound.{sound_none}
 use Rattle.plain_machine.proofs.Steps.{new_copy, dest_rests, copies_fresh, calm_good, IsGood}
 use Rattle.plain_machine.proofs.Volumes.{quiet_good, none_from_is_none, source_formatted, dest_formatted, source_written}
-use Rattle.plain_machine.proofs.Work.{IsGoodStep, left_by, works_good}
+use Rattle.plain_machine.proofs.Work.{IsGoodStep, works_good}
 
 -- the order that an admitted event keeps
 in_order : (context : Context) (e : Event) → admits context e ≡ true → is_in_order context e ≡ true

@@ -3,10 +3,10 @@ use Rattle.std.proofs.Common.{◌≡◌, ◌⊎◌, inl, inr, ⊎_elim, ℕ, zer
 use Rattle.std.specs.List.{list_any}
 use Rattle.std.proofs.lemmas.Bool.{both_ways, not_from_false, cases_lt}
 use Rattle.copy_model.specs.Volume.{Volume, file_at, byte_at, bytes_at, write}
-use Rattle.copy_model.specs.Job.{Entry, Landed, size_of, has_ended, is_end, chunk_len, IsChunk, unlanded}
+use Rattle.copy_model.specs.Job.{Entry, Landed, has_ended, is_end, chunk_len, unlanded}
 use Rattle.copy_model.specs.Moment.{Did, Moment, seen_dest, doubted}
 use Rattle.copy_model.specs.Moment as did
-use Rattle.copy_model.specs.Promise.{InRange, LandsAt, LandsOf, Reaches, Shows, IsAlike, source_byte}
+use Rattle.copy_model.specs.Promise.{LandsAt, LandsOf, Reaches, Shows, IsAlike, source_byte}
 use Rattle.copy_model.specs.Laws.{LandingLaws}
 use Rattle.sched_text.specs.declared.context.Context.{Context}
 use Rattle.sched_text.specs.declared.line.Line.{Line}
@@ -15,10 +15,10 @@ use Rattle.plain_machine.specs.History.{moment_of}
 use Rattle.plain_machine.proofs.Bytes.{HasWritten, has_written, length-bytes_at, byte_at-bytes_at, goes_on}
 use Rattle.plain_machine.proofs.Chunks.{unlanded-Some}
 use Rattle.plain_machine.proofs.Entries.{any_cases, any_other, size_kept}
-use Rattle.plain_machine.proofs.Progress.{covers, covers_landing, copy_in, progress_in, world_of, len_of, is_commit, not_committed, IsSoundSource, IsSoundDest, IsSoundCopy, IsSound}
+use Rattle.plain_machine.proofs.Progress.{covers, covers_landing, copy_in, progress_in, world_of, len_of, not_committed, IsSound}
 use Rattle.plain_machine.proofs.Sound.{len_at, sound_landed, chunk_within}
 use Rattle.plain_machine.proofs.Ready.{IsReady}
-use Rattle.plain_machine.proofs.Steps.{two, both, AreLawful, CopiesGoOn, copies_go_on, reports, unreported, MarksGoOn, IsGood}
+use Rattle.plain_machine.proofs.Steps.{two, both, AreLawful, CopiesGoOn, copies_go_on, reports, unreported, IsGood}
 
 module _ (s d b : Volume) (c : Copying) (was : Did) (es : List Entry) (total off : ℕ)
     (ready : IsReady d c es total) (first : unlanded es total ≡ Some off) (readable : s.broken ≡ false) where

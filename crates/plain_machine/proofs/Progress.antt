@@ -1,6 +1,6 @@
 -- How far the machine's copy is, read off its entries; the worlds of a run in the form that all of them
 -- have; and what is known of them.
-use Rattle.std.proofs.Common.{◌≡◌, ◌⊎◌, inl, inr, ⊎_elim, ℕ, zero, suc, ◌+◌, ◌<◌, ◌≤◌, Bool, true, false, ◌&&◌, not, ltb, leb, Option, None, Some, IfSome, unwrap_or, List, [], ◌∷◌, ◌++◌, length, slice_index_or, refl, arith}
+use Rattle.std.proofs.Common.{◌≡◌, ℕ, zero, suc, ◌+◌, ◌<◌, ◌≤◌, Bool, true, false, ◌&&◌, not, ltb, leb, Option, None, Some, IfSome, unwrap_or, List, [], ◌∷◌, length, slice_index_or, refl, arith}
 use Rattle.std.specs.List.{list_any}
 use Rattle.std.proofs.lemmas.Bool.{both_ways, false_from_ne_true, and_parts, and_from, leb-true, ltb-true, le-leb, lt-ltb, not_from_true}
 use Rattle.copy_model.specs.Volume.{Volume}
@@ -8,7 +8,7 @@ use Rattle.copy_model.specs.Job.{Entry, Sized, Landed, Stopped, Committed, Repor
 use Rattle.copy_model.specs.Moment.{Copy, Did}
 use Rattle.copy_model.specs.Laws.{Progress, MomentLaws}
 use Rattle.sched_text.specs.declared.event.Event.{Event}
-use Rattle.plain_machine.specs.Machine.{Copying, State, no_volume}
+use Rattle.plain_machine.specs.Machine.{Copying, no_volume}
 use Rattle.plain_machine.specs.History.{Watched, World, unwatched, moment_of, world_after}
 use Rattle.plain_machine.proofs.Bytes.{IsStamped}
 use Rattle.plain_machine.proofs.Entries.{any_implies}

@@ -1,8 +1,8 @@
 -- What is known of a copy's entries goes on to hold with each entry that the machine adds.
-use Rattle.std.proofs.Common.{◌≡◌, inl, inr, ⊎_elim, ℕ, ◌+◌, ◌*◌, ◌/◌, ◌<◌, ◌≤◌, Bool, true, false, Option, None, Some, unwrap_or, List, [], ◌∷◌, ◌++◌, refl, sym, ◌∙◌, ap, subst, arith}
+use Rattle.std.proofs.Common.{◌≡◌, ⊎_elim, ℕ, ◌+◌, ◌*◌, ◌/◌, ◌<◌, ◌≤◌, Bool, true, false, Option, None, Some, unwrap_or, List, [], ◌∷◌, ◌++◌, refl, sym, ◌∙◌, ap, subst, arith}
 use Rattle.std.specs.List.{list_any}
 use Rattle.std.proofs.lemmas.Bool.{eqb-true}
-use Rattle.copy_model.specs.Job.{Entry, Sized, Landed, Stopped, Committed, size_of, is_landing, has_landed, has_ended, chunk_size, chunk_len, IsChunk, unlanded, AllowsLanding, AllowsCommit, Allows}
+use Rattle.copy_model.specs.Job.{Entry, Sized, Landed, Stopped, Committed, size_of, is_landing, has_ended, chunk_size, chunk_len, unlanded, AllowsLanding, AllowsCommit, Allows}
 use Rattle.plain_machine.proofs.Chunks.{unlanded-Some, unlanded-None}
 use Rattle.plain_machine.proofs.Entries.{any_keeps, any_new, any_cases, size_kept, size_first, lawful_push, lawful_none}
 use Rattle.plain_machine.proofs.Progress.{covers, len_of, AreSound, landing_covers, covers_landing}

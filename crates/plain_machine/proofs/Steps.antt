@@ -1,21 +1,20 @@
 -- The laws of a step, put together from what it does to the destination and to the copies. A step is
 -- seen as a history of two moments.
-use Rattle.std.proofs.Common.{◌≡◌, ◌⊎◌, inl, inr, ⊎_elim, ℕ, zero, suc, ◌+◌, ◌-◌, ◌<◌, ◌≤◌, Bool, true, false, not, Option, None, Some, IfSome, List, [], ◌∷◌, ◌++◌, ◌∙◌, length, slice_index_or, Contains, refl, sym, ap, subst, arith}
+use Rattle.std.proofs.Common.{◌≡◌, ◌⊎◌, inl, inr, ℕ, zero, suc, ◌<◌, ◌≤◌, Bool, true, false, Option, None, Some, List, [], ◌∷◌, ◌++◌, ◌∙◌, length, slice_index_or, Contains, refl, sym, ap, arith}
 use Rattle.std.specs.List.{list_any}
 use Rattle.std.proofs.lemmas.Bool.{both_ways, or_parts, not_from_false}
 use Rattle.copy_model.specs.Volume.{Volume, file_at}
 use Rattle.copy_model.specs.Job.{Plan, Entry, Stopped, size_of, has_ended, is_end}
 use Rattle.copy_model.specs.Moment.{Copy, Did, Moment, History, seen_dest}
 use Rattle.copy_model.specs.Moment as did
-use Rattle.copy_model.specs.Promise.{InRange, IsAcceptedBy, source_byte, LandsAt, Reaches, Shows, IsAlike}
+use Rattle.copy_model.specs.Promise.{InRange, IsAcceptedBy, source_byte, Shows, IsAlike}
 use Rattle.copy_model.specs.Laws.{Progress, CopyLaws, LandingLaws, SettlingLaws, StepLaws}
-use Rattle.nfs_base.specs.declared.note.Note.{Note}
 use Rattle.nfs_base.specs.declared.note.Note.TheVariants as note
 use Rattle.sched_text.specs.declared.context.Context.{Context}
 use Rattle.sched_text.specs.declared.line.Line.{Line}
 use Rattle.sched_text.specs.declared.line.Line.TheVariants as line
 use Rattle.plain_machine.specs.Machine.{Copying}
-use Rattle.plain_machine.specs.History.{Watched, World, watched_at, moment_of}
+use Rattle.plain_machine.specs.History.{World, watched_at, moment_of}
 use Rattle.plain_machine.proofs.Bytes.{GoesOn}
 use Rattle.plain_machine.proofs.Entries.{any_other}
 use Rattle.plain_machine.proofs.Progress.{covers, copies_of, copy_in, progress_in, world_of, len_of, is_commit, not_stopped, not_committed, stable_durable, durable_stable, IsSound}

@@ -1,12 +1,12 @@
 -- The steps that touch a volume and no copy: a volume is formatted, the client writes to the source.
-use Rattle.std.proofs.Common.{◌≡◌, inl, inr, ℕ, ◌+◌, ◌*◌, ◌<◌, ◌≤◌, ◌&&◌, true, false, Option, None, Some, IfSome, is_some, is_none, List, [], ◌∷◌, length, replicate, refl, sym, ◌∙◌, ap, subst, arith}
+use Rattle.std.proofs.Common.{◌≡◌, inl, inr, ℕ, ◌+◌, true, false, Option, None, Some, IfSome, is_some, is_none, List, [], length, refl, sym, ◌∙◌, ap, subst, arith}
 use Rattle.std.specs.List.{list_any}
 use Rattle.std.proofs.lemmas.Bool.{both_ways}
 use Rattle.std.proofs.lemmas.List.{length-replicate}
 use Rattle.copy_model.specs.Volume.{File, Volume, no_file, formatted, file_at, byte_at, write}
 use Rattle.copy_model.specs.Moment.{Did, seen_dest, doubted}
 use Rattle.copy_model.specs.Moment as did
-use Rattle.copy_model.specs.Promise.{Shows, IsAlike}
+use Rattle.copy_model.specs.Promise.{Shows}
 use Rattle.sched_text.specs.declared.context.Context.{Context}
 use Rattle.sched_text.specs.declared.line.Line.{Line}
 use Rattle.plain_machine.specs.Machine.{Copying, no_volume}

@@ -1,17 +1,17 @@
 -- Every run of an admitted schedule obeys the laws of the promise.
-use Rattle.std.proofs.Common.{◌≡◌, ◌⊎◌, inl, inr, ⊎_elim, ℕ, zero, suc, ◌<◌, ◌≤◌, true, false, Option, None, Some, List, length, slice_get, refl, sym, ◌∙◌, ap, subst, arith}
+use Rattle.std.proofs.Common.{◌≡◌, ◌⊎◌, inl, inr, ⊎_elim, ℕ, zero, suc, ◌≤◌, true, Option, None, Some, List, slice_get, refl, sym, subst, arith}
 use Rattle.std.proofs.lemmas.Option.{IfSome_then}
 use Rattle.copy_model.specs.Volume.{file_at}
-use Rattle.copy_model.specs.Moment.{Did, seen_dest}
+use Rattle.copy_model.specs.Moment.{seen_dest}
 use Rattle.copy_model.specs.Promise.{Shows}
 use Rattle.copy_model.specs.Laws.{MomentLaws, StartLaws, IsLawfulRun}
 use Rattle.sched_text.specs.declared.event.Event.{Event}
 use Rattle.sched_text.specs.declared.context.Context.{Context}
 use Rattle.sched_text.specs.Admission.{at_start, admits, IsAdmitted}
-use Rattle.plain_machine.specs.Machine.{Copying, no_volume}
+use Rattle.plain_machine.specs.Machine.{no_volume}
 use Rattle.plain_machine.specs.History.{Watched, World, first_world, next, world_after, moment_of, history, lines_of, lines_at, MarksStable, HasLawfulEntries}
 use Rattle.plain_machine.proofs.Bytes.{GoesOn, goes_on, goes_on_after}
-use Rattle.plain_machine.proofs.Progress.{copies_of, progress_in, progress, IsSoundCopy, IsSound, moment_laws}
+use Rattle.plain_machine.proofs.Progress.{copies_of, progress_in, progress, IsSound, moment_laws}
 use Rattle.plain_machine.proofs.Schedule.{after_next, context_after, admitted_at}
 use Rattle.plain_machine.proofs.Steps.{IsGood, within_history}
 use Rattle.plain_machine.proofs.Volumes.{quiet_good}

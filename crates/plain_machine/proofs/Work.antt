@@ -1,8 +1,8 @@
 -- The worker's steps are good.
-use Rattle.std.proofs.Common.{◌≡◌, ℕ, ◌<◌, Bool, true, false, Option, None, Some, Result, Ok, Err, List, [], ◌∷◌, ◌++◌, length, refl, sym, ◌∙◌, arith}
+use Rattle.std.proofs.Common.{◌≡◌, ℕ, false, Option, None, Some, Result, Ok, Err, [], ◌∷◌, ◌++◌, length, refl, sym, ◌∙◌, arith}
 use Rattle.std.proofs.lemmas.Bool.{cond_both}
 use Rattle.copy_model.specs.Volume.{Volume, file_at}
-use Rattle.copy_model.specs.Job.{Plan, Sized, Landed, Stopped, Committed, size_of, has_ended, is_end, chunk_len, unlanded}
+use Rattle.copy_model.specs.Job.{Sized, Landed, Stopped, Committed, size_of, has_ended, is_end, chunk_len, unlanded}
 use Rattle.copy_model.specs.Moment.{Did}
 use Rattle.copy_model.specs.Moment as did
 use Rattle.nfs_base.specs.declared.job.Stop.{Stop}
@@ -10,16 +10,15 @@ use Rattle.nfs_base.specs.declared.note.Note.TheVariants as note
 use Rattle.sched_text.specs.declared.context.Context.{Context}
 use Rattle.sched_text.specs.declared.event.Event.{Event}
 use Rattle.sched_text.specs.declared.event.Event.TheVariants as event
-use Rattle.sched_text.specs.declared.line.Line.{Line}
 use Rattle.sched_text.specs.declared.line.Line.TheVariants as line
-use Rattle.plain_machine.specs.Machine.{Copying, State, Step, job_name, rests, moves, moves_sized, sizes, sizing, works, works_at, stop_status}
+use Rattle.plain_machine.specs.Machine.{Copying, Step, job_name, rests, moves, sizes, sizing, works, works_at}
 use Rattle.plain_machine.specs.History.{World, begins, watches}
 use Rattle.plain_machine.proofs.Bytes.{goes_on}
 use Rattle.plain_machine.proofs.Entries.{any_other, size_kept}
-use Rattle.plain_machine.proofs.Progress.{copies_of, world_of, len_of, IsSoundCopy, IsSound}
+use Rattle.plain_machine.proofs.Progress.{copies_of, world_of, len_of, IsSound}
 use Rattle.plain_machine.proofs.Sound.{len_at, sound_stopped}
 use Rattle.plain_machine.proofs.Steps.{dest_rests, copies_stopped, calm_good, IsGood}
-use Rattle.plain_machine.proofs.Ready.{IsReady, ready_sized, ready_unsized}
+use Rattle.plain_machine.proofs.Ready.{ready_sized, ready_unsized}
 use Rattle.plain_machine.proofs.Landing.{landing_good}
 use Rattle.plain_machine.proofs.Commit.{commit_good}
 use Rattle.plain_machine.proofs.Volumes.{quiet_good}
