@@ -1,0 +1,15 @@
+mod Bytes
+mod Chunks
+mod Entries
+mod Progress
+mod Sound
+mod Schedule
+mod Steps
+mod Ready
+mod Landing
+mod Commit
+mod Volumes
+mod Shown
+mod Work
+mod Happens
+mod Whole
