@@ -18,7 +18,7 @@ use Rattle.plain_machine.proofs.Entries.{any_cases, any_other, size_kept}
 use Rattle.plain_machine.proofs.Progress.{covers, covers_landing, copy_in, progress_in, world_of, len_of, not_committed, IsSound}
 use Rattle.plain_machine.proofs.Sound.{len_at, sound_landed, chunk_within}
 use Rattle.plain_machine.proofs.Ready.{IsReady}
-use Rattle.plain_machine.proofs.Steps.{two, both, AreLawful, CopiesGoOn, copies_go_on, reports, unreported, IsGood}
+use Rattle.plain_machine.proofs.Steps.{two, AreLawful, CopiesGoOn, copies_go_on, reports, unreported, IsGood}
 
 module _ (s d b : Volume) (c : Copying) (was : Did) (es : List Entry) (total off : ℕ)
     (ready : IsReady d c es total) (first : unlanded es total ≡ Some off) (readable : s.broken ≡ false) where
@@ -111,7 +111,7 @@ module _ (s d b : Volume) (c : Copying) (was : Did) (es : List Entry) (total off
       effect.within place from (omega (arith, piece_long)) ∙ byte_at-bytes_at (file_at s c.plan.source_file).now (c.plan.from + off) len k (omega arith) ∙ ap (λ i. byte_at (file_at s c.plan.source_file).now i) there
 
   lands_own : (place : ℕ) → c.plan.to + off ≤ place → place < c.plan.to + off + len
-      → LandingLaws (two before_moment now_moment) (both (progress_in (Some c)) (progress_in (Some after))) 0 0 place
+      → LandingLaws (two before_moment now_moment) 0 0 place
   lands_own place from below =
       let inside = chunk_within total off (place - c.plan.to) (unlanded-Some es total off first).chunk.within (omega arith) in
       record {
@@ -125,7 +125,7 @@ module _ (s d b : Volume) (c : Copying) (was : Did) (es : List Entry) (total off
       }
 
   lands : (j place : ℕ) → LandsAt (did.Landed 0 off len) j (copy_in (Some after) j).plan place
-      → LandingLaws (two before_moment now_moment) (both (progress_in (Some c)) (progress_in (Some after))) 0 j place
+      → LandingLaws (two before_moment now_moment) 0 j place
   lands zero place own = lands_own place own.1 own.2
   lands (suc j) place other = absurd (omega arith)
 

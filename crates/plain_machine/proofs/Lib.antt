@@ -12,4 +12,5 @@ mod Volumes
 mod Shown
 mod Work
 mod Happens
+mod Sizing
 mod Whole

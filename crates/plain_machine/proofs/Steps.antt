@@ -33,17 +33,17 @@ both x y (suc i) = y
 abbrev pub AreLawful : Moment → Moment → (ℕ → Progress) → (ℕ → Progress) → Type 0
 AreLawful m n x y = StepLaws (two m n) (both x y) 0
 
-landing_at : (h : History) (g : ℕ → ℕ → Progress) (k j place : ℕ)
+landing_at : (h : History) (k j place : ℕ)
     → InRange ((h (suc k)).copy j) place
     → ((l : ℕ) → j < l → IsAcceptedBy h l (suc k) → ((h (suc k)).copy l).plan.file ≡ ((h (suc k)).copy j).plan.file → InRange ((h (suc k)).copy l) place → ⊥)
     → (read : ℕ)
     → IsAcceptedBy (two (h k) (h (suc k))) j read
     → (two (h k) (h (suc k)) read).source.broken ≡ false
     → (h (suc k)).dest.now ((h (suc k)).copy j).plan.file place ≡ source_byte (two (h k) (h (suc k)) read) ((h (suc k)).copy j).plan place
-    → LandingLaws h g k j place
-landing_at h g k j place within apart zero accepted readable byte =
+    → LandingLaws h k j place
+landing_at h k j place within apart zero accepted readable byte =
     record { within = within; read = k; in_time = omega arith; accepted = accepted; readable = readable; byte = byte; apart = apart }
-landing_at h g k j place within apart (suc i) accepted readable byte =
+landing_at h k j place within apart (suc i) accepted readable byte =
     record { within = within; read = suc k; in_time = omega arith; accepted = accepted; readable = readable; byte = byte; apart = apart }
 
 -- the laws of a step within its history
@@ -57,7 +57,7 @@ within_history h g k laws =
       live = laws.live;
       lands = λ j place lands.
           let law = laws.lands j place lands in
-          landing_at h g k j place law.within law.apart law.read law.accepted law.readable law.byte;
+          landing_at h k j place law.within law.apart law.read law.accepted law.readable law.byte;
       settles = λ j not_yet durable.
           let law = laws.settles j not_yet durable in
           record { intact = law.intact; readable = law.readable; landed = law.landed; shows = law.shows };

@@ -1,17 +1,21 @@
 -- Every run of an admitted schedule obeys the laws of the promise.
-use Rattle.std.proofs.Common.{◌≡◌, ◌⊎◌, inl, inr, ⊎_elim, ℕ, zero, suc, ◌≤◌, true, Option, None, Some, List, slice_get, refl, sym, subst, arith}
+use Rattle.std.proofs.Common.{◌≡◌, ◌⊎◌, inl, inr, ⊎_elim, ℕ, zero, suc, ◌<◌, ◌≤◌, true, false, Option, None, Some, IfSome, List, length, slice_get, slice_index_or, refl, sym, subst, arith}
+use Rattle.std.proofs.lemmas.Bool.{both_ways, false_from_ne_true}
 use Rattle.std.proofs.lemmas.Option.{IfSome_then}
-use Rattle.copy_model.specs.Volume.{file_at}
-use Rattle.copy_model.specs.Moment.{seen_dest}
-use Rattle.copy_model.specs.Promise.{Shows}
+use Rattle.copy_model.specs.Volume.{Volume, file_at}
+use Rattle.copy_model.specs.Job.{Plan, size_of}
+use Rattle.copy_model.specs.Moment.{Copy, seen_dest}
+use Rattle.copy_model.specs.Promise.{IsCompletedBy, IsDuring, HasExtent, Shows}
 use Rattle.copy_model.specs.Laws.{MomentLaws, StartLaws, IsLawfulRun}
 use Rattle.sched_text.specs.declared.event.Event.{Event}
 use Rattle.sched_text.specs.declared.context.Context.{Context}
 use Rattle.sched_text.specs.Admission.{at_start, admits, IsAdmitted}
-use Rattle.plain_machine.specs.Machine.{no_volume}
-use Rattle.plain_machine.specs.History.{Watched, World, first_world, next, world_after, moment_of, history, lines_of, lines_at, MarksStable, HasLawfulEntries}
+use Rattle.plain_machine.specs.Machine.{Copying, no_volume}
+use Rattle.plain_machine.specs.History.{Watched, World, fresh_copy, unwatched, first_world, next, world_after, moment_of, history, lines_of, lines_at, MarksStable, HasLawfulEntries}
 use Rattle.plain_machine.proofs.Bytes.{GoesOn, goes_on, goes_on_after}
-use Rattle.plain_machine.proofs.Progress.{copies_of, progress_in, progress, IsSound, moment_laws}
+use Rattle.plain_machine.proofs.Progress.{copies_of, copy_in, progress_in, progress, IsSoundCopy, IsSound, moment_laws, not_committed}
+use Rattle.plain_machine.proofs.Sizing.{HasLen, IsUnderWay, IsGiven, next_given, committed_sized}
+use Rattle.plain_machine.proofs.Sound.{len_at}
 use Rattle.plain_machine.proofs.Schedule.{after_next, context_after, admitted_at}
 use Rattle.plain_machine.proofs.Steps.{IsGood, within_history}
 use Rattle.plain_machine.proofs.Volumes.{quiet_good}
@@ -71,6 +75,14 @@ reached_first =
       copies = refl;
     }
 
+-- a copy with this plan and length
+abbrev with_len : Plan → ℕ → Copy
+with_len plan len = record (fresh_copy plan) { len = len }
+
+under_way_seen : (c : Option Copying) (plan : Plan) → IsUnderWay c plan → (0 < length (copies_of c)) × ((copy_in c 0).completed ≡ false)
+under_way_seen None plan under_way = absurd under_way
+under_way_seen (Some c) plan under_way = (omega arith, not_committed c.entries under_way.1)
+
 module _ (events : List Event) (admitted : IsAdmitted at_start events) where
   reached : (k : ℕ) → IsReached (context_after at_start events k) (world_after events k)
   reached zero = reached_first
@@ -101,12 +113,84 @@ module _ (events : List Event) (admitted : IsAdmitted at_start events) where
       (λ now. subst (λ n. GoesOn (file_at (world_after events n).state.source file) (file_at (world_after events (suc k)).state.source file)) (sym now) (goes_on _))
       (at_or_before i k le)
 
+  -- a copy that isn't completed wasn't before
+  incomplete_before : (j i k : ℕ) → i ≤ k → ((history events k).copy j).completed ≡ false → ((history events i).copy j).completed ≡ false
+  incomplete_before j i zero le incomplete =
+      let first : i ≡ 0 = omega arith in
+      subst (λ n. ((history events n).copy j).completed ≡ false) (sym first) incomplete
+  incomplete_before j i (suc k) le incomplete =
+      ⊎_elim
+      (λ before. incomplete_before j i k before (false_from_ne_true _ (λ completed. both_ways _ incomplete (((good_at k).laws.copies j ((moments k).completed_made j completed)).completed completed))))
+      (λ now. subst (λ n. ((history events n).copy j).completed ≡ false) (sym now) incomplete)
+      (at_or_before i k le)
+
+  -- a moment at which the copy is under way is during the copy
+  under_way_during : (k : ℕ) (plan : Plan) → IsUnderWay (world_after events k).state.copy plan → IsDuring (history events) 0 k
+  under_way_during k plan under_way =
+      let seen = subst (λ (l : List Watched). (0 < length l) × ((slice_index_or l 0 unwatched).copy.completed ≡ false)) (sym (reached k).copies) (under_way_seen (world_after events k).state.copy plan under_way) in
+      (seen.0, λ i before. incomplete_before 0 i k (omega arith) seen.1)
+
+  -- a copy that has its length has the range that was asked for
+  abbrev IsFull : Option Copying → Type 0
+  IsFull None = Unit {0}
+  IsFull (Some c) = (len : ℕ) → size_of c.entries ≡ Some len → HasExtent (history events) 0 (with_len c.plan len)
+
+  had_extent : (c : Option Copying) (plan : Plan) (len : ℕ) → IsFull c → HasLen c plan len → HasExtent (history events) 0 (with_len plan len)
+  had_extent None plan len full had = absurd had
+  had_extent (Some c) plan len full had = subst (λ (p : Plan). HasExtent (history events) 0 (with_len p len)) had.0 (full len had.1)
+
+  full_next : (k : ℕ) (c : Option Copying) → IsFull (world_after events k).state.copy → IsGiven (world_after events k).state c → IsFull c
+  full_next k None full given = tt
+  full_next k (Some c) full given =
+      λ len size. ⊎_elim
+      (λ before. had_extent (world_after events k).state.copy c.plan len full before)
+      (λ now. record {
+        counted = now.1.counted;
+        to_end = λ none. record {
+          moment = k;
+          during = under_way_during k c.plan now.0;
+          readable = (reached k).sound.source.readable;
+          end_is = now.1.to_end none;
+        };
+      })
+      (given len size)
+
+  full_at : (k : ℕ) → IsFull (world_after events k).state.copy
+  full_at zero = tt
+  full_at (suc k) =
+      full_next k (world_after events (suc k)).state.copy (full_at k) (next_given (world_after events k) (slice_get events k))
+
+  completed_extent : (d : Volume) (c : Option Copying) (j : ℕ) → IfSome c (IsSoundCopy d) → IsFull c → (copy_in c j).completed ≡ true
+      → HasExtent (history events) j (copy_in c j)
+  completed_extent d None j sound full completed = absurd (cc)
+  completed_extent d (Some c) zero sound full completed =
+      let sized = committed_sized c.plan.consecutive c.entries sound.entries.lawful completed (size_of c.entries) refl in
+      let extent = full sized.0 sized.1 in
+      let long = len_at c.entries (Some sized.0) sized.1 in
+      subst (λ n. HasExtent (history events) 0 (record (copy_in (Some c) 0) { len = n })) (sym long) (record {
+        counted = extent.counted;
+        to_end = λ none.
+            let found = extent.to_end none in
+            record { moment = found.moment; during = found.during; readable = found.readable; end_is = found.end_is };
+      })
+  completed_extent d (Some c) (suc j) sound full completed = absurd (cc)
+
+  -- what is completed was copied in full
+  extent : (j k : ℕ) → IsCompletedBy (history events) j k → HasExtent (history events) j ((history events k).copy j)
+  extent j k =
+      let w = world_after events k in
+      subst
+      (λ (l : List Watched). (slice_index_or l j unwatched).copy.completed ≡ true → HasExtent (history events) j (slice_index_or l j unwatched).copy)
+      (sym (reached k).copies)
+      (completed_extent w.state.dest w.state.copy j (reached k).sound.copy (full_at k))
+
   pub runs_are_lawful : IsLawfulRun (history events) (progress events)
   runs_are_lawful =
       record {
         start = start;
         moments = moments;
         steps = λ k. within_history (history events) (progress events) k (good_at k).laws;
+        extent = extent;
         same_change = λ i k file place readable readable_then same.
             ⊎_elim
             (λ before. (goes_far file i k before).same same place)
