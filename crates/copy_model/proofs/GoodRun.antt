@@ -1,11 +1,11 @@
 -- The good run of the examples is kept.
-use Rattle.std.proofs.Common.{◌≡◌, ◌⊎◌, inl, inr, ⊎_elim, ℕ, zero, suc, ◌+◌, ◌<◌, ◌≤◌, false, None, List, [], ◌∷◌, refl, sym, ◌∙◌, ap, subst, arith}
+use Rattle.std.proofs.Common.{◌≡◌, ◌⊎◌, inl, inr, ⊎_elim, ℕ, zero, suc, ◌+◌, ◌<◌, ◌≤◌, true, false, None, List, [], ◌∷◌, refl, sym, ◌∙◌, ap, subst, arith}
 use Rattle.std.proofs.lemmas.Bool.{false≢true}
 use Rattle.copy_model.specs.Job.{Plan}
 use Rattle.copy_model.specs.Volume.{File, Volume, no_file, formatted, file_at, byte_at}
 use Rattle.copy_model.specs.Moment.{Dest, Copy, Moment, seen_dest}
-use Rattle.copy_model.specs.Promise.{InRange, IsStableBy, IsTouched, IsDuring, source_byte, Shows, IsSettled, IsAlike, IsOutside, IsKept}
-use Rattle.copy_model.specs.Examples.{plan, accepted, landed, safe, at_start, at_accept, at_size, at_landing, at_commit, at_report, at_crash, at_rest, good}
+use Rattle.copy_model.specs.Promise.{InRange, IsStableBy, IsTouched, IsDuring, source_byte, Shows, IsSettled, HasExtent, IsAlike, IsOutside, IsCompletedBy, IsKept}
+use Rattle.copy_model.specs.Examples.{plan, accepted, reported, landed, safe, at_start, at_accept, at_size, at_landing, at_commit, at_report, at_crash, at_rest, good}
 use Rattle.copy_model.proofs.Runs.{each_moment, shows_only}
 
 abbrev moments : List Moment
@@ -42,6 +42,15 @@ stable_late (suc (suc zero)) stable = absurd (false≢true stable)
 stable_late (suc (suc (suc zero))) stable = absurd (false≢true stable)
 stable_late (suc (suc (suc (suc zero)))) stable = absurd (false≢true stable)
 stable_late (suc (suc (suc (suc (suc s))))) stable = omega arith
+
+-- once reported, the copy is completed, and its two bytes are those that were asked for
+stable_whole : (j s : ℕ) → IsStableBy good j s → IsCompletedBy good j s × HasExtent good j ((good s).copy j)
+stable_whole zero s stable =
+    subst
+    (λ (c : Copy). (c.completed ≡ true) × HasExtent good 0 c)
+    (sym (since_report (λ m. m.copy 0 ≡ reported) refl refl refl s (stable_late s stable)))
+    (refl, record { counted = λ some. refl; to_end = λ none. absurd (omega arith) })
+stable_whole (suc j) s stable = absurd (false≢true (sym (ap (λ (c : Copy). c.stable) (others_wait s j)) ∙ stable))
 
 -- the copy was there, and not complete, when its chunk landed
 during_landing : IsDuring good 0 3
@@ -148,6 +157,7 @@ clear_outside (suc (suc k)) file place outside =
 
 pub good_kept : IsKept good
 good_kept = record {
+  whole = stable_whole;
   stable = stable_settled;
   others = λ k file place outside. clear_alike _ _ file place (clear_outside k file place outside);
   zeros = λ k file place outside unwritten x shows.

@@ -2,7 +2,7 @@
 use Rattle.std.proofs.Common.{◌≡◌, inl, inr, ⊎_elim, ℕ, zero, suc, ◌<◌, ◌≤◌, eqb, refl, sym, ◌∙◌, arith}
 use Rattle.std.proofs.lemmas.Bool.{false≢true, cases_lt, eqb-true}
 use Rattle.copy_model.specs.Promise.{IsDuring, IsOutside, Reaches, source_byte, IsKept, IsStopped}
-use Rattle.copy_model.specs.Examples.{plan, uncommitted, changed, never_held, spilled, unclean, late_landing, late_commit}
+use Rattle.copy_model.specs.Examples.{plan, uncommitted, unsized, changed, never_held, spilled, unclean, late_landing, late_commit}
 use Rattle.copy_model.proofs.Runs.{passes_at, untouched}
 
 pub uncommitted_refused : IsKept uncommitted → ⊥
@@ -11,6 +11,12 @@ uncommitted_refused kept =
     let settled = kept.stable 0 5 5 3 refl (omega arith, omega arith) (omega arith) alone in
     let seen : 7 ≡ settled.value = settled.stays 5 (omega arith) alone 7 (inl (refl, refl)) in
     let left : 0 ≡ settled.value = settled.stays 5 (omega arith) alone 0 (inr (inl refl)) in
+    absurd (omega arith)
+
+pub unsized_refused : IsKept unsized → ⊥
+unsized_refused kept =
+    let whole = kept.whole 0 3 refl in
+    let asked : ◌≡◌ {A = ℕ} 0 2 = whole.1.counted (omega arith) in
     absurd (omega arith)
 
 pub changed_refused : IsKept changed → ⊥

@@ -88,6 +88,13 @@ uncommitted =
     (at_start ∷ at_accept ∷ at_size ∷ at_landing ∷ record at_commit { dest = at_landing.dest } ∷ [])
     (record at_report { dest = at_landing.dest })
 
+-- Completed and reported as stable though the copy was never sized: neither of its two bytes landed.
+abbrev pub unsized : History
+unsized =
+    run_of
+    (at_start ∷ at_accept ∷ moment_of (commit empty 1) (commit empty 1) (record accepted { completed = true } ∷ []) Rested ∷ [])
+    (moment_of (commit empty 1) (commit empty 1) (record accepted { completed = true; stable = true } ∷ []) Rested)
+
 -- After the report a byte becomes 9, and no WRITE was there.
 abbrev pub changed : History
 changed =

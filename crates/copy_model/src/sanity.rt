@@ -2,7 +2,7 @@ ghost use Rattle.std.specs.Prelude.{◌≡◌, ℕ, ◌<◌, length, Some};
 ghost use Rattle.copy_model.specs.Volume.{Doubt, Volume, Kept, byte_at, file_at, crash};
 ghost use Rattle.copy_model.specs.Moment.{seen_dest};
 ghost use Rattle.copy_model.specs.Promise.{InRange, IsStableBy, IsKept, IsStopped, MayLeave};
-ghost use Rattle.copy_model.specs.Examples.{good, uncommitted, changed, never_held, spilled, unclean, late_landing, late_commit};
+ghost use Rattle.copy_model.specs.Examples.{good, uncommitted, unsized, changed, never_held, spilled, unclean, late_landing, late_commit};
 
 /// A copy of two bytes that is kept and stopped. It gets so far as to be reported as stable, with bytes in
 /// its range.
@@ -16,6 +16,7 @@ pub fn kept_example()
 /// Runs that depart from that one in one way each, and break the promise.
 pub fn refused_examples()
     ensures uncommitted { IsKept uncommitted → ⊥ }
+    ensures never_sized { IsKept unsized → ⊥ }
     ensures changed { IsKept changed → ⊥ }
     ensures never_held { IsKept never_held → ⊥ }
     ensures spilled { IsKept spilled → ⊥ }

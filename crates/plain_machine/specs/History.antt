@@ -1,7 +1,7 @@
 -- The history of a run over plain byte lists. What it shows of copies, and what it says that a step did,
 -- is read off the events and the lines that the steps print, so that no mark can say what the
 -- transcript doesn't. Own definitions.
-use Rattle.std.specs.Prelude.{ℕ, ◌+◌, ◌-◌, ◌*◌, ◌<◌, ◌⊎◌, Bool, true, false, ◌==◌, Option, None, Some, IfSome, List, [], ◌∷◌, ◌++◌, length, map, Contains, zero, suc, slice_get, slice_index_or, slice_set, if◌then◌else◌}
+use Rattle.std.specs.Prelude.{ℕ, ◌-◌, ◌*◌, ◌<◌, ◌⊎◌, true, false, ◌==◌, Option, None, Some, IfSome, List, [], ◌∷◌, ◌++◌, length, map, Contains, zero, suc, slice_get, slice_index_or, slice_set, if◌then◌else◌}
 use Rattle.copy_model.specs.Volume.{Volume, formatted, commit}
 use Rattle.copy_model.specs.Job.{Plan, IsLawful}
 use Rattle.copy_model.specs.Promise.{IsStableBy}
@@ -15,7 +15,7 @@ use Rattle.sched_text.specs.declared.event.Event.{Event}
 use Rattle.sched_text.specs.declared.event.Event.TheVariants as event
 use Rattle.sched_text.specs.declared.line.Line.{Line}
 use Rattle.sched_text.specs.declared.line.Line.TheVariants as line
-use Rattle.plain_machine.specs.Machine.{State, Step, happens, no_volume, at_boot, plan_of}
+use Rattle.plain_machine.specs.Machine.{State, happens, no_volume, at_boot, plan_of}
 
 -- a copy as the transcript shows it, with the client's number of it
 pub record Watched : Type 0 where

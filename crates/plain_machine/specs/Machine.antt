@@ -1,7 +1,7 @@
 -- The machine of a run over plain byte lists: what each event of a schedule does, and the lines that it
 -- prints. A worker's step takes up the copy where its entries leave it. Own definitions; the refusals
 -- are those of COPY (RFC 7862 section 15.2.3) and WRITE (RFC 8881 section 18.32.3).
-use Rattle.std.specs.Prelude.{ℕ, ◌+◌, ◌-◌, ◌*◌, ◌^◌, Bool, false, ◌||◌, ◌==◌, nat_lt, Option, None, Some, Result, Ok, Err, List, [], ◌∷◌, ◌++◌, length, zero, suc, slice_get, if◌then◌else◌}
+use Rattle.std.specs.Prelude.{ℕ, ◌+◌, ◌-◌, ◌*◌, ◌^◌, false, ◌||◌, ◌==◌, nat_lt, Option, None, Some, Result, Ok, Err, List, [], ◌∷◌, ◌++◌, length, if◌then◌else◌}
 use Rattle.copy_model.specs.Volume.{Volume, formatted, file_at, bytes_at, write, commit}
 use Rattle.copy_model.specs.Job.{Plan, Entry, size_of, has_ended, landed_bytes, chunk_len, unlanded}
 use Rattle.copy_model.specs.Job as job

@@ -11,4 +11,6 @@ pub fn plain_runs()
     ensures stopped { (events : List Event) → IsAdmitted at_start events → IsStopped (history events) }
     ensures marks { (events : List Event) → IsAdmitted at_start events → (j k : ℕ) → MarksStable events j k }
     ensures entries { (events : List Event) → IsAdmitted at_start events → (k : ℕ) → HasLawfulEntries (world_after events k) }
-{}
+{
+    copy_model::lawful_runs();
+}

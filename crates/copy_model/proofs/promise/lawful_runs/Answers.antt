@@ -5,6 +5,9 @@ use Rattle.copy_model.proofs.promise.lawful_runs.Goals as goal
 
 pub returns-clause-kept : goal.returns-clause-kept
 returns-clause-kept c h progress lawful = record {
+  whole = λ j s stable.
+      let completed = (lawful.moments s).durable j ((lawful.moments s).stable j stable) in
+      (completed, lawful.extent j s completed);
   stable = stable_settled h progress lawful;
   others = others_alike h progress lawful;
   zeros = still_zero h progress lawful;

@@ -1,8 +1,11 @@
-use Rattle.copy_model.proofs.RefusedRuns.{uncommitted_refused, changed_refused, never_held_refused, spilled_refused, unclean_refused, late_landing_refused, late_commit_refused, moved_refused}
+use Rattle.copy_model.proofs.RefusedRuns.{uncommitted_refused, unsized_refused, changed_refused, never_held_refused, spilled_refused, unclean_refused, late_landing_refused, late_commit_refused, moved_refused}
 use Rattle.copy_model.proofs.sanity.refused_examples.Goals as goal
 
 pub returns-clause-uncommitted : goal.returns-clause-uncommitted
 returns-clause-uncommitted c = uncommitted_refused
+
+pub returns-clause-never_sized : goal.returns-clause-never_sized
+returns-clause-never_sized c = unsized_refused
 
 pub returns-clause-changed : goal.returns-clause-changed
 returns-clause-changed c = changed_refused
