@@ -8,6 +8,8 @@ mod laws;
 mod line;
 mod numerals;
 mod schedule;
+#[cfg(test)]
+mod tests;
 mod words;
 
 pub use context::Context;
