@@ -13,3 +13,4 @@ mod Shown
 mod Work
 mod Happens
 mod Whole
+mod Sizes
