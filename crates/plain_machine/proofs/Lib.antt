@@ -14,3 +14,4 @@ mod Work
 mod Happens
 mod Sizing
 mod Whole
+mod Sizes

@@ -230,16 +230,19 @@ reports (line.Note (note.Idle number)) = false
 reports (line.Bytes side file off bytes) = false
 reports (line.End records) = false
 
-unreported_at : (lines : List Line) → list_any reports lines ≡ false → (number k : ℕ) → k < length lines
-    → slice_index_or lines k (line.Note (note.Stable number)) ≡ line.Note (note.Stable number) → ⊥
-unreported_at [] quiet number k within at = absurd (omega arith)
-unreported_at (l ∷ lines) quiet number zero within at = both_ways (reports l) (or_parts (reports l) (list_any reports lines) quiet).0 (ap reports at)
-unreported_at (l ∷ lines) quiet number (suc k) within at =
-    unreported_at lines (or_parts (reports l) (list_any reports lines) quiet).1 number k (omega arith) at
+absent_at : (p : Line → Bool) (lines : List Line) → list_any p lines ≡ false → (x : Line) → p x ≡ true
+    → (k : ℕ) → k < length lines → slice_index_or lines k x ≡ x → ⊥
+absent_at p [] none x passes k within at = absurd (omega arith)
+absent_at p (l ∷ lines) none x passes zero within at = both_ways (p l) (or_parts (p l) (list_any p lines) none).0 (ap p at ∙ passes)
+absent_at p (l ∷ lines) none x passes (suc k) within at = absent_at p lines (or_parts (p l) (list_any p lines) none).1 x passes k (omega arith) at
+
+-- a line that passes a test isn't among lines that fail it
+pub absent : (p : Line → Bool) (lines : List Line) → list_any p lines ≡ false → (x : Line) → p x ≡ true → Contains lines x → ⊥
+absent p lines none x passes there = absent_at p lines none x passes there.0 there.1 there.2
 
 -- lines of which none reports a copy as stable
 pub unreported : (lines : List Line) → list_any reports lines ≡ false → (number : ℕ) → Contains lines (line.Note (note.Stable number)) → ⊥
-unreported lines quiet number there = unreported_at lines quiet number there.0 there.1 there.2
+unreported lines quiet number there = absent reports lines quiet (line.Note (note.Stable number)) refl there
 
 -- A copy's mark is set by the lines that report it, and by no others.
 pub record MarksGoOn (w w' : World) (lines : List Line) (j : ℕ) : Type 0 where
