@@ -1,5 +1,5 @@
 -- What it takes that an event may come next, as plain facts.
-use Rattle.std.proofs.Common.{◌≡◌, ℕ, ◌+◌, ◌*◌, ◌<◌, ◌≤◌, ◌^◌, Bool, true, false, ◌&&◌, Option, None, Some, is_some, length, List, IsTrue, refl, nat_lt, nat_le}
+use Rattle.std.proofs.Common.{◌≡◌, ℕ, ◌+◌, ◌*◌, ◌<◌, ◌≤◌, ◌^◌, true, false, ◌&&◌, Option, None, Some, is_some, length, List, IsTrue, refl, nat_lt, nat_le}
 use Rattle.std.specs.Prelude.{is_none}
 use Rattle.std.specs.Option.{option_map_or}
 use Rattle.std.proofs.lemmas.Bool.{and_parts, leb-true, ltb-true}
@@ -8,7 +8,7 @@ use Rattle.nfs_base.specs.declared.side.Side.TheVariants.{Source, Dest}
 use Rattle.sched_text.specs.declared.context.Context.{Context}
 use Rattle.sched_text.specs.declared.event.CopySpec.{CopySpec}
 use Rattle.sched_text.specs.declared.event.Event.{Event}
-use Rattle.sched_text.specs.declared.event.Event.TheVariants.{Volume, Write, Copy, Work, Status, Peek}
+use Rattle.sched_text.specs.declared.event.Event.TheVariants.{Volume, Write, Copy, Peek}
 use Rattle.sched_text.specs.Admission.{admits, is_within, is_in_order, is_between, is_ready, has_file, files_of}
 
 -- the volume of a side has this file
@@ -81,7 +81,7 @@ pub admitted_copy : (context : Context) (number : ℕ) (spec : CopySpec) → IsT
 admitted_copy context number spec h =
     let a = admitted context (Copy number spec) h in
     let order = and_parts (is_ready context)
-      (is_none context.copied && (has_file context Source spec.source_file && has_file context Dest spec.file)) a.in_order in
+    (is_none context.copied && (has_file context Source spec.source_file && has_file context Dest spec.file)) a.in_order in
     let once = and_parts (is_none context.copied) (has_file context Source spec.source_file && has_file context Dest spec.file) order.1 in
     let files = and_parts (has_file context Source spec.source_file) (has_file context Dest spec.file) once.1 in
     record {

@@ -1,1 +1,4 @@
 pub mod Admits
+pub mod Sizes
+pub mod Works
+pub mod Runs

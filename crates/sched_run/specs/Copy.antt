@@ -53,3 +53,9 @@ pub record CanWork (source dest : Volume) (c : Copying) : Type 0 where
   pub lands_low : 1 ≤ c.job.plan.file
   pub lands : c.job.plan.file < length dest.files
   pub fits : (total : ℕ) → size_of c.job.entries ≡ Some total → c.job.plan.to + total ≤ dest.capacity
+
+-- The step left a copy that can go on, at a volume of as many files that was written to once at most.
+pub record StillWorks (source old new : Volume) (c : Copying) : Type 0 where
+  pub can : CanWork source new c
+  pub files : length new.files ≡ length old.files
+  pub written : new.writes ≤ old.writes + 1

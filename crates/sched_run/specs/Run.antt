@@ -1,5 +1,5 @@
 -- The bytes of a run, and what was put of them.
-use Rattle.std.specs.Prelude.{◌≡◌, ℕ, List, Option}
+use Rattle.std.specs.Prelude.{ℕ, List, Option}
 use Rattle.std.specs.Io.KnownBytes.{Appends}
 use Rattle.outcome.specs.Causes.{Rose}
 use Rattle.rpc_msg.specs.Sink.{AppendsFront}

@@ -1,7 +1,6 @@
 -- What contracts see of a system that runs a schedule: what its lines so far leave open, and the
 -- machine's state.
-use Rattle.std.specs.Prelude.{◌≡◌, ℕ, List, ◌∷◌, []}
-use Rattle.nfs_base.specs.declared.note.Note.{Note}
+use Rattle.std.specs.Prelude.{◌≡◌, ℕ, List}
 use Rattle.sched_text.specs.declared.context.Context.{Context}
 use Rattle.sched_text.specs.declared.event.Event.{Event}
 use Rattle.sched_text.specs.declared.line.Line.{Line}

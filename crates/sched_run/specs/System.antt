@@ -1,5 +1,5 @@
 -- How a system's parts stand for the machine's state, and what always holds of them.
-use Rattle.std.specs.Prelude.{◌≡◌, ℕ, ◌+◌, ◌≤◌, ◌<◌, Option, None, Some, length, unwrap_or, option_map}
+use Rattle.std.specs.Prelude.{◌≡◌, ℕ, ◌+◌, ◌≤◌, Option, None, Some, length, unwrap_or, option_map}
 use Rattle.copy_model.specs.Volume.{Volume}
 use Rattle.sched_text.specs.declared.context.Context.{Context}
 use Rattle.sched_run.specs.declared.copying.Copying.{Copying}

@@ -1,4 +1,4 @@
-ghost use Rattle.std.specs.Prelude.{◌≡◌, ◌+◌, ◌-◌, ◌<◌, ◌≤◌, ◌^◌, length, IfOk, OnErr, [], ◌∷◌, option_map};
+ghost use Rattle.std.specs.Prelude.{◌≡◌, ◌+◌, ◌-◌, ◌<◌, ◌≤◌, ◌^◌, length, IfOk, OnOk, OnErr, [], ◌∷◌};
 ghost use Rattle.copy_model.specs.Volume.{file_at, bytes_at};
 ghost use Rattle.sched_run.specs.Client.{volume_written, write_note, refusal_of, progress_note};
 

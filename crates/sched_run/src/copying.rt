@@ -3,7 +3,7 @@ ghost use Rattle.copy_model.specs.Volume.{file_at};
 ghost use Rattle.copy_model.specs.Job.{size_of, has_ended, unlanded};
 ghost use Rattle.copy_job.specs.Log.{next_chunk, IsInside};
 ghost use Rattle.plain_machine.specs.Machine as machine;
-ghost use Rattle.sched_run.specs.Copy.{copying_of, state_of, whole_plan, new_copying, CanWork};
+ghost use Rattle.sched_run.specs.Copy.{copying_of, state_of, whole_plan, new_copying, CanWork, StillWorks};
 ghost use Rattle.sched_run.specs.Running.{IsStep};
 
 use block_file::{PlainVolume, TooFar};
@@ -48,6 +48,7 @@ fn sizing(source_file: u32, plan: Plan, size: u64, capacity: u64) -> Result<u64,
     ensures sizing { result ≡ machine.sizing (whole_plan source_file plan) size capacity }
     ensures reads { IfOk result (λ len. plan.from + len ≤ size) }
     ensures fits { IfOk result (λ len. plan.to + len ≤ capacity) }
+    ensures lands { IfOk result (λ len. plan.to + len < 2 ^ 64) }
 {
     match plan.from.checked_add(plan.count) {
         Some(end) if end <= size => {}
@@ -111,10 +112,11 @@ impl Copying {
     ) -> Mem<Vec<Line>>
         requires can { CanWork source.now dest.old self.old }
         requires worn { dest.old.writes < 2 ^ 32 - 1 }
-        ensures { IfOk result (λ lines. IsStep
+        ensures step { IfOk result (λ lines. IsStep
             (machine.works (state_of source.now dest.old self.old) (Some (copying_of self.old)))
             (state_of source.now dest.new self.new)
             lines.items) }
+        ensures still { StillWorks source.now dest.old dest.new self.new }
     {
         if self.job.is_ended() {
             return Ok(Vec::new(alloc));
@@ -136,11 +138,12 @@ impl Copying {
         requires worn { dest.old.writes < 2 ^ 32 - 1 }
         requires not_sized { size_of self.old.job.entries ≡ None }
         requires running { has_ended self.old.job.entries ≡ false }
-        ensures { IfOk result (λ lines. IsStep
+        ensures step { IfOk result (λ lines. IsStep
             (machine.sizes (state_of source.now dest.old self.old) (copying_of self.old)
-                (machine.sizing (copying_of self.old).plan (length (file_at source.now self.old.source_file).now) dest.old.capacity))
+            (machine.sizing (copying_of self.old).plan (length (file_at source.now self.old.source_file).now) dest.old.capacity))
             (state_of source.now dest.new self.new)
             lines.items) }
+        ensures still { StillWorks source.now dest.old dest.new self.new }
     {
         let size = source.file(self.source_file).size;
         match sizing(self.source_file, self.job.plan(), size, dest.capacity()) {
@@ -175,10 +178,12 @@ impl Copying {
         requires running { has_ended self.old.job.entries ≡ false }
         requires reads { self.old.job.plan.from + len < 2 ^ 64 }
         requires fits { self.old.job.plan.to + len ≤ dest.old.capacity }
-        ensures { IfOk result (λ lines. IsStep
+        requires lands { self.old.job.plan.to + len < 2 ^ 64 }
+        ensures step { IfOk result (λ lines. IsStep
             (machine.moves_sized (state_of source.now dest.old self.old) (copying_of self.old) len)
             (state_of source.now dest.new self.new)
             lines.items) }
+        ensures still { StillWorks source.now dest.old dest.new self.new }
     {
         let mut lines = one_line(
             alloc,
@@ -205,10 +210,11 @@ impl Copying {
         requires worn { dest.old.writes < 2 ^ 32 - 1 }
         requires sized { size_of self.old.job.entries ≡ Some total }
         requires running { has_ended self.old.job.entries ≡ false }
-        ensures { IfOk result (λ lines. IsStep
+        ensures step { IfOk result (λ lines. IsStep
             (machine.moves (state_of source.now dest.old self.old) (copying_of self.old) total (unlanded self.old.job.entries total))
             (state_of source.now dest.new self.new)
             lines.items) }
+        ensures still { StillWorks source.now dest.old dest.new self.new }
     {
         match self.job.unlanded() {
             Some(chunk) => self.land(alloc, source, dest, chunk, total),
@@ -231,10 +237,11 @@ impl Copying {
         requires running { has_ended self.old.job.entries ≡ false }
         requires next { next_chunk self.old.job.entries ≡ Some chunk }
         requires inside { IsInside self.old.job.plan self.old.job.entries chunk }
-        ensures { IfOk result (λ lines. IsStep
+        ensures step { IfOk result (λ lines. IsStep
             (machine.moves (state_of source.now dest.old self.old) (copying_of self.old) total (Some chunk.off))
             (state_of source.now dest.new self.new)
             lines.items) }
+        ensures still { StillWorks source.now dest.old dest.new self.new }
     {
         let plan = self.job.plan();
         let lines = one_line(
@@ -267,10 +274,11 @@ impl Copying {
         requires sized { size_of self.old.job.entries ≡ Some total }
         requires running { has_ended self.old.job.entries ≡ false }
         requires landed { next_chunk self.old.job.entries ≡ None }
-        ensures { IfOk result (λ lines. IsStep
+        ensures step { IfOk result (λ lines. IsStep
             (machine.moves (state_of source.now dest.old self.old) (copying_of self.old) total None)
             (state_of source.now dest.new self.new)
             lines.items) }
+        ensures still { StillWorks source.now dest.old dest.new self.new }
     {
         let committed = Note::Committed {
             job: job_name(dest),

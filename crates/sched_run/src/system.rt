@@ -27,6 +27,7 @@ pub enum Ran {
 
 /// The tags that name the two servers' volumes.
 const SOURCE_TAG: u64 = 1;
+
 const DEST_TAG: u64 = 2;
 
 /// The two servers and the client of a run, over volumes of plain byte lists.
@@ -151,13 +152,7 @@ impl System {
     }
 
     /// The client asks for a copy.
-    fn ask(
-        &mut self,
-        alloc: Global,
-        next: Context,
-        copy: u8,
-        spec: CopySpec,
-    ) -> Mem<Vec<Line>>
+    fn ask(&mut self, alloc: Global, next: Context, copy: u8, spec: CopySpec) -> Mem<Vec<Line>>
         requires admitted { IsTrue (admits self.old.context (Event.Copy copy spec)) }
         requires next_is { next ≡ after self.old.context (Event.Copy copy spec) }
         ensures { IfOk result (λ lines. IsDone self.old self.new (Event.Copy copy spec) lines.items) }
@@ -192,16 +187,10 @@ impl System {
         requires next_is { next ≡ after self.old.context Event.Work }
         ensures { IfOk result (λ lines. IsDone self.old self.new Event.Work lines.items) }
     {
+        self.context = next;
         match (&self.source, &mut self.dest, &mut self.copy) {
-            (Some(source), Some(dest), Some(copy)) => {
-                let lines = copy.work(alloc, source, dest)?;
-                self.context = next;
-                Ok(lines)
-            }
-            _ => {
-                self.context = next;
-                Ok(Vec::new(alloc))
-            }
+            (Some(source), Some(dest), Some(copy)) => copy.work(alloc, source, dest),
+            _ => Ok(Vec::new(alloc)),
         }
     }
 
@@ -240,7 +229,6 @@ impl System {
     }
 }
 
-
 impl System {
     ghost use Rattle.std.specs.Prelude.{◌≡◌, ◌≤◌, IfOk, OnErr};
     ghost use Rattle.rpc_msg.specs.Sink.{AppendsFront};
@@ -248,12 +236,7 @@ impl System {
     ghost use Rattle.sched_run.specs.Run.{run_text, RanIs, RanHasCause};
 
     /// Carries out a schedule and puts its transcript, the lines of each event as soon as it is done.
-    pub fn run<K: Sink>(
-        &mut self,
-        alloc: Global,
-        schedule: &Schedule,
-        out: &mut K,
-    ) -> Mem<Ran>
+    pub fn run<K: Sink>(&mut self, alloc: Global, schedule: &Schedule, out: &mut K) -> Mem<Ran>
         requires { self.old ≡ at_rest }
         ensures ran { IfOk result (RanIs (K.taken out.old) (K.taken out.new) (run_text schedule.now)) }
         ensures err { OnErr result (AppendsFront (K.taken out.old) (K.taken out.new) (run_text schedule.now)) }
@@ -294,13 +277,15 @@ mod tests {
 
     #[test]
     fn copies_ten_bytes(rt: HostRuntime) -> Result<(), Fail> {
-        let text = b"volume s 1 1\nvolume d 1 1\nwrite s 1 0 30313233343536373839\ncopy 1 1 0 1 0 10 c\nwork 1\nstatus 1\nwork 1\npeek d 1 0 10\n";
+        let text =
+            b"volume s 1 1\nvolume d 1 1\nwrite s 1 0 30313233343536373839\ncopy 1 1 0 1 0 10 c\nwork 1\nstatus 1\nwork 1\npeek d 1 0 10\n";
         let schedule = Schedule::parse(rt.alloc(), text)?.ok().ok_or("a schedule")?;
         let mut out = MemSink::new(rt.alloc(), Vec::new(rt.alloc()));
         let mut system = System::new();
         let ran = system.run(rt.alloc(), &schedule, &mut out)?;
         assert_eq!(rt; ran, Ran::Whole);
-        let want = b"written s 1 10\naccepted 1.1 1 0 10\nsized 1.1 10\nlanded 1.1 0 10\ncopied 1 10\ncommitted 1.1\nstable 1\nbytes d 1 0 30313233343536373839\nend 0\n";
+        let want =
+            b"written s 1 10\naccepted 1.1 1 0 10\nsized 1.1 10\nlanded 1.1 0 10\ncopied 1 10\ncommitted 1.1\nstable 1\nbytes d 1 0 30313233343536373839\nend 0\n";
         assert_eq!(rt; out.bytes(), want.as_slice());
         Ok(())
     }
