@@ -5,7 +5,7 @@ use Rattle.copy_model.specs.Promise.{IsKept, IsStopped}
 use Rattle.plain_machine.specs.History.{history}
 use Rattle.sched_run.specs.Run.{run_text}
 use Rattle.sched_text.specs.declared.event.Event.{Event}
-use Rattle.sched_text.specs.Schedule.{schedule_of}
+use Rattle.sched_text.specs.ScheduleText.{schedule_of}
 use Rattle.nfscopy.specs.declared.status.Status.{Status}
 use Rattle.nfscopy.specs.declared.status.Status.TheVariants.{Done, Refused}
 use Rattle.nfscopy.specs.Notice.{too_much_text, bad_line_text}
@@ -18,16 +18,20 @@ pub record Due : Type 0 where
 abbrev pub most_bytes : ℕ
 most_bytes = 16777216
 
+-- an input that is refused is owed one line
+abbrev pub refused : List ℕ → Due
+refused line = record { status = Refused; bytes = line }
+
 -- for what was read as a schedule, its whole transcript; else its first bad line
 abbrev pub due_schedule : Result (List Event) ℕ → Due
 due_schedule (Ok events) = record { status = Done; bytes = run_text events }
-due_schedule (Err line) = record { status = Refused; bytes = bad_line_text line }
+due_schedule (Err line) = refused (bad_line_text line)
 
 -- for an input; one that passes the limit isn't read as a schedule
 unfoldable pub due_text : List ℕ → Due
 due_text text =
     if nat_lt most_bytes (length text)
-    then record { status = Refused; bytes = too_much_text }
+    then refused too_much_text
     else due_schedule (schedule_of text)
 
 -- the run of what was read as a schedule is kept and stopped

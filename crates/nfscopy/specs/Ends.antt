@@ -23,32 +23,32 @@ pub record Outside : Type 0 where
 abbrev pub outside : Option (List ℕ) → Option (List ℕ) → ℕ → ℕ → Outside
 outside left taken reads writes = record { left = left; taken = taken; reads = reads; writes = writes }
 
--- What was put of what was due: all of it, under the status that was due; or a front of it, where the
--- sink's count of faults rose, or for want of memory.
-abbrev pub Puts : Outside → Outside → Due → Status → Type 0
-Puts before now due Done = (due.status ≡ Done) × Appends before.taken now.taken due.bytes
-Puts before now due Usage = (due.status ≡ Usage) × Appends before.taken now.taken due.bytes
-Puts before now due Refused = (due.status ≡ Refused) × Appends before.taken now.taken due.bytes
-Puts before now due ReadFault = ⊥
-Puts before now due WriteFault = Rose before.writes now.writes × AppendsFront before.taken now.taken due.bytes
-Puts before now due NoMemory = AppendsFront before.taken now.taken due.bytes
+-- What was put of what was due, by what the sink took before and now and by its counts of faults then: all
+-- of it, under the status that was due; or a front of it, where the count rose, or for want of memory.
+abbrev pub Puts : Option (List ℕ) → Option (List ℕ) → ℕ → ℕ → Due → Status → Type 0
+Puts old new before now due Done = (due.status ≡ Done) × Appends old new due.bytes
+Puts old new before now due Usage = (due.status ≡ Usage) × Appends old new due.bytes
+Puts old new before now due Refused = (due.status ≡ Refused) × Appends old new due.bytes
+Puts old new before now due ReadFault = ⊥
+Puts old new before now due WriteFault = Rose before now × AppendsFront old new due.bytes
+Puts old new before now due NoMemory = AppendsFront old new due.bytes
 
 -- words of no command: the one line `usage` is due
 abbrev pub usage_due : Due
 usage_due = record { status = Usage; bytes = usage_text }
 
 -- and no memory is taken
-abbrev pub UsageEnds : Outside → Outside → Status → Type 0
-UsageEnds before now Done = ⊥
-UsageEnds before now Usage = Puts before now usage_due Usage
-UsageEnds before now Refused = ⊥
-UsageEnds before now ReadFault = ⊥
-UsageEnds before now WriteFault = Puts before now usage_due WriteFault
-UsageEnds before now NoMemory = ⊥
+abbrev pub UsagePuts : Option (List ℕ) → Option (List ℕ) → ℕ → ℕ → Status → Type 0
+UsagePuts old new before now Done = ⊥
+UsagePuts old new before now Usage = Puts old new before now usage_due Usage
+UsagePuts old new before now Refused = ⊥
+UsagePuts old new before now ReadFault = ⊥
+UsagePuts old new before now WriteFault = Puts old new before now usage_due WriteFault
+UsagePuts old new before now NoMemory = ⊥
 
 -- what was put of what is due for an input, whose run keeps the promise
 pub record Answers (before now : Outside) (status : Status) (text : List ℕ) : Type 0 where
-  pub puts : Puts before now (due_text text) status
+  pub puts : Puts before.taken now.taken before.writes now.writes (due_text text) status
   pub promise : Promises text
 
 -- How `run` ends. With status 0 all of the input was read. With 3 the source's count of faults rose, and
@@ -63,7 +63,7 @@ RunEnds before now NoMemory = IfSome before.left (Answers before now NoMemory)
 
 -- how the program ends for its words, from what was outside before to what is outside then
 abbrev pub EndsBy : Option Command → Outside → Outside → Status → Type 0
-EndsBy None before now status = UsageEnds before now status
+EndsBy None before now status = UsagePuts before.taken now.taken before.writes now.writes status
 EndsBy (Some Run) before now status = RunEnds before now status
 
 -- The exit status is that of an end, and the counts of faults never fell.
