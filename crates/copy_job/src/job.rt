@@ -79,7 +79,7 @@ impl Job {
         requires sized { IsSome (size_of self.now.entries) }
         requires running { has_ended self.now.entries ≡ false }
         ensures next { result ≡ next_chunk self.now.entries }
-        ensures inside { IfSome result (λ chunk. IsInside self.now.plan chunk) }
+        ensures inside { IfSome result (λ chunk. IsInside self.now.plan self.now.entries chunk) }
     {
         let rest = self.len.unwrap() - self.landed;
         if rest == 0 {

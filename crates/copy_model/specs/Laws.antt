@@ -1,8 +1,8 @@
 -- Laws of single steps. A run whose every step obeys them keeps and stops its copies: the machine below
 -- the promise proves these and nothing else. Own definitions.
 use Rattle.std.specs.Prelude.{◌≡◌, ℕ, suc, ◌+◌, ◌<◌, ◌≤◌, Bool, true, false, ◌⊎◌}
-use Rattle.copy_model.specs.Moment.{Dest, Copy, Moment, History}
-use Rattle.copy_model.specs.Promise.{InRange, IsAcceptedBy, source_byte, WritesTo, LandsOf, LandsAt, IsCrash, Reaches, Shows, IsAlike}
+use Rattle.copy_model.specs.Moment.{Copy, Moment, History}
+use Rattle.copy_model.specs.Promise.{InRange, IsAcceptedBy, IsCompletedBy, HasExtent, source_byte, LandsOf, LandsAt, IsCrash, Reaches, Shows, IsAlike}
 
 -- How far a copy is, which no promise speaks of: which bytes of its range have landed, whether it may
 -- still land, whether the landed bytes stand (no crash of the destination since), and whether a commit
@@ -37,7 +37,7 @@ pub record CopyLaws (before now : Copy) (earlier later : Progress) : Type 0 wher
 
 -- What a landing owes for each byte: the copy was live, the byte is in its range and in that of no copy
 -- accepted later, and it is the source's byte at a moment since the copy's acceptance.
-pub record LandingLaws (h : History) (progress : ℕ → ℕ → Progress) (k j place : ℕ) : Type 0 where
+pub record LandingLaws (h : History) (k j place : ℕ) : Type 0 where
   pub within : InRange ((h (suc k)).copy j) place
   pub read : ℕ
   pub in_time : read ≤ suc k
@@ -69,7 +69,7 @@ pub record StepLaws (h : History) (progress : ℕ → ℕ → Progress) (k : ℕ
       ⊎ (((progress k j).landed q ≡ true) × (LandsAt (h (suc k)).did j ((h (suc k)).copy j).plan (((h (suc k)).copy j).plan.to + q) → ⊥))
   -- only a live copy lands
   pub live : (j : ℕ) → LandsOf (h (suc k)).did j → IsAcceptedBy h j k × ((progress k j).live ≡ true)
-  pub lands : (j place : ℕ) → LandsAt (h (suc k)).did j ((h (suc k)).copy j).plan place → LandingLaws h progress k j place
+  pub lands : (j place : ℕ) → LandsAt (h (suc k)).did j ((h (suc k)).copy j).plan place → LandingLaws h k j place
   pub settles : (j : ℕ) → (progress k j).durable ≡ false → (progress (suc k) j).durable ≡ true → SettlingLaws h progress k j
   -- a byte that the step doesn't reach stays, but for a crash
   pub quiet : (file place : ℕ) → (Reaches (h (suc k)) file place → ⊥) → (IsCrash (h (suc k)).did → ⊥)
@@ -94,6 +94,8 @@ pub record IsLawfulRun (h : History) (progress : ℕ → ℕ → Progress) : Typ
   pub start : StartLaws (h 0)
   pub moments : (k : ℕ) → MomentLaws (h k) (progress k)
   pub steps : (k : ℕ) → StepLaws h progress k
+  -- what is completed was copied in full
+  pub extent : (j k : ℕ) → IsCompletedBy h j k → HasExtent h j ((h k).copy j)
   -- one change attribute, one contents
   pub same_change : (i k file place : ℕ) → (h i).source.broken ≡ false → (h k).source.broken ≡ false
       → (h i).source.change file ≡ (h k).source.change file → (h i).source.now file place ≡ (h k).source.now file place

@@ -3,3 +3,4 @@ pub mod Job
 pub mod Moment
 pub mod Promise
 pub mod Laws
+pub mod Examples

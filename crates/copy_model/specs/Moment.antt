@@ -1,13 +1,14 @@
 -- What is seen of a run between two steps. Bytes are seen one at a time, as functions of a file's
 -- number and a place, so that nothing here speaks of lists, blocks or caches.
-use Rattle.std.specs.Prelude.{◌≡◌, ℕ, ◌+◌, ◌<◌, ◌≤◌, Bool, Option, None, Some, ◌==◌, if◌then◌else◌}
+use Rattle.std.specs.Prelude.{ℕ, length, Bool, Option, None, Some, ◌==◌, if◌then◌else◌}
 use Rattle.copy_model.specs.Volume.{Volume, Doubt, file_at, byte_at}
 use Rattle.copy_model.specs.Job.{Plan}
 
--- The source's volume: the byte at a place of a file, the file's change attribute (RFC 8881 section
--- 5.8.1.4), and whether the volume is broken, so that it can't be read.
+-- The source's volume: the byte at a place of a file, the file's size in bytes and its change attribute
+-- (RFC 8881 sections 5.8.1.4 and 5.8.1.5), and whether the volume is broken, so that it can't be read.
 pub record Source : Type 0 where
   pub now : ℕ → ℕ → ℕ
+  pub size : ℕ → ℕ
   pub change : ℕ → ℕ
   pub broken : Bool
 
@@ -57,6 +58,7 @@ abbrev pub seen_source : Volume → Source
 seen_source v =
     record {
       now = λ file place. byte_at (file_at v file).now place;
+      size = λ file. length (file_at v file).now;
       change = λ file. (file_at v file).change;
       broken = v.broken;
     }

@@ -1,6 +1,6 @@
 -- The promise: what holds of every run, whatever comes. Read this file to know what nfscopy is for.
 -- Own definitions, in the words of RFC 7862 section 4 (inter-server copy) and section 15.2 (COPY).
-use Rattle.std.specs.Prelude.{◌≡◌, ℕ, suc, ◌+◌, ◌-◌, ◌<◌, ◌≤◌, Bool, true, false, Option, Some, ◌⊎◌}
+use Rattle.std.specs.Prelude.{◌≡◌, ℕ, suc, ◌+◌, ◌-◌, ◌<◌, ◌≤◌, true, false, Some, ◌⊎◌}
 use Rattle.copy_model.specs.Job.{Plan}
 use Rattle.copy_model.specs.Moment.{Dest, Copy, Did, Rested, Wrote, Landed, Crashed, Moment, History}
 
@@ -103,6 +103,20 @@ pub record IsSettled (h : History) (j : ℕ) (plan : Plan) (s place : ℕ) : Typ
   pub stays : (k : ℕ) → s ≤ k → (IsTouched h j plan place k → ⊥) → (x : ℕ) → Shows (h k).dest plan.file place x → x ≡ value
   pub exact : IsStill h j plan → (i : ℕ) → IsDuring h j i → (h i).source.broken ≡ false → source_byte (h i) plan place ≡ value
 
+-- The copied range goes to the end that the source file had at a moment between acceptance and completion
+-- at which the source's volume could be read.
+pub record GoesToEnd (h : History) (j : ℕ) (copy : Copy) : Type 0 where
+  pub moment : ℕ
+  pub during : IsDuring h j moment
+  pub readable : (h moment).source.broken ≡ false
+  pub end_is : copy.plan.from + copy.len ≡ (h moment).source.size copy.plan.source_file
+
+-- The range of a copy is the one that was asked for: so many bytes, or for a count of 0 all to the end of
+-- the source file.
+pub record HasExtent (h : History) (j : ℕ) (copy : Copy) : Type 0 where
+  pub counted : 0 < copy.plan.count → copy.len ≡ copy.plan.count
+  pub to_end : copy.plan.count ≡ 0 → GoesToEnd h j copy
+
 -- The destination's byte is what it would be had no chunk ever landed. A landing that failed breaks
 -- the destination alone.
 pub record IsAlike (d bare : Dest) (file place : ℕ) : Type 0 where
@@ -116,10 +130,12 @@ abbrev pub IsOutside : History → ℕ → ℕ → ℕ → Type 0
 IsOutside h k file place =
     (j : ℕ) → IsAcceptedBy h j k → ((h k).copy j).plan.file ≡ file → InRange ((h k).copy j) place → ⊥
 
--- A run keeps its copies. stable: each byte of a copy that was reported as stable is settled, if it is
--- untouched at that moment or any later one. others: a byte in no range is unmoved by copies. zeros: a
--- byte in no range that no WRITE reached is still the zero that it was formatted with.
+-- A run keeps its copies. whole: a copy that was reported as stable is completed, and its range is the one
+-- that was asked for. stable: each byte of it is settled, if it is untouched then or at any later moment.
+-- others: a byte in no range is unmoved by copies. zeros: a byte in no range that no WRITE reached is still
+-- the zero that it was formatted with.
 pub record IsKept (h : History) : Type 0 where
+  pub whole : (j s : ℕ) → IsStableBy h j s → IsCompletedBy h j s × HasExtent h j ((h s).copy j)
   pub stable : (j s k place : ℕ) → IsStableBy h j s → InRange ((h s).copy j) place → s ≤ k
       → (IsTouched h j ((h s).copy j).plan place k → ⊥) → IsSettled h j ((h s).copy j).plan s place
   pub others : (k file place : ℕ) → IsOutside h k file place → IsAlike (h k).dest (h k).bare file place

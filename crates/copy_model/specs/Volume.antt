@@ -68,7 +68,8 @@ change_of boot n = boot * 2 ^ 32 + n
 abbrev pub written : File → ℕ → List ℕ → ℕ → File
 written f off piece change = record f { now = with_bytes_at f.now off piece; change = change }
 
--- a write. One of no bytes changes nothing
+-- A write that the volume takes: whoever writes tests the capacity, and that the volume is not broken. One
+-- of no bytes changes nothing.
 abbrev pub write : Volume → ℕ → ℕ → List ℕ → Volume
 write v file off [] = v
 write v file off (b ∷ bs) =

@@ -9,5 +9,9 @@
 #![tactic(auto)]
 
 mod promise;
+mod sanity;
+mod volume;
 
 pub use promise::lawful_runs;
+pub use sanity::{crash_leavings, kept_example, refused_examples};
+pub use volume::{recovered_files, written_bytes, written_files};

@@ -9,6 +9,8 @@ mod limits;
 mod note;
 mod side;
 mod status;
+#[cfg(test)]
+mod tests;
 
 pub use job::{JobName, Stop};
 pub use limits::{BLOCK_SIZE, CHUNK_SIZE, MOST_BLOCKS, MOST_FILES};

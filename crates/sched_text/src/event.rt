@@ -1,3 +1,6 @@
+ghost use Rattle.sched_text.specs.Admission.{is_between, is_within};
+ghost use Rattle.std.specs.Prelude.{◌≡◌};
+
 use nfs_base::Side;
 use wire_xdr::Octets;
 
@@ -53,4 +56,40 @@ pub enum Event {
         off: u64,
         len: u8,
     },
+}
+
+impl Event {
+    /// Whether it keeps the limits that stand in its own line.
+    pub(crate) fn is_within(&self) -> bool
+        ensures { result ≡ is_within self.now }
+    {
+        match self {
+            Event::Volume { files, blocks, .. } => {
+                is_between(1, 64, u64::from(*files))
+                    && is_between(1, 16_384, u64::from(*blocks))
+                    && u64::from(*files) * u64::from(*blocks) <= 16_384
+            }
+            Event::Write { off, bytes, .. } => {
+                let len = bytes.len() as u64;
+                is_between(1, 65_536, len) && off.checked_add(len).is_some()
+            }
+            Event::Copy { copy, .. } | Event::Status { copy } => is_between(
+                1,
+                15,
+                u64::from(*copy),
+            ),
+            Event::Work => true,
+            Event::Peek { off, len, .. } => {
+                let len = u64::from(*len);
+                is_between(1, 64, len) && off.checked_add(len).is_some()
+            }
+        }
+    }
+}
+
+/// Whether a number lies between two bounds, both with it.
+fn is_between(low: u64, high: u64, n: u64) -> bool
+    ensures { result ≡ is_between low high n }
+{
+    low <= n && n <= high
 }

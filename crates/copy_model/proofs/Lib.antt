@@ -1,0 +1,9 @@
+mod Later
+mod Untouched
+mod Settled
+mod Elsewhere
+pub mod Bytes
+mod Runs
+mod GoodRun
+mod RefusedRuns
+mod Leavings

@@ -1,0 +1,9 @@
+-- The commands, each a fixed list of words. Own format.
+use Rattle.std.specs.Prelude.{ℕ, Option, None, Some, List, [], ◌∷◌, ◌==◌, codes, if◌then◌else◌}
+use Rattle.nfscopy.specs.declared.command.Command.{Command}
+use Rattle.nfscopy.specs.declared.command.Command.TheVariants.{Run}
+
+abbrev pub command_of : List (List ℕ) → Option Command
+command_of [] = None
+command_of (word ∷ []) = if word == codes "run" then Some Run else None
+command_of (word ∷ next ∷ words) = None

@@ -1,0 +1,75 @@
+-- How each command ends: for each status what was read and put, and why. The clause of the top call
+-- cites `Ends` and nothing else.
+use Rattle.std.specs.Prelude.{◌≡◌, ℕ, ◌≤◌, Option, None, Some, List, IfSome}
+use Rattle.std.specs.Io.KnownBytes.{Keeps, Appends, IsAtEnd}
+use Rattle.outcome.specs.Causes.{Rose}
+use Rattle.rpc_msg.specs.Sink.{AppendsFront}
+use Rattle.nfscopy.specs.declared.status.Status.{Status}
+use Rattle.nfscopy.specs.declared.status.Status.TheVariants.{Done, Usage, Refused, ReadFault, WriteFault, NoMemory}
+use Rattle.nfscopy.specs.declared.command.Command.{Command}
+use Rattle.nfscopy.specs.declared.command.Command.TheVariants.{Run}
+use Rattle.nfscopy.specs.Status.{code_of}
+use Rattle.nfscopy.specs.Notice.{usage_text}
+use Rattle.nfscopy.specs.Due.{Due, due_text, Promises}
+
+-- What is known of the outside at a moment: the bytes that the source has left and those that the sink
+-- took, where they tell them, and their counts of faults.
+pub record Outside : Type 0 where
+  pub left : Option (List ℕ)
+  pub taken : Option (List ℕ)
+  pub reads : ℕ
+  pub writes : ℕ
+
+abbrev pub outside : Option (List ℕ) → Option (List ℕ) → ℕ → ℕ → Outside
+outside left taken reads writes = record { left = left; taken = taken; reads = reads; writes = writes }
+
+-- What was put of what was due: all of it, under the status that was due; or a front of it, where the
+-- sink's count of faults rose, or for want of memory.
+abbrev pub Puts : Outside → Outside → Due → Status → Type 0
+Puts before now due Done = (due.status ≡ Done) × Appends before.taken now.taken due.bytes
+Puts before now due Usage = (due.status ≡ Usage) × Appends before.taken now.taken due.bytes
+Puts before now due Refused = (due.status ≡ Refused) × Appends before.taken now.taken due.bytes
+Puts before now due ReadFault = ⊥
+Puts before now due WriteFault = Rose before.writes now.writes × AppendsFront before.taken now.taken due.bytes
+Puts before now due NoMemory = AppendsFront before.taken now.taken due.bytes
+
+-- words of no command: the one line `usage` is due
+abbrev pub usage_due : Due
+usage_due = record { status = Usage; bytes = usage_text }
+
+-- and no memory is taken
+abbrev pub UsageEnds : Outside → Outside → Status → Type 0
+UsageEnds before now Done = ⊥
+UsageEnds before now Usage = Puts before now usage_due Usage
+UsageEnds before now Refused = ⊥
+UsageEnds before now ReadFault = ⊥
+UsageEnds before now WriteFault = Puts before now usage_due WriteFault
+UsageEnds before now NoMemory = ⊥
+
+-- what was put of what is due for an input, whose run keeps the promise
+pub record Answers (before now : Outside) (status : Status) (text : List ℕ) : Type 0 where
+  pub puts : Puts before now (due_text text) status
+  pub promise : Promises text
+
+-- How `run` ends. With status 0 all of the input was read. With 3 the source's count of faults rose, and
+-- nothing was put.
+abbrev pub RunEnds : Outside → Outside → Status → Type 0
+RunEnds before now Done = IsAtEnd now.left × IfSome before.left (Answers before now Done)
+RunEnds before now Usage = ⊥
+RunEnds before now Refused = IfSome before.left (Answers before now Refused)
+RunEnds before now ReadFault = Rose before.reads now.reads × Keeps before.taken now.taken × IfSome before.left Promises
+RunEnds before now WriteFault = IfSome before.left (Answers before now WriteFault)
+RunEnds before now NoMemory = IfSome before.left (Answers before now NoMemory)
+
+-- how the program ends for its words, from what was outside before to what is outside then
+abbrev pub EndsBy : Option Command → Outside → Outside → Status → Type 0
+EndsBy None before now status = UsageEnds before now status
+EndsBy (Some Run) before now status = RunEnds before now status
+
+-- The exit status is that of an end, and the counts of faults never fell.
+pub record Ends (command : Option Command) (before now : Outside) (code : ℕ) : Type 0 where
+  pub status : Status
+  pub is : code ≡ code_of status
+  pub ends : EndsBy command before now status
+  pub reads : before.reads ≤ now.reads
+  pub writes : before.writes ≤ now.writes

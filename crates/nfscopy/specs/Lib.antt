@@ -1,0 +1,5 @@
+pub mod Status
+pub mod Command
+pub mod Notice
+pub mod Due
+pub mod Ends

@@ -1,0 +1,12 @@
+-- The lines that the program puts in place of a transcript. Own format.
+use Rattle.std.specs.Prelude.{ℕ, List, [], ◌∷◌, ◌++◌, codes, decimal}
+
+abbrev pub usage_text : List ℕ
+usage_text = codes "usage" ++ 10 ∷ []
+
+abbrev pub too_much_text : List ℕ
+too_much_text = codes "too much" ++ 10 ∷ []
+
+-- the first line that can't stand in a schedule
+abbrev pub bad_line_text : ℕ → List ℕ
+bad_line_text n = codes "bad line " ++ decimal n ++ 10 ∷ []

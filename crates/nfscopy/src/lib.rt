@@ -1,0 +1,16 @@
+//! The top call: all that the program does, over values that `main` makes real.
+//!
+//! The contract to read first is [`nfscopy`]: for each command and each status it says what was read,
+//! what was put, and why. `specs/Ends.antt` has the definitions; for `run` they name the transcript of
+//! the schedule and the promise that its history keeps (crate `copy_model`).
+#![tactic(auto)]
+
+mod command;
+mod notice;
+mod run;
+mod status;
+mod top;
+
+pub use command::Command;
+pub use status::Status;
+pub use top::nfscopy;

@@ -1,0 +1,33 @@
+ghost use Rattle.std.specs.Prelude.{◌≡◌};
+ghost use Rattle.nfscopy.specs.Status.{code_of};
+
+/// How the program ended. The numbers are its exit statuses.
+#[derive(Clone, Copy, Debug, PartialEq, Eq)]
+pub enum Status {
+    /// All of the input was read, and all lines were put.
+    Done = 0,
+
+    /// The words are of no command.
+    Usage = 1,
+
+    /// The input is no schedule, or passes its limit.
+    Refused = 2,
+
+    /// The source of the input counted a fault.
+    ReadFault = 3,
+
+    /// The sink of the output counted a fault.
+    WriteFault = 4,
+
+    /// Want of memory.
+    NoMemory = 5,
+}
+
+impl Status {
+    /// The program's exit status.
+    pub fn code(self) -> u8
+        ensures { result ≡ code_of self }
+    {
+        self as u8
+    }
+}

@@ -1,0 +1,17 @@
+mod Bytes
+mod Chunks
+mod Entries
+mod Progress
+mod Sound
+mod Schedule
+mod Steps
+mod Ready
+mod Landing
+mod Commit
+mod Volumes
+mod Shown
+mod Work
+mod Happens
+mod Sizing
+mod Whole
+mod Sizes

@@ -1,0 +1,34 @@
+-- The client's calls one by one: what each leaves and says. `plain_machine`'s steps are made of these.
+use Rattle.std.specs.Prelude.{ℕ, ◌+◌, ◌^◌, ◌-◌, ◌||◌, nat_lt, Option, None, Some, List, length, if◌then◌else◌}
+use Rattle.copy_model.specs.Volume.{Volume, write}
+use Rattle.copy_model.specs.Job.{has_ended, landed_bytes}
+use Rattle.nfs_base.specs.declared.side.Side.TheVariants.{Source}
+use Rattle.nfs_base.specs.declared.status.Status.{Status}
+use Rattle.nfs_base.specs.declared.note.Note.{Note}
+use Rattle.nfs_base.specs.declared.note.Note.TheVariants as note
+use Rattle.sched_text.specs.declared.event.CopySpec.{CopySpec}
+use Rattle.plain_machine.specs.Machine.{inval, fbig}
+use Rattle.sched_run.specs.declared.copying.Copying.{Copying}
+
+-- the source's volume after the client's write: as it was where the write is refused
+abbrev pub volume_written : Volume → ℕ → ℕ → List ℕ → Volume
+volume_written v file off bytes = if nat_lt v.capacity (off + length bytes) then v else write v file off bytes
+
+abbrev pub write_note : Volume → ℕ → ℕ → List ℕ → Note
+write_note v file off bytes =
+    if nat_lt v.capacity (off + length bytes)
+    then note.Refused Source file fbig
+    else note.Written Source file (length bytes)
+
+-- why a copy is refused, if it is
+abbrev pub refusal_of : CopySpec → ℕ → Option Status
+refusal_of spec capacity =
+    if nat_lt (2 ^ 64 - 1) (spec.from + spec.count) || nat_lt (2 ^ 64 - 1) (spec.to + spec.count)
+    then Some inval
+    else if nat_lt capacity (spec.to + spec.count) then Some fbig else None
+
+-- what a client learns that asks how far its copy is
+abbrev pub progress_note : ℕ → Option Copying → Note
+progress_note number None = note.Idle number
+progress_note number (Some c) =
+    if has_ended c.job.entries then note.Idle number else note.Copied number (landed_bytes c.job.entries)

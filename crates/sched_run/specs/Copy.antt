@@ -1,0 +1,55 @@
+-- The runner's copy and the machine's: the job at the destination, with what the client and the source
+-- know of it.
+use Rattle.std.specs.Prelude.{◌≡◌, ℕ, ◌+◌, ◌<◌, ◌≤◌, None, Some, [], length}
+use Rattle.copy_model.specs.Volume.{Volume}
+use Rattle.copy_model.specs.Job.{Plan, size_of}
+use Rattle.copy_job.specs.declared.plan.Plan.{Plan as JobPlan}
+use Rattle.sched_text.specs.declared.event.CopySpec.{CopySpec}
+use Rattle.sched_run.specs.declared.copying.Copying.{Copying}
+use Rattle.plain_machine.specs.Machine.{State}
+use Rattle.plain_machine.specs.Machine as machine
+
+-- the plan of a copy: the job's, with the file that it reads
+abbrev pub whole_plan : ℕ → JobPlan → Plan
+whole_plan source_file plan =
+    record {
+      source_file = source_file;
+      from = plan.from;
+      file = plan.file;
+      to = plan.to;
+      count = plan.count;
+      consecutive = plan.consecutive;
+    }
+
+abbrev pub copying_of : Copying → machine.Copying
+copying_of c =
+    record {
+      number = c.number;
+      plan = whole_plan c.source_file c.job.plan;
+      entries = c.job.entries;
+    }
+
+-- a copy that was just accepted
+abbrev pub new_copying : ℕ → CopySpec → Copying
+new_copying number spec =
+    record {
+      number = number;
+      source_file = spec.source_file;
+      job = record {
+        plan = record { file = spec.file; from = spec.from; to = spec.to; count = spec.count; consecutive = spec.consecutive };
+        entries = [];
+        cause = None;
+      };
+    }
+
+-- the machine's state while there is a copy
+abbrev pub state_of : Volume → Volume → Copying → State
+state_of source dest c = record { source = source; dest = dest; copy = Some (copying_of c) }
+
+-- The copy's files are there at both volumes, and its range, once it is sized, fits the destination.
+pub record CanWork (source dest : Volume) (c : Copying) : Type 0 where
+  pub reads_low : 1 ≤ c.source_file
+  pub reads : c.source_file < length source.files
+  pub lands_low : 1 ≤ c.job.plan.file
+  pub lands : c.job.plan.file < length dest.files
+  pub fits : (total : ℕ) → size_of c.job.entries ≡ Some total → c.job.plan.to + total ≤ dest.capacity

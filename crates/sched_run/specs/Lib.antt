@@ -1,0 +1,5 @@
+pub mod Running
+pub mod Copy
+pub mod System
+pub mod Run
+pub mod Client

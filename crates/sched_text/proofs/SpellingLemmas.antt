@@ -1,0 +1,285 @@
+-- Each event of a schedule has one spelling.
+use Rattle.std.proofs.Common.{◌≡◌, ℕ, ◌+◌, ◌/◌, ◌%◌, ◌^◌, ◌<◌, ◌≤◌, ◌⊎◌, inl, inr, ◌==◌, ◌&&◌, List, [], ◌∷◌, Option, None, Some, Bool, true, false, cond, All, refl, sym, ap, ◌∙◌, arith, codes, decimal, ltb}
+use Rattle.std.specs.List.{join_with_byte}
+use Rattle.std.specs.Str.{bytes_eq, all_ascii_digits}
+use Rattle.std.proofs.lemmas.Bool.{and_parts, and_from, lt-ltb, ltb-true, ne_eqb, leb-true, cond_both, cases_Bool}
+use Rattle.std.proofs.lemmas.List.Elements.{All-nil, All-cons}
+use Rattle.std.proofs.lemmas.List.Splits.{slice_split_none, slice_split_at, join_with_byte-slice_split}
+use Rattle.std.proofs.lemmas.Option.{option_and_then_some, same_Some}
+use Rattle.std.proofs.lemmas.Slice.Eq.{bytes_eq-Decides}
+use Rattle.nfs_base.specs.declared.side.Side.{Side}
+use Rattle.nfs_base.specs.declared.side.Side.TheVariants.{Source, Dest}
+use Rattle.nfs_base.specs.Text.{side_text}
+use Rattle.sched_text.specs.declared.event.CopySpec.{CopySpec}
+use Rattle.sched_text.specs.declared.event.Event.{Event}
+use Rattle.sched_text.specs.declared.event.Event.TheVariants.{Volume, Write, Copy, Work, Status, Peek}
+use Rattle.sched_text.specs.Admission.{is_within}
+use Rattle.sched_text.specs.LineText.{hex_digit, hex_text}
+use Rattle.sched_text.specs.Words.{words_of}
+use Rattle.sched_text.specs.Numerals.{number_of, number_below, bytes_of}
+use Rattle.sched_text.specs.Grammar.{side_of, consecutive_of, volume_of, write_of, copy_spec_of, copy_of, work_of, status_of, peek_of, event_of}
+use Rattle.sched_text.specs.Spelling.{consecutive_text, words_for, spelling, FitsSpec, FitsFields}
+use Rattle.sched_text.proofs.NumeralLemmas.{plain_digits, number_of-decimal, decimal-number_of, number_below-decimal, decimal-number_below}
+use Rattle.sched_text.proofs.HexLemmas.{bytes_of-hex_text, hex_text-bytes_of}
+
+-- whether no byte of a word is a space or a control character
+abbrev pub is_plain : List ℕ → Bool
+is_plain [] = true
+is_plain (b ∷ bs) = ltb 32 b && is_plain bs
+
+abbrev pub are_plain : List (List ℕ) → Bool
+are_plain [] = true
+are_plain (word ∷ words) = is_plain word && are_plain words
+
+pub lacks : (separator : ℕ) → separator ≤ 32 → (word : List ℕ) → is_plain word ≡ true → All (λ b. (b == separator) ≡ false) word
+lacks separator low [] plain = All-nil (λ b. (b == separator) ≡ false)
+lacks separator low (b ∷ word) plain =
+    let tests = and_parts (ltb 32 b) (is_plain word) plain in
+    let above : 32 < b = ltb-true 32 b tests.0 in
+    let other : b ≡ separator → ⊥ = λ same. omega arith in
+    All-cons (λ c. (c == separator) ≡ false) b word (ne_eqb b separator other) (lacks separator low word tests.1)
+
+-- the words of a line that is made of them
+words_of-joined : (first : List ℕ) (rest : List (List ℕ)) → are_plain (first ∷ rest) ≡ true → words_of (join_with_byte 32 (first ∷ rest)) ≡ first ∷ rest
+words_of-joined first [] plain = slice_split_none (λ b. b == 32) first (lacks 32 (omega arith) first (and_parts (is_plain first) true plain).0)
+words_of-joined first (next ∷ rest) plain =
+    let tests = and_parts (is_plain first) (are_plain (next ∷ rest)) plain in
+    slice_split_at (λ b. b == 32) first 32 (join_with_byte 32 (next ∷ rest)) (lacks 32 (omega arith) first tests.0) refl
+    ∙ ap (λ words. first ∷ words) (words_of-joined next rest tests.1)
+
+plain_ascii : (ds : List ℕ) → all_ascii_digits ds ≡ true → is_plain ds ≡ true
+plain_ascii [] digits = refl
+plain_ascii (c ∷ cs) digits =
+    let tests = and_parts _ _ digits in
+    let parts = and_parts _ _ tests.0 in
+    let low : 48 ≤ c = leb-true 48 c parts.0 in
+    and_from (ltb 32 c) (is_plain cs) (lt-ltb 32 c (omega arith)) (plain_ascii cs tests.1)
+
+plain_decimal : (n : ℕ) → n < 2 ^ 64 → is_plain (decimal n) ≡ true
+plain_decimal n small = plain_ascii (decimal n) (plain_digits n small)
+
+plain_digit : (v : ℕ) → ltb 32 (hex_digit v) ≡ true
+plain_digit v = lt-ltb 32 (hex_digit v) (cond_both (ltb v 10) (48 + v) (87 + v) (λ digit. 32 < digit) (λ _. omega arith) (λ _. omega arith))
+
+plain_hex : (bytes : List ℕ) → is_plain (hex_text bytes) ≡ true
+plain_hex [] = refl
+plain_hex (b ∷ bytes) = rw (plain_digit (b / 16), plain_digit (b % 16)) (plain_hex bytes)
+
+plain_side : (side : Side) → is_plain (side_text side) ≡ true
+plain_side Source = refl
+plain_side Dest = refl
+
+plain_consecutive : (consecutive : Bool) → is_plain (consecutive_text consecutive) ≡ true
+plain_consecutive true = refl
+plain_consecutive false = refl
+
+pub plain_words : (event : Event) → FitsFields event → are_plain (words_for event) ≡ true
+plain_words (Volume side files blocks) fits =
+    rw (plain_side side, plain_decimal files (omega (arith, fits.0)), plain_decimal blocks (omega (arith, fits.1))) refl
+plain_words (Write file off bytes) fits =
+    rw (plain_decimal file (omega (arith, fits.0)), plain_decimal off fits.1, plain_hex bytes) refl
+plain_words (Copy copy spec) fits =
+    rw (plain_decimal copy (omega (arith, fits.0)), plain_decimal spec.source_file (omega (arith, fits.1.source_file)), plain_decimal spec.from fits.1.from, plain_decimal spec.file (omega (arith, fits.1.file)), plain_decimal spec.to fits.1.to, plain_decimal spec.count fits.1.count, plain_consecutive spec.consecutive) refl
+plain_words Work fits = refl
+plain_words (Status copy) fits = rw (plain_decimal copy (omega (arith, fits))) refl
+plain_words (Peek side file off len) fits =
+    rw (plain_side side, plain_decimal file (omega (arith, fits.0)), plain_decimal off fits.1, plain_decimal len (omega (arith, fits.2))) refl
+
+side_of-text : (side : Side) → side_of (side_text side) ≡ Some side
+unfolding side_of
+side_of-text Source = refl
+side_of-text Dest = refl
+
+consecutive_of-text : (consecutive : Bool) → consecutive_of (consecutive_text consecutive) ≡ Some consecutive
+unfolding consecutive_of
+consecutive_of-text true = refl
+consecutive_of-text false = refl
+
+below_32 : (n : ℕ) → n < 2 ^ 32 → number_below (2 ^ 32) (decimal n) ≡ Some n
+below_32 n small = number_below-decimal (2 ^ 32) n small (omega arith)
+
+below_8 : (n : ℕ) → n < 2 ^ 8 → number_below (2 ^ 8) (decimal n) ≡ Some n
+below_8 n small = number_below-decimal (2 ^ 8) n small (omega arith)
+
+-- the words of an event read as it
+event_of-words_for : (event : Event) → FitsFields event → is_within event ≡ true → event_of (words_for event) ≡ Some event
+unfolding event_of volume_of write_of copy_of copy_spec_of work_of status_of peek_of
+event_of-words_for (Volume side files blocks) fits within = rw (side_of-text side, below_32 files fits.0, below_32 blocks fits.1) refl
+event_of-words_for (Write file off bytes) fits within =
+    rw (below_32 file fits.0, number_of-decimal off fits.1, bytes_of-hex_text bytes fits.2 (and_parts _ _ within).0) refl
+event_of-words_for (Copy copy spec) fits within =
+    rw (below_8 copy fits.0, below_32 spec.source_file fits.1.source_file, number_of-decimal spec.from fits.1.from, below_32 spec.file fits.1.file, number_of-decimal spec.to fits.1.to, number_of-decimal spec.count fits.1.count, consecutive_of-text spec.consecutive) refl
+event_of-words_for Work fits within = refl
+event_of-words_for (Status copy) fits within = rw (below_8 copy fits) refl
+event_of-words_for (Peek side file off len) fits within =
+    rw (side_of-text side, below_32 file fits.0, number_of-decimal off fits.1, below_8 len fits.2) refl
+
+no_words_for : (event : Event) → [] ≡ words_for event → ⊥
+no_words_for (Volume side files blocks) none = cc none
+no_words_for (Write file off bytes) none = cc none
+no_words_for (Copy copy spec) none = cc none
+no_words_for Work none = cc none
+no_words_for (Status copy) none = cc none
+no_words_for (Peek side file off len) none = cc none
+
+-- the line that spells an event reads as it
+pub reads_back : (event : Event) → FitsFields event → is_within event ≡ true → event_of (words_of (spelling event)) ≡ Some event
+reads_back event fits within =
+    let first_words : (words : List (List ℕ)) → words ≡ words_for event → are_plain words ≡ true → words_of (join_with_byte 32 words) ≡ words =
+    λ words. elim words as (λ ws. ws ≡ words_for event → are_plain ws ≡ true → words_of (join_with_byte 32 ws) ≡ ws) [
+      | [] ↦ λ none plain. absurd (no_words_for event none)
+      | first ∷ rest ↦ λ _ plain. words_of-joined first rest plain
+    ] in
+    ap event_of (first_words (words_for event) refl (plain_words event fits)) ∙ event_of-words_for event fits within
+
+-- a choice by a word, where it gives an event
+choice : {A : Type 0} (word text : List ℕ) (chosen other : Option A) (value : A) → cond (bytes_eq word text) chosen other ≡ Some value → ((word ≡ text) × (chosen ≡ Some value)) ⊎ (other ≡ Some value)
+choice word text chosen other value is =
+    elim (cases_Bool (bytes_eq word text)) [
+      | inl yes' ↦ inl ((bytes_eq-Decides word text).0 yes', rw yes' at is)
+      | inr no' ↦ inr (rw no' at is)
+    ]
+
+side-side_of : (word : List ℕ) (side : Side) → side_of word ≡ Some side → word ≡ side_text side
+unfolding side_of
+side-side_of word side is = elim (choice word (codes "s") (Some Source) (cond (bytes_eq word (codes "d")) (Some Dest) None) side is) [
+  | inl source ↦ rw (sym (same_Some _ _ source.1)) source.0
+  | inr other ↦ elim (choice word (codes "d") (Some Dest) None side other) [
+    | inl dest ↦ rw (sym (same_Some _ _ dest.1)) dest.0
+    | inr none ↦ absurd (cc none)
+  ]
+]
+
+consecutive-consecutive_of : (word : List ℕ) (consecutive : Bool) → consecutive_of word ≡ Some consecutive → word ≡ consecutive_text consecutive
+unfolding consecutive_of
+consecutive-consecutive_of word consecutive is = elim (choice word (codes "c") (Some true) (cond (bytes_eq word (codes "n")) (Some false) None) consecutive is) [
+  | inl yes' ↦ rw (sym (same_Some _ _ yes'.1)) yes'.0
+  | inr other ↦ elim (choice word (codes "n") (Some false) None consecutive other) [
+    | inl no' ↦ rw (sym (same_Some _ _ no'.1)) no'.0
+    | inr none ↦ absurd (cc none)
+  ]
+]
+
+-- these words spell the event, and its numbers fit their types
+abbrev Spells : List (List ℕ) → Event → Type 0
+Spells words event = (words ≡ words_for event) × FitsFields event
+
+volume_spells : (words : List (List ℕ)) (event : Event) → volume_of words ≡ Some event → Spells (codes "volume" ∷ words) event
+unfolding volume_of
+volume_spells (x ∷ f ∷ b ∷ []) event is =
+    option_and_then_some _ (side_of x) event is (λ side side_is after_side.
+    option_and_then_some _ (number_below (2 ^ 32) f) event after_side (λ files files_is after_files.
+    option_and_then_some _ (number_below (2 ^ 32) b) event after_files (λ blocks blocks_is whole.
+    let f_is = decimal-number_below (2 ^ 32) f files files_is in
+    let b_is = decimal-number_below (2 ^ 32) b blocks blocks_is in
+    let same : Volume side files blocks ≡ event = same_Some _ _ whole in
+    rw (sym same) (rw (side-side_of x side side_is, f_is.1, b_is.1) refl, (f_is.0, b_is.0)))))
+volume_spells words event is = absurd (cc is)
+
+write_spells : (words : List (List ℕ)) (event : Event) → write_of words ≡ Some event → Spells (codes "write" ∷ words) event
+unfolding write_of
+write_spells (x ∷ f ∷ o ∷ h ∷ []) event is =
+    elim (choice x (codes "s") _ None event is) [
+      | inl chosen ↦
+          option_and_then_some _ (number_below (2 ^ 32) f) event chosen.1 (λ file file_is after_file.
+          option_and_then_some _ (number_of o) event after_file (λ off off_is after_off.
+          option_and_then_some _ (bytes_of h) event after_off (λ bytes bytes_is whole.
+          let f_is = decimal-number_below (2 ^ 32) f file file_is in
+          let o_is = decimal-number_of o off off_is in
+          let h_is = hex_text-bytes_of h bytes bytes_is in
+          let same : Write file off bytes ≡ event = same_Some _ _ whole in
+          rw (sym same) (rw (chosen.0, f_is.1, o_is.1, h_is.2) refl, (f_is.0, o_is.0, h_is.1)))))
+      | inr none ↦ absurd (cc none)
+    ]
+write_spells words event is = absurd (cc is)
+
+copy_spec_spells : (words : List (List ℕ)) (spec : CopySpec) → copy_spec_of words ≡ Some spec → (words ≡ decimal spec.source_file ∷ decimal spec.from ∷ decimal spec.file ∷ decimal spec.to ∷ decimal spec.count ∷ consecutive_text spec.consecutive ∷ []) × FitsSpec spec
+unfolding copy_spec_of
+copy_spec_spells (s ∷ o ∷ d ∷ t ∷ n ∷ c ∷ []) spec is =
+    option_and_then_some _ (number_below (2 ^ 32) s) spec is (λ source_file source_file_is after_source_file.
+    option_and_then_some _ (number_of o) spec after_source_file (λ from from_is after_from.
+    option_and_then_some _ (number_below (2 ^ 32) d) spec after_from (λ file file_is after_file.
+    option_and_then_some _ (number_of t) spec after_file (λ to to_is after_to.
+    option_and_then_some _ (number_of n) spec after_to (λ count count_is after_count.
+    option_and_then_some _ (consecutive_of c) spec after_count (λ consecutive consecutive_is whole.
+    let s_is = decimal-number_below (2 ^ 32) s source_file source_file_is in
+    let o_is = decimal-number_of o from from_is in
+    let d_is = decimal-number_below (2 ^ 32) d file file_is in
+    let t_is = decimal-number_of t to to_is in
+    let n_is = decimal-number_of n count count_is in
+    let same : ◌≡◌ {A = CopySpec} (record { source_file = source_file; from = from; file = file; to = to; count = count; consecutive = consecutive }) spec = same_Some _ _ whole in
+    rw (sym same) (
+      rw (s_is.1, o_is.1, d_is.1, t_is.1, n_is.1, consecutive-consecutive_of c consecutive consecutive_is) refl,
+      record { source_file = s_is.0; from = o_is.0; file = d_is.0; to = t_is.0; count = n_is.0 },
+    )))))))
+copy_spec_spells words spec is = absurd (cc is)
+
+copy_spells : (words : List (List ℕ)) (event : Event) → copy_of words ≡ Some event → Spells (codes "copy" ∷ words) event
+unfolding copy_of
+copy_spells [] event is = absurd (cc is)
+copy_spells (j ∷ words) event is =
+    option_and_then_some _ (number_below (2 ^ 8) j) event is (λ copy copy_is after_copy.
+    option_and_then_some _ (copy_spec_of words) event after_copy (λ spec spec_is whole.
+    let j_is = decimal-number_below (2 ^ 8) j copy copy_is in
+    let words_are = copy_spec_spells words spec spec_is in
+    let same : Copy copy spec ≡ event = same_Some _ _ whole in
+    rw (sym same) (rw (j_is.1, words_are.0) refl, (j_is.0, words_are.1))))
+
+work_spells : (words : List (List ℕ)) (event : Event) → work_of words ≡ Some event → Spells (codes "work" ∷ words) event
+unfolding work_of
+work_spells (w ∷ []) event is =
+    elim (choice w (codes "1") (Some Work) None event is) [
+      | inl chosen ↦ rw (sym (same_Some _ _ chosen.1)) (rw chosen.0 refl, tt)
+      | inr none ↦ absurd (cc none)
+    ]
+work_spells words event is = absurd (cc is)
+
+status_spells : (words : List (List ℕ)) (event : Event) → status_of words ≡ Some event → Spells (codes "status" ∷ words) event
+unfolding status_of
+status_spells (j ∷ []) event is =
+    option_and_then_some _ (number_below (2 ^ 8) j) event is (λ copy copy_is whole.
+    let j_is = decimal-number_below (2 ^ 8) j copy copy_is in
+    let same : Status copy ≡ event = same_Some _ _ whole in
+    rw (sym same) (rw j_is.1 refl, j_is.0))
+status_spells words event is = absurd (cc is)
+
+peek_spells : (words : List (List ℕ)) (event : Event) → peek_of words ≡ Some event → Spells (codes "peek" ∷ words) event
+unfolding peek_of
+peek_spells (x ∷ f ∷ o ∷ n ∷ []) event is =
+    option_and_then_some _ (side_of x) event is (λ side side_is after_side.
+    option_and_then_some _ (number_below (2 ^ 32) f) event after_side (λ file file_is after_file.
+    option_and_then_some _ (number_of o) event after_file (λ off off_is after_off.
+    option_and_then_some _ (number_below (2 ^ 8) n) event after_off (λ len len_is whole.
+    let f_is = decimal-number_below (2 ^ 32) f file file_is in
+    let o_is = decimal-number_of o off off_is in
+    let n_is = decimal-number_below (2 ^ 8) n len len_is in
+    let same : Peek side file off len ≡ event = same_Some _ _ whole in
+    rw (sym same) (rw (side-side_of x side side_is, f_is.1, o_is.1, n_is.1) refl, (f_is.0, o_is.0, n_is.0))))))
+peek_spells words event is = absurd (cc is)
+
+-- a kind of line, by its first word
+by_kind : (kind text : List ℕ) (words : List (List ℕ)) (chosen other : Option Event) (event : Event) → (chosen ≡ Some event → Spells (text ∷ words) event) → (other ≡ Some event → Spells (kind ∷ words) event) → cond (bytes_eq kind text) chosen other ≡ Some event → Spells (kind ∷ words) event
+by_kind kind text words chosen other event so else_so is =
+    elim (choice kind text chosen other event is) [
+      | inl found ↦ rw found.0 (so found.1)
+      | inr none ↦ else_so none
+    ]
+
+-- words that read as an event are its words
+pub words_spell : (words : List (List ℕ)) (event : Event) → event_of words ≡ Some event → Spells words event
+unfolding event_of
+words_spell [] event is = absurd (cc is)
+words_spell (kind ∷ words) event is =
+    by_kind kind (codes "volume") words _ _ event (volume_spells words event)
+    (by_kind kind (codes "write") words _ _ event (write_spells words event)
+    (by_kind kind (codes "copy") words _ _ event (copy_spells words event)
+    (by_kind kind (codes "work") words _ _ event (work_spells words event)
+    (by_kind kind (codes "status") words _ _ event (status_spells words event)
+    (by_kind kind (codes "peek") words _ _ event (peek_spells words event)
+    (λ none. absurd (cc none))))))) is
+
+-- a line that reads as an event is its spelling
+pub line_spells : (line : List ℕ) (event : Event) → event_of (words_of line) ≡ Some event → (line ≡ spelling event) × FitsFields event
+line_spells line event is =
+    let words = words_spell (words_of line) event is in
+    (sym (join_with_byte-slice_split 32 line) ∙ ap (join_with_byte 32) words.0, words.1)

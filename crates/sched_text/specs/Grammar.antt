@@ -1,0 +1,89 @@
+-- The grammar of a schedule's lines. Own format.
+use Rattle.std.specs.Prelude.{ℕ, ◌^◌, Bool, true, false, Option, None, Some, List, [], ◌∷◌, codes, if◌then◌else◌}
+use Rattle.std.specs.Str.{bytes_eq}
+use Rattle.nfs_base.specs.declared.side.Side.{Side}
+use Rattle.nfs_base.specs.declared.side.Side.TheVariants.{Source, Dest}
+use Rattle.sched_text.specs.declared.event.CopySpec.{CopySpec}
+use Rattle.sched_text.specs.declared.event.Event.{Event}
+use Rattle.sched_text.specs.declared.event.Event.TheVariants.{Volume, Write, Copy, Work, Status, Peek}
+use Rattle.sched_text.specs.Numerals.{◌>>=◌, number_of, number_below, bytes_of}
+
+-- `s` or `d`
+unfoldable pub side_of : List ℕ → Option Side
+side_of word = if bytes_eq word (codes "s") then Some Source else (if bytes_eq word (codes "d") then Some Dest else None)
+
+-- `c` where a copy has to be consecutive, else `n`
+unfoldable pub consecutive_of : List ℕ → Option Bool
+consecutive_of word = if bytes_eq word (codes "c") then Some true else (if bytes_eq word (codes "n") then Some false else None)
+
+-- `volume X FILES BLOCKS`, without its first word
+unfoldable pub volume_of : List (List ℕ) → Option Event
+volume_of (x ∷ f ∷ b ∷ []) = do
+  side ← side_of x
+  files ← number_below (2 ^ 32) f
+  blocks ← number_below (2 ^ 32) b
+  Some (Volume side files blocks)
+volume_of words = None
+
+-- `write s FILE OFF HEX`
+unfoldable pub write_of : List (List ℕ) → Option Event
+write_of (x ∷ f ∷ o ∷ h ∷ []) = if bytes_eq x (codes "s") then (do
+  file ← number_below (2 ^ 32) f
+  off ← number_of o
+  bytes ← bytes_of h
+  Some (Write file off bytes)) else None
+write_of words = None
+
+-- `SFILE SOFF DFILE DOFF COUNT c` or `n`
+unfoldable pub copy_spec_of : List (List ℕ) → Option CopySpec
+copy_spec_of (s ∷ o ∷ d ∷ t ∷ n ∷ c ∷ []) = do
+  source_file ← number_below (2 ^ 32) s
+  from ← number_of o
+  file ← number_below (2 ^ 32) d
+  to ← number_of t
+  count ← number_of n
+  consecutive ← consecutive_of c
+  Some (record { source_file = source_file; from = from; file = file; to = to; count = count; consecutive = consecutive })
+copy_spec_of words = None
+
+-- `copy J SFILE SOFF DFILE DOFF COUNT c` or `n`
+unfoldable pub copy_of : List (List ℕ) → Option Event
+copy_of (j ∷ words) = do
+  copy ← number_below (2 ^ 8) j
+  spec ← copy_spec_of words
+  Some (Copy copy spec)
+copy_of words = None
+
+-- `work 1`
+unfoldable pub work_of : List (List ℕ) → Option Event
+work_of (w ∷ []) = if bytes_eq w (codes "1") then Some Work else None
+work_of words = None
+
+-- `status J`
+unfoldable pub status_of : List (List ℕ) → Option Event
+status_of (j ∷ []) = do
+  copy ← number_below (2 ^ 8) j
+  Some (Status copy)
+status_of words = None
+
+-- `peek X FILE OFF LEN`
+unfoldable pub peek_of : List (List ℕ) → Option Event
+peek_of (x ∷ f ∷ o ∷ n ∷ []) = do
+  side ← side_of x
+  file ← number_below (2 ^ 32) f
+  off ← number_of o
+  len ← number_below (2 ^ 8) n
+  Some (Peek side file off len)
+peek_of words = None
+
+-- the event that the words of a line spell, by the first
+unfoldable pub event_of : List (List ℕ) → Option Event
+event_of [] = None
+event_of (kind ∷ words) =
+    if bytes_eq kind (codes "volume") then volume_of words
+    else (if bytes_eq kind (codes "write") then write_of words
+    else (if bytes_eq kind (codes "copy") then copy_of words
+    else (if bytes_eq kind (codes "work") then work_of words
+    else (if bytes_eq kind (codes "status") then status_of words
+    else (if bytes_eq kind (codes "peek") then peek_of words
+    else None)))))
