@@ -1,3 +1,5 @@
+ghost use Rattle.std.specs.Prelude.{Some, codes};
+
 use std::error::Error;
 use std::fmt;
 
@@ -16,6 +18,8 @@ pub struct FileInfo {
 pub struct TooFar;
 
 impl fmt::Display for TooFar {
+    ghost output = { λ _. Some (codes "the bytes end past the capacity of a file") };
+
     fn fmt<W: fmt::Write>(&self, f: &mut fmt::Formatter<W>) -> fmt::Result {
         f.write_str("the bytes end past the capacity of a file")
     }
