@@ -1,7 +1,8 @@
 #!/usr/bin/env python3
-"""Runs large schedules beside `cat` of the same bytes, and prints times, their ratio and the peak memory.
+"""Runs large schedules beside `cat` of as many bytes, and prints times, their ratio and the peak memory.
 
-Nothing here is a test: no time is compared with a bound.
+The bytes are those of the schedule; for the copy they are those of the file that is copied. Nothing here is
+a test: no time is compared with a bound.
 """
 
 import os
@@ -49,14 +50,16 @@ def timed(command, path):
 
 def main():
     subprocess.run([PROGRAM, "run"], stdin=subprocess.DEVNULL, stdout=subprocess.DEVNULL, check=True)
-    print(f"{'schedule':10} {'bytes':>10} {'seconds':>8} {'of cat':>8} {'peak KiB':>9}")
-    for name, text in (("peeks", peeks()), ("writes", writes()), ("copy", copy())):
-        with tempfile.NamedTemporaryFile() as schedule:
+    print(f"{'schedule':10} {'bytes':>10} {'cat':>8} {'nfscopy':>8} {'ratio':>7} {'peak KiB':>9}")
+    for name, text, size in (("peeks", peeks(), LIMIT), ("writes", writes(), LIMIT), ("copy", copy(), 64 << 20)):
+        with tempfile.NamedTemporaryFile() as schedule, tempfile.NamedTemporaryFile() as plain:
             schedule.write(text)
             schedule.flush()
-            base, _ = timed(["cat"], schedule.name)
+            plain.write(bytes(size))
+            plain.flush()
+            base, _ = timed(["cat"], plain.name)
             seconds, peak = timed([PROGRAM, "run"], schedule.name)
-        print(f"{name:10} {len(text):10} {seconds:8.3f} {seconds / base:8.1f} {peak:9}")
+        print(f"{name:10} {size:10} {base:8.3f} {seconds:8.3f} {seconds / base:7.1f} {peak:9}")
 
 
 if __name__ == "__main__":

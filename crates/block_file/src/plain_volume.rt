@@ -18,7 +18,6 @@ pub struct PlainVolume {
     capacity: u64,
     boot: u32,
     writes: u32,
-    tag: u64,
 }
 
 impl Model for PlainVolume {
@@ -34,8 +33,7 @@ impl Model for PlainVolume {
 
 impl PlainVolume {
     /// A volume of so many files, each of which holds up to `blocks` blocks, just formatted and opened.
-    /// `tag` names it.
-    pub fn new(alloc: Global, files: u32, blocks: u32, tag: u64) -> Mem<PlainVolume>
+    pub fn new(alloc: Global, files: u32, blocks: u32) -> Mem<PlainVolume>
         requires some_files { 1 ≤ files }
         requires few_files { files ≤ MOST_FILES }
         requires some_blocks { 1 ≤ blocks }
@@ -53,7 +51,6 @@ impl PlainVolume {
             capacity: u64::from(blocks) * BLOCK_SIZE,
             boot: 1,
             writes: 0,
-            tag,
         })
     }
 
@@ -138,11 +135,6 @@ impl PlainVolume {
     {
         self.boot
     }
-
-    /// The volume's name.
-    pub fn tag(&self) -> u64 {
-        self.tag
-    }
 }
 
 /// The change attribute of the n-th write of an opening.
@@ -159,11 +151,10 @@ mod tests {
 
     #[test]
     fn writes_past_a_gap(rt: HostRuntime) -> Result<(), Fail> {
-        let mut volume = PlainVolume::new(rt.alloc(), 2, 1, 7)?;
+        let mut volume = PlainVolume::new(rt.alloc(), 2, 1)?;
         assert_eq!(rt; volume.files(), 2);
         assert_eq!(rt; volume.capacity(), 4096);
         assert_eq!(rt; volume.boot(), 1);
-        assert_eq!(rt; volume.tag(), 7);
 
         assert_eq!(rt; volume.write(1, 3, b"ab")?, Ok(()));
         let mut out = [9; 7];
@@ -181,7 +172,7 @@ mod tests {
 
     #[test]
     fn refuses_past_the_capacity(rt: HostRuntime) -> Result<(), Fail> {
-        let mut volume = PlainVolume::new(rt.alloc(), 1, 1, 0)?;
+        let mut volume = PlainVolume::new(rt.alloc(), 1, 1)?;
         assert_eq!(rt; volume.write(1, 4095, b"ab")?, Err(TooFar));
         assert_eq!(rt; volume.write(1, 4097, b"")?, Err(TooFar));
         assert_eq!(rt; volume.write(1, 4096, b"")?, Ok(()));

@@ -61,10 +61,10 @@ answers : KeepsAll → (before now : Outside) (status : Status) (text : List ℕ
     → IfSome before.left (Answers before now status)
 answers law before now status text takes small puts =
     let told : IfSome before.left (λ all. text ≡ all) =
-      Consumes-all before.left now.left text [] text takes.taken takes.ended refl in
+    Consumes-all before.left now.left text [] text takes.taken takes.ended refl in
     let P : Due → Type 0 = λ due. Puts before.taken now.taken before.writes now.writes due status in
     let here : Answers before now status text =
-      record { puts = subst P (sym (due_small text small)) puts; promise = promised law text } in
+    record { puts = subst P (sym (due_small text small)) puts; promise = promised law text } in
     let Q : List ℕ → Type 0 = λ all. Answers before now status all in
     if_some before.left (λ all. text ≡ all) Q (λ all same. subst Q same here) told
 

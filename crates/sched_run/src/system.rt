@@ -25,11 +25,6 @@ pub enum Ran {
     WriteFault,
 }
 
-/// The tags that name the two servers' volumes.
-const SOURCE_TAG: u64 = 1;
-
-const DEST_TAG: u64 = 2;
-
 /// The two servers and the client of a run, over volumes of plain byte lists.
 #[derive(Drop)]
 pub struct System {
@@ -119,11 +114,11 @@ impl System {
     {
         match side {
             Side::Source => {
-                self.source = Some(PlainVolume::new(alloc, files, blocks, SOURCE_TAG)?);
+                self.source = Some(PlainVolume::new(alloc, files, blocks)?);
                 self.context = next;
             }
             Side::Dest => {
-                self.dest = Some(PlainVolume::new(alloc, files, blocks, DEST_TAG)?);
+                self.dest = Some(PlainVolume::new(alloc, files, blocks)?);
                 self.context = next;
             }
         }

@@ -7,7 +7,7 @@ use Rattle.nfscopy.proofs.run.run.Goals as goal
 pub returns-in-Ok-Text-clause-ends : goal.returns-in-Ok-Text-clause-ends
 returns-in-Ok-Text-clause-ends g c =
     let law : KeepsAll =
-      record { kept = c.plain_runs.ensures.kept; stopped = c.plain_runs.ensures.stopped; admitted = c.schedule_lines.ensures.only } in
+    record { kept = c.plain_runs.ensures.kept; stopped = c.plain_runs.ensures.stopped; admitted = c.schedule_lines.ensures.only } in
     let whole = rw c.in-Ok-Text.field-0-is at c.in-Ok-Text.ensures.whole in
     text_ends_as law
     (outside (g.S.Source.left c.args.input.now) (g.K.Sink.taken c.args.output.now) (g.S.Source.faults c.args.input.now) (g.K.Sink.faults c.args.output.now))
@@ -17,7 +17,7 @@ returns-in-Ok-Text-clause-ends g c =
 pub returns-in-Ok-TooMuch-clause-ends : goal.returns-in-Ok-TooMuch-clause-ends
 returns-in-Ok-TooMuch-clause-ends g c =
     let law : KeepsAll =
-      record { kept = c.plain_runs.ensures.kept; stopped = c.plain_runs.ensures.stopped; admitted = c.schedule_lines.ensures.only } in
+    record { kept = c.plain_runs.ensures.kept; stopped = c.plain_runs.ensures.stopped; admitted = c.schedule_lines.ensures.only } in
     let whole = rw c.in-Ok-TooMuch.field-0-is at c.in-Ok-TooMuch.ensures.whole in
     large_ends_as law
     (outside (g.S.Source.left c.args.input.now) (g.K.Sink.taken c.args.output.now) (g.S.Source.faults c.args.input.now) (g.K.Sink.faults c.args.output.now))
@@ -27,7 +27,7 @@ returns-in-Ok-TooMuch-clause-ends g c =
 pub returns-in-Ok-Failed-clause-ends : goal.returns-in-Ok-Failed-clause-ends
 returns-in-Ok-Failed-clause-ends g c =
     let law : KeepsAll =
-      record { kept = c.plain_runs.ensures.kept; stopped = c.plain_runs.ensures.stopped; admitted = c.schedule_lines.ensures.only } in
+    record { kept = c.plain_runs.ensures.kept; stopped = c.plain_runs.ensures.stopped; admitted = c.schedule_lines.ensures.only } in
     let cause = rw c.in-Ok-Failed.field-0-is at c.in-Ok-Failed.ensures.cause in
     failed_ends law
     (outside (g.S.Source.left c.args.input.now) (g.K.Sink.taken c.args.output.now) (g.S.Source.faults c.args.input.now) (g.K.Sink.faults c.args.output.now))
@@ -37,7 +37,7 @@ returns-in-Ok-Failed-clause-ends g c =
 pub returns-in-Err-clause-ends : goal.returns-in-Err-clause-ends
 returns-in-Err-clause-ends g c =
     let law : KeepsAll =
-      record { kept = c.plain_runs.ensures.kept; stopped = c.plain_runs.ensures.stopped; admitted = c.schedule_lines.ensures.only } in
+    record { kept = c.plain_runs.ensures.kept; stopped = c.plain_runs.ensures.stopped; admitted = c.schedule_lines.ensures.only } in
     starved_ends law
     (outside (g.S.Source.left c.args.input.now) (g.K.Sink.taken c.args.output.now) (g.S.Source.faults c.args.input.now) (g.K.Sink.faults c.args.output.now))
     (outside (g.S.Source.left c.read_whole.new.source) (g.K.Sink.taken c.args.output.now) (g.S.Source.faults c.read_whole.new.source) (g.K.Sink.faults c.args.output.now))
