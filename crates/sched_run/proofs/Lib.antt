@@ -1,4 +1,3 @@
-pub mod Admits
 pub mod Sizes
 pub mod Works
 pub mod Runs

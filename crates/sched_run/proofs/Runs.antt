@@ -6,7 +6,7 @@ use Rattle.std.specs.declared.option.Option.{Option}
 use Rattle.std.specs.Prelude.{Result, Ok, Err, OnErr}
 use Rattle.std.proofs.Math.ListN.{drop_of_length-le}
 use Rattle.std.specs.Io.KnownBytes.{Appends}
-use Rattle.std.proofs.KnownBytes.{Appends-trans, Appends-nil}
+use Rattle.std.proofs.KnownBytes.{Appends-trans}
 use Rattle.rpc_msg.specs.Sink.{AppendsFront}
 use Rattle.rpc_msg.proofs.Fronts.{front_all, front_wider, front_more}
 use Rattle.sched_text.specs.declared.context.Context.{Context}
@@ -14,7 +14,7 @@ use Rattle.sched_text.specs.declared.event.Event.{Event}
 use Rattle.sched_text.specs.declared.line.Line.TheVariants.{End}
 use Rattle.sched_text.specs.Admission.{admits, after, IsAdmitted}
 use Rattle.sched_text.specs.LineText.{line_text, lines_text}
-use Rattle.plain_machine.specs.Machine.{State, at_boot, happens, lines_from}
+use Rattle.plain_machine.specs.Machine.{State, happens, lines_from}
 use Rattle.sched_run.specs.Run.{run_text}
 
 -- the text of what is still to come
@@ -25,9 +25,6 @@ pub record HasRun (start now : Option (List ℕ)) (events : List Event) (state :
   pub front : List ℕ
   pub put : Appends start now front
   pub so_far : front ++ rest_text state rest ≡ run_text events
-
-pub begun : (out : Option (List ℕ)) (events : List Event) → HasRun out out events at_boot events
-begun out events = record { front = []; put = Appends-nil out; so_far = refl }
 
 -- an event's text, and then that of the rest
 next_text : (s : State) (e : Event) (rest : List Event)
@@ -73,12 +70,6 @@ starved start now events s rest ran =
     let P : List ℕ → Type 0 = λ all. AppendsFront start now all in
     subst P ran.so_far (front_wider start now ran.front (rest_text s rest) (front_all start now ran.front ran.put))
 
-pub ended : (start now out : Option (List ℕ)) (events : List Event) (s : State) (text : List ℕ)
-    → HasRun start now events s [] → text ≡ lines_text (End 0 ∷ []) → Appends now out text → Appends start out (run_text events)
-ended start now out events s text ran text_is put =
-    let P : List ℕ → Type 0 = λ all. Appends start out all in
-    subst P (ap (λ (t : List ℕ). ran.front ++ t) text_is ∙ ran.so_far) (Appends-trans _ _ _ _ _ ran.put put)
-
 pub failed_end : (start now out : Option (List ℕ)) (events : List Event) (s : State) (text : List ℕ)
     → HasRun start now events s [] → text ≡ lines_text (End 0 ∷ []) → AppendsFront now out text
     → AppendsFront start out (run_text events)
@@ -101,12 +92,6 @@ pub front_along : (start now : Option (List ℕ)) (items events : List Event) �
     → AppendsFront start now (run_text items) → AppendsFront start now (run_text events)
 front_along start now items events same put =
     let P : List Event → Type 0 = λ all. AppendsFront start now (run_text all) in
-    subst P same put
-
-pub all_along : (start now : Option (List ℕ)) (items events : List Event) → items ≡ events
-    → Appends start now (run_text items) → Appends start now (run_text events)
-all_along start now items events same put =
-    let P : List Event → Type 0 = λ all. Appends start now (run_text all) in
     subst P same put
 
 -- the rest of a run at one of its events
