@@ -1,9 +1,9 @@
 -- How a run of the program ends, put together from what was read and what was put.
-use Rattle.std.proofs.Common.{◌≡◌, ℕ, ◌<◌, ◌≤◌, List, [], length, Bool, true, false, refl, sym, ap, subst}
-use Rattle.std.specs.Prelude.{Option, None, Some, Result, Ok, Err, IfSome, nat_lt, if◌then◌else◌}
-use Rattle.std.proofs.lemmas.Bool.{ltb-false, ltb-true, lt-ltb, le-ltb}
-use Rattle.std.specs.Io.KnownBytes.{Keeps, IsAtEnd}
-use Rattle.std.proofs.KnownBytes.{Consumes-all, Keeps-refl}
+use Rattle.std.proofs.Common.{◌≡◌, ℕ, ◌<◌, ◌≤◌, List, [], length, Bool, refl, sym, ap, subst}
+use Rattle.std.specs.Prelude.{Option, None, Some, Result, Ok, Err, IfSome, if◌then◌else◌}
+use Rattle.std.proofs.lemmas.Bool.{lt-ltb, le-ltb}
+use Rattle.std.specs.Io.KnownBytes.{Keeps}
+use Rattle.std.proofs.KnownBytes.{Consumes-all}
 use Rattle.outcome.specs.Causes.{Rose}
 use Rattle.rpc_msg.specs.Sink.{AppendsFront}
 use Rattle.rpc_msg.specs.Whole.{TakesAll}
