@@ -1,8 +1,17 @@
 ghost use Rattle.sched_text.specs.Admission.{is_between, is_within};
 ghost use Rattle.std.specs.Prelude.{◌≡◌};
 
-use nfs_base::Side;
+use nfs_base::{MOST_BLOCKS, MOST_FILES, Side};
 use wire_xdr::Octets;
+
+/// The highest number of a copy.
+const MOST_COPIES: u64 = 15;
+
+/// How many bytes one event writes at most.
+const MOST_WRITTEN: u64 = 65_536;
+
+/// How many bytes one event shows at most.
+const MOST_SHOWN: u64 = 64;
 
 /// What the client asks of a copy (the arguments of COPY, RFC 7862 section 15.2): `count` bytes from
 /// offset `from` of the source's file to offset `to` of the destination's file. A count of 0 goes to
@@ -65,23 +74,21 @@ impl Event {
     {
         match self {
             Event::Volume { files, blocks, .. } => {
-                is_between(1, 64, u64::from(*files))
-                    && is_between(1, 16_384, u64::from(*blocks))
-                    && u64::from(*files) * u64::from(*blocks) <= 16_384
+                is_between(1, u64::from(MOST_FILES), u64::from(*files))
+                    && is_between(1, u64::from(MOST_BLOCKS), u64::from(*blocks))
+                    && u64::from(*files) * u64::from(*blocks) <= u64::from(MOST_BLOCKS)
             }
             Event::Write { off, bytes, .. } => {
                 let len = bytes.len() as u64;
-                is_between(1, 65_536, len) && off.checked_add(len).is_some()
+                is_between(1, MOST_WRITTEN, len) && off.checked_add(len).is_some()
             }
-            Event::Copy { copy, .. } | Event::Status { copy } => is_between(
-                1,
-                15,
-                u64::from(*copy),
-            ),
+            Event::Copy { copy, .. } | Event::Status { copy } => {
+                is_between(1, MOST_COPIES, u64::from(*copy))
+            }
             Event::Work => true,
             Event::Peek { off, len, .. } => {
                 let len = u64::from(*len);
-                is_between(1, 64, len) && off.checked_add(len).is_some()
+                is_between(1, MOST_SHOWN, len) && off.checked_add(len).is_some()
             }
         }
     }
