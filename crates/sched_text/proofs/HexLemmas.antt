@@ -1,5 +1,6 @@
 -- The hexadecimal digits of bytes, one byte more.
-use Rattle.std.proofs.Common.{◌≡◌, ℕ, ◌+◌, ◌<◌, ◌/◌, ◌%◌, List, [], ◌∷◌, ◌++◌, length, get_or, take, refl, sym, ap, ◌∙◌, append_assoc, encode_utf8, ◌*◌, ◌≤◌, None, Some, Bool, true, false, cond, All, arith, ◌-◌, option_and_then, inl, inr}
+use Rattle.std.proofs.lemmas.Str.{encode_ascii}
+use Rattle.std.proofs.Common.{◌≡◌, ℕ, ◌+◌, ◌<◌, ◌/◌, ◌%◌, List, [], ◌∷◌, ◌++◌, length, get_or, take, refl, sym, ap, ◌∙◌, encode_utf8, ◌*◌, ◌≤◌, None, Some, Bool, true, false, cond, All, arith, ◌-◌, option_and_then, inl, inr}
 use Rattle.std.proofs.lemmas.List.{take_more}
 use Rattle.std.proofs.lemmas.List.Elements.{All-nil, All-cons, All-head, All-tail}
 use Rattle.std.proofs.lemmas.Bool.{leb-true, lt-ltb, le-ltb, le-leb, lt-leb, and_parts, and_from, cases_lt}
@@ -12,14 +13,17 @@ pub hex_text-push : (bytes : List ℕ) (byte : ℕ) → hex_text (bytes ++ byte 
 hex_text-push [] byte = refl
 hex_text-push (b ∷ bytes) byte = ap (λ digits. hex_digit (b / 16) ∷ hex_digit (b % 16) ∷ digits) (hex_text-push bytes byte)
 
--- a text with the digits of the bytes so far, and with those of one more
-pub digits_more : (start now middle next bytes : List ℕ) (at high low : ℕ) → at < length bytes → now ≡ start ++ hex_text (take at bytes) → middle ≡ now ++ encode_utf8 high → encode_utf8 high ≡ high ∷ [] → high ≡ hex_digit (get_or bytes at 0 / 16) → next ≡ middle ++ encode_utf8 low → encode_utf8 low ≡ low ∷ [] → low ≡ hex_digit (get_or bytes at 0 % 16) → next ≡ start ++ hex_text (take (at + 1) bytes)
-digits_more start now middle next bytes at high low lt so_far first one first_is second other second_is =
-    second ∙ ap (λ digits. middle ++ digits) other ∙ ap (λ text. text ++ low ∷ []) (first ∙ ap (λ digits. now ++ digits) one)
-    ∙ append_assoc now (high ∷ []) (low ∷ []) ∙ ap (λ text. text ++ high ∷ low ∷ []) so_far
-    ∙ append_assoc start (hex_text (take at bytes)) (high ∷ low ∷ [])
-    ∙ ap (λ digits. start ++ digits) (
-    rw (first_is, second_is) (sym (hex_text-push (take at bytes) (get_or bytes at 0)))
+-- the digits of one byte more
+pub digits_more : (bytes : List ℕ) (at high low : ℕ) → at < length bytes
+    → high < 128 → high ≡ hex_digit (get_or bytes at 0 / 16)
+    → low < 128 → low ≡ hex_digit (get_or bytes at 0 % 16)
+    → hex_text (take at bytes) ++ (encode_utf8 high ++ encode_utf8 low) ≡ hex_text (take (at + 1) bytes)
+digits_more bytes at high low lt one first_is other second_is =
+    let both : encode_utf8 high ++ encode_utf8 low ≡ high ∷ low ∷ [] =
+    ap (λ (digits : List ℕ). digits ++ encode_utf8 low) (encode_ascii high one)
+    ∙ ap (λ (digits : List ℕ). high ∷ digits) (encode_ascii low other) in
+    ap (λ (digits : List ℕ). hex_text (take at bytes) ++ digits) both
+    ∙ rw (first_is, second_is) (sym (hex_text-push (take at bytes) (get_or bytes at 0))
     ∙ ap hex_text (sym (take_more bytes at 0 lt)))
 
 -- a digit reads as its value

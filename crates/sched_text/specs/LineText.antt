@@ -14,12 +14,16 @@ abbrev pub hex_text : List ℕ → List ℕ
 hex_text [] = []
 hex_text (b ∷ bs) = hex_digit (b / 16) ∷ hex_digit (b % 16) ∷ hex_text bs
 
+-- a line without its newline
+abbrev pub shown_text : Line → List ℕ
+shown_text (Note note) = note_text note
+shown_text (Bytes side file off bytes) =
+    codes "bytes " ++ side_text side ++ codes " " ++ decimal file ++ codes " " ++ decimal off ++ codes " " ++ hex_text bytes
+shown_text (End records) = codes "end " ++ decimal records
+
 -- a line, with its newline
 abbrev pub line_text : Line → List ℕ
-line_text (Note note) = note_text note ++ 10 ∷ []
-line_text (Bytes side file off bytes) =
-    codes "bytes " ++ side_text side ++ codes " " ++ decimal file ++ codes " " ++ decimal off ++ codes " " ++ hex_text bytes ++ 10 ∷ []
-line_text (End records) = codes "end " ++ decimal records ++ 10 ∷ []
+line_text line = shown_text line ++ 10 ∷ []
 
 -- lines one after the other
 abbrev pub lines_text : List Line → List ℕ

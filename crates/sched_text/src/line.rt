@@ -1,9 +1,9 @@
-ghost use Rattle.std.specs.Prelude.{◌≡◌, ◌++◌, ◌<◌, OnOk};
-ghost use Rattle.std.specs.String.{string_bytes};
+ghost use Rattle.std.specs.Prelude.{◌≡◌, ◌<◌, Some};
 ghost use Rattle.sched_text.specs.LineText.{hex_digit, hex_text};
 
 use nfs_base::{Note, Side};
 use outcome::Mem;
+use std::fmt;
 use wire_xdr::Octets;
 
 /// One line of a transcript.
@@ -26,8 +26,33 @@ pub enum Line {
     },
 }
 
+impl fmt::Display for Line {
+    ghost use Rattle.std.specs.Prelude.{Some};
+    ghost use Rattle.sched_text.specs.LineText.{shown_text};
+
+    ghost output = { λ line. Some (shown_text line) };
+
+    fn fmt<W: fmt::Write>(&self, f: &mut fmt::Formatter<W>) -> fmt::Result {
+        match self {
+            Line::Note(note) => write!(f, "{note}"),
+            Line::Bytes {
+                side,
+                file,
+                off,
+                bytes,
+            } => {
+                let hex = Hex {
+                    bytes: bytes.as_slice(),
+                };
+                write!(f, "bytes {side} {file} {off} {hex}")
+            }
+            Line::End { records } => write!(f, "end {records}"),
+        }
+    }
+}
+
 impl Line {
-    ghost use Rattle.std.specs.Prelude.{◌≡◌, ◌++◌, IfOk, OnOk};
+    ghost use Rattle.std.specs.Prelude.{◌≡◌, ◌++◌, OnOk};
     ghost use Rattle.std.specs.String.{string_bytes};
     ghost use Rattle.sched_text.specs.LineText.{line_text};
 
@@ -36,33 +61,28 @@ impl Line {
     pub fn push_to(&self, text: &mut String) -> Mem<()>
         ensures { OnOk result (string_bytes text.new ≡ string_bytes text.old ++ line_text self.now) }
     {
-        match self {
-            Line::Note(note) => writeln!(text, "{note}")?,
-            Line::Bytes {
-                side,
-                file,
-                off,
-                bytes,
-            } => {
-                write!(text, "bytes {side} {file} {off} ")?;
-                push_hex(text, bytes.as_slice())?;
-                text.push('\n')?;
-            }
-            Line::End { records } => writeln!(text, "end {records}")?,
-        }
+        writeln!(text, "{self}")?;
         Ok(())
     }
 }
 
-/// Writes two lower-case hexadecimal digits for each byte.
-fn push_hex(text: &mut String, bytes: &[u8]) -> Mem<()>
-    ensures { OnOk result (string_bytes text.new ≡ string_bytes text.old ++ hex_text bytes.now) }
-{
-    for byte in bytes {
-        text.push(hex_digit(*byte / 16))?;
-        text.push(hex_digit(*byte % 16))?;
+/// Bytes as text: two lower-case hexadecimal digits for each.
+#[derive(Drop)]
+struct Hex<'a> {
+    bytes: &'a [u8],
+}
+
+impl fmt::Display for Hex<'_> {
+    ghost output = { λ hex. Some (hex_text hex.bytes.now) };
+
+    fn fmt<W: fmt::Write>(&self, f: &mut fmt::Formatter<W>) -> fmt::Result {
+        for byte in self.bytes {
+            let high = hex_digit(*byte / 16);
+            let low = hex_digit(*byte % 16);
+            write!(f, "{high}{low}")?;
+        }
+        Ok(())
     }
-    Ok(())
 }
 
 /// A hexadecimal digit, in lower case.
