@@ -385,7 +385,12 @@ fn statuses(rt: HostRuntime) -> Result<(), Fail> {
         "copy 1 1 0 1 0 0 n",
     ] {
         for first in ["copy 1 1 0 1 0 10 c\n", "copy 1 1 0 1 4087 10 c\n"] {
-            run(rt.alloc(), &[VOLUMES, first, line, "\nwork 1\n"])?.check(&rt, line, 2, "bad line 4\n");
+            run(rt.alloc(), &[VOLUMES, first, line, "\nwork 1\n"])?.check(
+                &rt,
+                line,
+                2,
+                "bad line 4\n",
+            );
         }
     }
     Ok(())
@@ -415,14 +420,29 @@ fn orders(rt: HostRuntime) -> Result<(), Fail> {
         ("volume s 1 1\nvolume d 1 1\nvolume d 1 1\n", "bad line 3\n"),
         ("volume s 2 1\nvolume d 1 1\npeek d 2 0 1\n", "bad line 3\n"),
         ("volume s 1 1\nvolume d 2 1\npeek s 2 0 1\n", "bad line 3\n"),
-        ("volume s 1 1\nvolume d 2 1\nwrite s 2 0 00\n", "bad line 3\n"),
-        ("volume s 2 1\nvolume d 1 1\ncopy 1 1 0 2 0 1 c\n", "bad line 3\n"),
-        ("volume s 1 1\nvolume d 2 1\ncopy 1 2 0 1 0 1 c\n", "bad line 3\n"),
-        ("volume s 1 1\nvolume d 1 1\nstatus 1\ncopy 1 1 0 1 0 1 c\n", "bad line 3\n"),
+        (
+            "volume s 1 1\nvolume d 2 1\nwrite s 2 0 00\n",
+            "bad line 3\n",
+        ),
+        (
+            "volume s 2 1\nvolume d 1 1\ncopy 1 1 0 2 0 1 c\n",
+            "bad line 3\n",
+        ),
+        (
+            "volume s 1 1\nvolume d 2 1\ncopy 1 2 0 1 0 1 c\n",
+            "bad line 3\n",
+        ),
+        (
+            "volume s 1 1\nvolume d 1 1\nstatus 1\ncopy 1 1 0 1 0 1 c\n",
+            "bad line 3\n",
+        ),
         ("volume s 1 1\nvolume d 1 1\nwork 2\nflow\n", "bad line 3\n"),
         ("volume s 1 1\r\nvolume d 1 1\r\n", "bad line 1\n"),
         ("volume s 1 1\nvolume d 1 1\n\r\n", "bad line 3\n"),
-        ("# one\n\nvolume s 1 1\n# two\n\nvolume d 1 1\n\n#\nflow\n", "bad line 9\n"),
+        (
+            "# one\n\nvolume s 1 1\n# two\n\nvolume d 1 1\n\n#\nflow\n",
+            "bad line 9\n",
+        ),
         ("# one\n\nvolume s 1 1\n\nwork 1", "bad line 5\n"),
         (
             "volume s 1 1\nvolume d 1 1\nwrite s 1 0 00\ncopy 1 1 0 1 0 1 c\nwork 1\nwork 1\nwork",
@@ -443,7 +463,12 @@ fn high_bytes(rt: HostRuntime) -> Result<(), Fail> {
         ("alone", &b"\xff"[..], 2, "bad line 3\n"),
         ("128 alone", &b"\x80"[..], 2, "bad line 3\n"),
         ("as a digit", &b"peek s \xb1 0 1"[..], 2, "bad line 3\n"),
-        ("as a hexadecimal digit", &b"write s 1 0 0\xe1"[..], 2, "bad line 3\n"),
+        (
+            "as a hexadecimal digit",
+            &b"write s 1 0 0\xe1"[..],
+            2,
+            "bad line 3\n",
+        ),
         ("in a comment", &b"#\xff\x80\0"[..], 0, "end 0\n"),
     ] {
         let mut text = Vec::from_slice(rt.alloc(), VOLUMES.as_bytes())?;

@@ -45,26 +45,46 @@ fn volumes(rt: HostRuntime) -> Result<(), Fail> {
 fn numbers(rt: HostRuntime) -> Result<(), Fail> {
     for (line, status, put) in [
         ("copy 15 64 0 64 0 1 n", 0, "accepted 1.1 64 0 1\nend 0\n"),
-        ("copy 15 64 0 64 0 1 n\nstatus 15", 0, "accepted 1.1 64 0 1\ncopied 15 0\nend 0\n"),
+        (
+            "copy 15 64 0 64 0 1 n\nstatus 15",
+            0,
+            "accepted 1.1 64 0 1\ncopied 15 0\nend 0\n",
+        ),
         ("copy 16 64 0 64 0 1 n", 2, "bad line 3\n"),
         ("copy 0 64 0 64 0 1 n", 2, "bad line 3\n"),
         ("copy 1 65 0 64 0 1 n", 2, "bad line 3\n"),
         ("copy 1 64 0 65 0 1 n", 2, "bad line 3\n"),
         ("copy 1 64 18446744073709551616 64 0 0 n", 2, "bad line 3\n"),
-        ("copy 1 64 18446744073709551615 64 0 0 n", 0, "accepted 1.1 64 0 end\nend 0\n"),
+        (
+            "copy 1 64 18446744073709551615 64 0 0 n",
+            0,
+            "accepted 1.1 64 0 end\nend 0\n",
+        ),
         ("write s 64 1048575 aa", 0, "written s 64 1\nend 0\n"),
         ("write s 64 1048576 aa", 0, "refused s 64 27\nend 0\n"),
         ("write s 65 0 aa", 2, "bad line 3\n"),
-        ("write s 1 18446744073709551614 aa", 0, "refused s 1 27\nend 0\n"),
+        (
+            "write s 1 18446744073709551614 aa",
+            0,
+            "refused s 1 27\nend 0\n",
+        ),
         ("write s 1 18446744073709551615 aa", 2, "bad line 3\n"),
-        ("write s 1 18446744073709551613 aabb", 0, "refused s 1 27\nend 0\n"),
+        (
+            "write s 1 18446744073709551613 aabb",
+            0,
+            "refused s 1 27\nend 0\n",
+        ),
         ("write s 1 18446744073709551614 aabb", 2, "bad line 3\n"),
         ("peek d 64 0 1", 0, "bytes d 64 0 00\nend 0\n"),
         ("peek d 65 0 1", 2, "bad line 3\n"),
         ("peek s 65 0 1", 2, "bad line 3\n"),
         ("peek s 1 0 0", 2, "bad line 3\n"),
         ("peek s 1 0 65", 2, "bad line 3\n"),
-        ("peek s 1 18446744073709551614 1", 0, "bytes s 1 18446744073709551614 00\nend 0\n"),
+        (
+            "peek s 1 18446744073709551614 1",
+            0,
+            "bytes s 1 18446744073709551614 00\nend 0\n",
+        ),
         ("peek s 1 18446744073709551615 1", 2, "bad line 3\n"),
         ("peek s 1 18446744073709551552 64", 2, "bad line 3\n"),
         (
@@ -79,40 +99,72 @@ fn numbers(rt: HostRuntime) -> Result<(), Fail> {
     Ok(())
 }
 
+// A text of a front, a part so many times, and an end.
+fn repeated(alloc: Global, front: &str, part: &str, times: usize, end: &str) -> Mem<Vec<u8>> {
+    let mut text = Vec::from_slice(alloc, front.as_bytes())?;
+    for _ in 0..times {
+        text.extend_from_slice(part.as_bytes())?;
+    }
+    text.extend_from_slice(end.as_bytes())?;
+    Ok(text)
+}
+
 #[test]
 fn digits(rt: HostRuntime) -> Result<(), Fail> {
-    for (digits, status, put) in [
-        (131_070, 0, "written s 1 65535\nbytes s 1 65534 aa00\nend 0\n"),
-        (131_071, 2, "bad line 3\n"),
-        (131_072, 0, "written s 1 65536\nbytes s 1 65534 aaaa\nend 0\n"),
-        (131_073, 2, "bad line 3\n"),
-        (131_074, 2, "bad line 3\n"),
+    let front = "volume s 1 17\nvolume d 1 1\nwrite s 1 0 ";
+    for (name, digits, status, put) in [
+        (
+            "131070 digits",
+            131_070,
+            0,
+            "written s 1 65535\nbytes s 1 65534 aa00\nend 0\n",
+        ),
+        ("131071 digits", 131_071, 2, "bad line 3\n"),
+        (
+            "131072 digits",
+            131_072,
+            0,
+            "written s 1 65536\nbytes s 1 65534 aaaa\nend 0\n",
+        ),
+        ("131073 digits", 131_073, 2, "bad line 3\n"),
+        ("131074 digits", 131_074, 2, "bad line 3\n"),
     ] {
-        let hex = "a".repeat(rt.alloc(), digits)?;
-        let front = "volume s 1 17\nvolume d 1 1\nwrite s 1 0 ";
-        let text = [front, hex.as_str(), "\npeek s 1 65534 2\n"];
-        run(rt.alloc(), &text)?.check(&rt, front, status, put);
+        let text = repeated(rt.alloc(), front, "a", digits, "\npeek s 1 65534 2\n")?;
+        ask(rt.alloc(), &["run"], text, NO_FAULTS)?.check(&rt, name, status, put);
     }
     Ok(())
 }
 
 #[test]
-fn counts(rt: HostRuntime) -> Result<(), Fail> {
-    let alloc = rt.alloc();
-    let writes = "write s 1 0 aa\n".repeat(alloc, 4096)?;
-    let mut written = "written s 1 1\n".repeat(alloc, 4096)?;
-    written.push_str("end 0\n")?;
-    run(alloc, &[VOLUMES, writes.as_str()])?.check(&rt, "4096 writes", 0, written.as_str());
-    run(alloc, &[VOLUMES, writes.as_str(), "write s 1 0 aa"])?
-        .check(&rt, "4097 writes", 2, "bad line 4099\n");
+fn events(rt: HostRuntime) -> Result<(), Fail> {
+    for (name, end, status, put) in [
+        (
+            "1000000 events",
+            "#\n\npeek s 1 0 1\n",
+            0,
+            "bytes s 1 0 00\nend 0\n",
+        ),
+        (
+            "1000001 events",
+            "#\n\npeek s 1 0 1\n\nwork 1\n",
+            2,
+            "bad line 1000004\n",
+        ),
+    ] {
+        let text = repeated(rt.alloc(), VOLUMES, "work 1\n", 999_997, end)?;
+        ask(rt.alloc(), &["run"], text, NO_FAULTS)?.check(&rt, name, status, put);
+    }
+    Ok(())
+}
 
-    let works = "work 1\n".repeat(alloc, 999_997)?;
-    let works = works.as_str();
-    let peek = "#\n\npeek s 1 0 1\n";
-    run(alloc, &[VOLUMES, works, peek])?
-        .check(&rt, "1000000 events", 0, "bytes s 1 0 00\nend 0\n");
-    run(alloc, &[VOLUMES, works, peek, "\nwork 1\n"])?
-        .check(&rt, "1000001 events", 2, "bad line 1000004\n");
+#[test]
+fn writes(rt: HostRuntime) -> Result<(), Fail> {
+    let written = "written s 1 1\n".repeat(rt.alloc(), 4096)?;
+    let put = format!(in rt.alloc(); "{written}end 0\n")?;
+    let most = repeated(rt.alloc(), VOLUMES, "write s 1 0 aa\n", 4096, "")?;
+    ask(rt.alloc(), &["run"], most, NO_FAULTS)?.check(&rt, "4096 writes", 0, put.as_str());
+    let more = repeated(rt.alloc(), VOLUMES, "write s 1 0 aa\n", 4097, "")?;
+    ask(rt.alloc(), &["run"], more, NO_FAULTS)?.check(&rt, "4097 writes", 2, "bad line 4099\n");
     Ok(())
 }
 
@@ -127,18 +179,31 @@ fn filled(alloc: Global, len: usize, byte: u8, end: &str) -> Mem<Vec<u8>> {
 fn bytes(rt: HostRuntime) -> Result<(), Fail> {
     let peek = "\nvolume s 1 1\nvolume d 1 1\npeek d 1 0 1";
     for (name, len, byte, end, status, put) in [
-        ("comment", MOST_BYTES, b'#', "", 0, "end 0\n"),
-        ("longer comment", MOST_BYTES + 1, b'#', "", 2, "too much\n"),
-        ("far longer comment", MOST_BYTES + 70_000, b'#', "", 2, "too much\n"),
-        ("empty lines", MOST_BYTES, b'\n', "", 0, "end 0\n"),
-        ("more empty lines", MOST_BYTES + 1, b'\n', "", 2, "too much\n"),
-        ("bad first line", MOST_BYTES, b'x', "", 2, "bad line 1\n"),
-        ("longer bad first line", MOST_BYTES + 1, b'x', "", 2, "too much\n"),
-        ("bad last line", MOST_BYTES, b'#', "\nflow", 2, "bad line 2\n"),
-        ("too much and bad", MOST_BYTES + 1, b'#', "\nflow", 2, "too much\n"),
-        ("events at the end", MOST_BYTES, b'#', peek, 0, "bytes d 1 0 00\nend 0\n"),
-        ("one byte less", MOST_BYTES - 1, b'#', peek, 0, "bytes d 1 0 00\nend 0\n"),
+        (
+            "events at the end",
+            MOST_BYTES,
+            b'#',
+            peek,
+            0,
+            "bytes d 1 0 00\nend 0\n",
+        ),
         ("one byte more", MOST_BYTES + 1, b'#', peek, 2, "too much\n"),
+        (
+            "bad last line",
+            MOST_BYTES,
+            b'#',
+            "\nflow",
+            2,
+            "bad line 2\n",
+        ),
+        (
+            "too much and bad",
+            MOST_BYTES + 1,
+            b'x',
+            "",
+            2,
+            "too much\n",
+        ),
     ] {
         let text = filled(rt.alloc(), len, byte, end)?;
         ask(rt.alloc(), &["run"], text, NO_FAULTS)?.check(&rt, name, status, put);
