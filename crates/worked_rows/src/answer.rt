@@ -1,0 +1,76 @@
+use outcome::Mem;
+use rpc_msg::{MemSink, MemSource};
+use std::alloc::Global;
+use std::process::Abort;
+
+/// The two lines before all others: a file of one block on each side.
+pub const VOLUMES: &str = "volume s 1 1\nvolume d 1 1\n";
+
+/// A schedule of one copy of ten bytes.
+pub const FIRST_COPY: &str =
+    "# One copy of ten bytes: written at the source, landed and committed at the destination, shown there.\nvolume s 1 1\nvolume d 1 1\nwrite s 1 0 30313233343536373839\ncopy 1 1 0 1 0 10 c\nwork 1\nstatus 1\nwork 1\npeek d 1 0 10\n";
+
+/// What is put for it.
+pub const FIRST_COPY_PUT: &str =
+    "written s 1 10\naccepted 1.1 1 0 10\nsized 1.1 10\nlanded 1.1 0 10\ncopied 1 10\ncommitted 1.1\nstable 1\nbytes d 1 0 30313233343536373839\nend 0\n";
+
+/// What a call of the program left behind.
+#[derive(Drop)]
+pub struct Answer {
+    /// The exit status.
+    pub status: u8,
+    /// The text that was put.
+    pub put: String,
+    /// How many calls the source got.
+    pub takes: u64,
+    /// How many calls the sink got.
+    pub puts: u64,
+}
+
+impl Answer {
+    /// Asserts that the call ended with this status, and put this text and no other.
+    pub fn check(&self, rt: &impl Abort, name: &str, status: u8, put: &str) {
+        assert_eq!(rt; self.put.as_str(), put, "what is put at {name:?}");
+        assert_eq!(rt; self.status, status, "the status at {name:?}");
+    }
+}
+
+/// Which call of the source and which of the sink fails, counted from 1. The number 0 is that of no call.
+#[derive(Clone, Copy)]
+pub struct Faults {
+    pub source: u64,
+    pub sink: u64,
+}
+
+/// No call fails.
+pub const NO_FAULTS: Faults = Faults { source: 0, sink: 0 };
+
+/// Runs the program with these words over this input.
+pub fn ask(alloc: Global, words: &[&str], text: Vec<u8>, faults: Faults) -> Mem<Answer> {
+    let mut given = Vec::new(alloc);
+    for word in words {
+        given.push(String::from_str(alloc, word)?)?;
+    }
+    let mut source = MemSource::new(text, vec![in alloc; faults.source]?);
+    let mut sink = MemSink::new(alloc, vec![in alloc; faults.sink]?);
+    let status = nfscopy::nfscopy(alloc, given.as_slice(), &mut source, &mut sink);
+    let put = match str::from_utf8(sink.bytes()) {
+        Ok(put) => put,
+        Err(_) => "not a text",
+    };
+    Ok(Answer {
+        status,
+        put: String::from_str(alloc, put)?,
+        takes: source.calls(),
+        puts: sink.calls(),
+    })
+}
+
+/// Runs the schedule that has these pieces, one after the other.
+pub fn run(alloc: Global, pieces: &[&str]) -> Mem<Answer> {
+    let mut text = Vec::new(alloc);
+    for piece in pieces {
+        text.extend_from_slice(piece.as_bytes())?;
+    }
+    ask(alloc, &["run"], text, NO_FAULTS)
+}
