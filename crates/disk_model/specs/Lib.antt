@@ -1,0 +1,5 @@
+pub mod Disk
+pub mod Elapsed
+pub mod Pick
+pub mod Plan
+pub mod Replay
