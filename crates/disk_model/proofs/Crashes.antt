@@ -114,15 +114,15 @@ safe_after s (Wrote at block) older b closed same = elim (cases_Bool (b == at)) 
 safe_after s Synced older b closed same = refl
 
 safe_is : (base : Image) (calls : List Call) (k : ℕ) → k ≤ length calls → (b : ℕ)
-    → (replay (take k calls) (at_rest base)).safe b ≡ safe_at (moments base calls 0) k b
+    → (replay (take k calls) (at_rest base)).safe b ≡ safe_at (moments base calls 0).state k b
 safe_is base calls zero le b = refl
 safe_is base calls (suc k) le b =
     let before : Replay = replay (take k calls) (at_rest base) in
     let step : replay (take (suc k) calls) (at_rest base) ≡ after before (get_or calls k Synced) =
         ap (λ (cs : List Call). replay cs (at_rest base)) (take-suc calls k Synced (omega arith))
         ∙ fold_push after (at_rest base) (take k calls) (get_or calls k Synced) in
-    subst (λ (s : Replay). s.safe b ≡ (if s.is_open b then safe_at (moments base calls 0) k b else s.reads b)) (sym step)
-        (safe_after before (get_or calls k Synced) (safe_at (moments base calls 0) k b) b
+    subst (λ (s : Replay). s.safe b ≡ (if s.is_open b then safe_at (moments base calls 0).state k b else s.reads b)) (sym step)
+        (safe_after before (get_or calls k Synced) (safe_at (moments base calls 0).state k b) b
             (closed_safe (take k calls) (at_rest base) (λ _ _. refl) b)
             (safe_is base calls k (omega arith) b))
 

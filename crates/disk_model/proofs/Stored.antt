@@ -8,9 +8,9 @@ use Rattle.std.proofs.lemmas.Grind.{common_steps}
 use Rattle.std.specs.Ordering.{nat_cmp}
 use Rattle.disk_model.specs.declared.store.Call.{Call}
 use Rattle.disk_model.specs.declared.store.Call.TheVariants.{Wrote, Synced}
-use Rattle.disk_model.specs.Disk.{Image}
+use Rattle.disk_model.specs.Disk.{Image, zero_block}
 use Rattle.disk_model.specs.Elapsed.{contents}
-use Rattle.disk_model.specs.Replay.{zero_block, base_of, latest_of, held, put, after, replay, at_rest, moments, has_place, IsReplayed, HavePlaces}
+use Rattle.disk_model.specs.Replay.{base_of, latest_of, held, put, after, replay, at_rest, moments, has_place, IsReplayed, HavePlaces}
 use Rattle.std.proofs.lemmas.List.Sums.{fold_push}
 use Rattle.std.proofs.lemmas.Bool.{cases_lt}
 use Rattle.std.proofs.lemmas.List.{get_or_push}

@@ -1,11 +1,15 @@
 -- A disk as a crash sees it: what a read gives of each block, and what a crash may leave. Own model.
-use Rattle.std.specs.Prelude.{◌≡◌, ◌≢◌, ℕ, ◌≤◌, Bool, true, false, List}
+use Rattle.std.specs.Prelude.{◌≡◌, ◌≢◌, ℕ, ◌≤◌, Bool, true, false, List, replicate}
 use Rattle.disk_model.specs.declared.disk.Io.{Io}
 use Rattle.disk_model.specs.declared.disk.Io.TheVariants.{Done, Failed}
 
 -- The bytes of each block, by the block's number.
 abbrev pub Image : Type 0
 Image = ℕ → List ℕ
+
+-- a block of zeros
+unfoldable pub zero_block : List ℕ
+zero_block = replicate 4096 0
 
 -- A disk at one moment: what a read gives of each block, and which blocks are open. A block is open
 -- from a write on until a sync succeeds.

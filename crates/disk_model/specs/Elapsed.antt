@@ -1,6 +1,6 @@
 -- The moments of a disk since its last crash, the fuse, and what a crash since a moment might have
 -- left. Own model.
-use Rattle.std.specs.Prelude.{◌≡◌, ℕ, suc, zero, ◌+◌, ◌≤◌, true, []}
+use Rattle.std.specs.Prelude.{◌≡◌, ℕ, suc, zero, ◌+◌, ◌≤◌, true, [], refl}
 use Rattle.disk_model.specs.Disk.{Image, DiskState, MayLeave}
 use Rattle.disk_model.specs.declared.fuse.Fuse.{Fuse}
 use Rattle.disk_model.specs.declared.fuse.Fuse.TheVariants.{Unset, Burning, Out}
@@ -19,10 +19,6 @@ present t = t.state t.latest
 -- what a read gives now
 abbrev pub contents : Timeline → Image
 contents t = (present t).reads
-
--- the disk at the moment at which the machine stopped
-abbrev pub stopped_at : Timeline → DiskState
-stopped_at t = t.state t.stop
 
 -- A crash at some moment from `since` on might have left this image.
 abbrev pub MightHaveLeft : Timeline → ℕ → Image → Type 0
@@ -45,6 +41,12 @@ set_to Out calls = Out
 abbrev pub IsOut : Fuse → Type 0
 IsOut fuse = fuse ≡ Out
 
+-- The moment as of which a crash leaves what it leaves: that of the stop, or now.
+abbrev pub crash_moment : Fuse → Timeline → ℕ
+crash_moment Unset t = t.latest
+crash_moment (Burning _) t = t.latest
+crash_moment Out t = t.stop
+
 -- Time goes on: the moments that were stay as they were. A machine that had stopped is stopped at the
 -- same moment; one that stopped in between did so at a moment in between.
 pub record Elapses (old_fuse new_fuse : Fuse) (old new : Timeline) : Type 0 where
@@ -65,3 +67,14 @@ untold = record { latest = 0; state = λ _. record { reads = λ _. []; is_open =
 pub record Follows (old new : Timeline) : Type 0 where
   pub later : new.latest ≡ old.latest + 1
   pub past : (k : ℕ) → k ≤ old.latest → new.state k ≡ old.state k
+
+-- a machine that has stopped crashes as of the stop, and any other as of now
+pub crash_at_stop : (fuse : Fuse) (t : Timeline) → IsOut fuse → crash_moment fuse t ≡ t.stop
+crash_at_stop Unset t out = absurd (cc)
+crash_at_stop (Burning _) t out = absurd (cc)
+crash_at_stop Out t out = refl
+
+pub crash_now : (fuse : Fuse) (t : Timeline) → (IsOut fuse → ⊥) → crash_moment fuse t ≡ t.latest
+crash_now Unset t lit = refl
+crash_now (Burning _) t lit = refl
+crash_now Out t lit = absurd (lit refl)

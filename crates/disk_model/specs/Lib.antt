@@ -1,5 +1,6 @@
 pub mod Disk
 pub mod Elapsed
+pub mod MemoryDisk
 pub mod Pick
 pub mod Plan
 pub mod Replay

@@ -1,6 +1,6 @@
 -- What the disk in memory leaves at a crash. Own definitions.
 use Rattle.std.specs.Prelude.{ℕ, zero, suc, ◌++◌, Bool, List, take, drop, replicate, if◌then◌else◌}
-use Rattle.disk_model.specs.Disk.{Image}
+use Rattle.disk_model.specs.Disk.{Image, DiskState}
 use Rattle.disk_model.specs.Elapsed.{Timeline}
 
 -- One block that was written since the last sync, from what that sync left of it and the last write:
@@ -13,11 +13,11 @@ picked (suc (suc zero)) safe written = replicate 4096 165
 picked (suc (suc (suc _))) safe written = take 2048 written ++ drop 2048 safe
 
 -- What stood in a block when it was last closed, at this moment or before: what the last sync left.
-abbrev pub safe_at : Timeline → ℕ → ℕ → List ℕ
-safe_at t zero b = (t.state zero).reads b
-safe_at t (suc k) b = if (t.state (suc k)).is_open b then safe_at t k b else (t.state (suc k)).reads b
+abbrev pub safe_at : (ℕ → DiskState) → ℕ → ℕ → List ℕ
+safe_at state zero b = (state zero).reads b
+safe_at state (suc k) b = if (state (suc k)).is_open b then safe_at state k b else (state (suc k)).reads b
 
 -- What a crash at this moment leaves, under a pick.
 abbrev pub left_by : ℕ → Timeline → ℕ → Image
 left_by pick t k b =
-    if (t.state k).is_open b then picked pick (safe_at t k b) ((t.state k).reads b) else (t.state k).reads b
+    if (t.state k).is_open b then picked pick (safe_at t.state k b) ((t.state k).reads b) else (t.state k).reads b

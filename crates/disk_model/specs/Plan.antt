@@ -12,9 +12,13 @@ pub record Plan : Type 0 where
 abbrev pub is_due : Plan → Bool
 is_due plan = nat_lt plan.calls 18446744073709551615 && list_any (λ n. n == plan.calls + 1) plan.failing
 
+-- One more, in a count of a u64, which stops at that type's end.
+abbrev pub counted : ℕ → ℕ
+counted n = min (n + 1) 18446744073709551615
+
 -- The plan after one more call.
 abbrev pub after_call : Plan → Plan
-after_call plan = record plan { calls = min (plan.calls + 1) 18446744073709551615 }
+after_call plan = record plan { calls = counted plan.calls }
 
 -- Whether call number n is one of the first `calls` calls.
 abbrev pub is_made : ℕ → ℕ → Bool

@@ -1,17 +1,13 @@
 -- The disk in memory, from what the last crash left and its calls since. Own definitions.
-use Rattle.std.specs.Prelude.{◌≡◌, ℕ, ◌==◌, ◌&&◌, ◌<◌, Bool, true, false, List, length, take, fold, replicate, Option, Some, None, is_some, slice_index_or, if◌then◌else◌}
+use Rattle.std.specs.Prelude.{◌≡◌, ℕ, ◌==◌, ◌&&◌, ◌<◌, Bool, true, false, List, length, take, fold, Option, Some, None, is_some, slice_index_or, if◌then◌else◌}
 use Rattle.std.specs.BTreeMap.{BTreeMap, get}
 use Rattle.std.specs.Ordering.{nat_cmp}
 use Rattle.std.specs.Global.{Box}
 use Rattle.disk_model.specs.declared.store.Call.{Call}
 use Rattle.disk_model.specs.declared.store.Call.TheVariants.{Wrote, Synced}
-use Rattle.disk_model.specs.Disk.{Image, DiskState}
+use Rattle.disk_model.specs.Disk.{Image, DiskState, zero_block}
 use Rattle.disk_model.specs.Elapsed.{Timeline}
 use Rattle.disk_model.specs.Pick.{picked}
-
--- a block that was never written
-unfoldable pub zero_block : List ℕ
-zero_block = replicate 4096 0
 
 -- what a place holds, or else what is given
 abbrev pub held : Option (Box (List ℕ)) → List ℕ → List ℕ

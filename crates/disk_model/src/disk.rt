@@ -3,7 +3,7 @@ ghost use Rattle.outcome.specs.Causes.{Rose};
 ghost use Rattle.disk_model.specs.declared.fuse.Fuse.{Fuse};
 ghost use Rattle.disk_model.specs.declared.fuse.Fuse.TheVariants.{Unset};
 ghost use Rattle.disk_model.specs.Disk.{MayLeave, IsSettled, Writes, Syncs};
-ghost use Rattle.disk_model.specs.Elapsed.{Timeline, present, contents, stopped_at, burnt, set_to, IsOut, Elapses, StopsBefore};
+ghost use Rattle.disk_model.specs.Elapsed.{Timeline, present, contents, crash_moment, burnt, set_to, IsOut, Elapses, StopsBefore};
 
 /// The bytes of a block.
 pub type Block = [u8; 4096];
@@ -88,10 +88,9 @@ pub trait CrashDisk: Disk {
     /// Crashes the machine, at the stop where it has stopped and else now, and starts it again with no
     /// fuse. `pick` chooses among what a crash may leave.
     fn crash(&mut self, pick: u8)
-        ensures left { Self.Told → (IsOut (Self.fuse self.old) → ⊥)
-            → MayLeave (present (Self.timeline self.old)) (contents (Self.timeline self.new)) }
-        ensures left_at_stop { Self.Told → IsOut (Self.fuse self.old)
-            → MayLeave (stopped_at (Self.timeline self.old)) (contents (Self.timeline self.new)) }
+        ensures left { Self.Told → MayLeave
+            ((Self.timeline self.old).state (crash_moment (Self.fuse self.old) (Self.timeline self.old)))
+            (contents (Self.timeline self.new)) }
         ensures settled { Self.Told → IsSettled (present (Self.timeline self.new)) }
         ensures fuse { Self.fuse self.new ≡ Unset }
         ensures size { Self.size self.new ≡ Self.size self.old }

@@ -11,9 +11,11 @@
 mod disk;
 mod file_disk;
 mod fuse;
+mod memory_disk;
 mod planned;
 mod store;
 
 pub use disk::{Block, CrashDisk, Disk, Io};
 pub use file_disk::FileDisk;
 pub use fuse::Fuse;
+pub use memory_disk::{Counts, MemoryDisk};

@@ -1,6 +1,6 @@
 use Rattle.std.proofs.Common.{sym, ◌∙◌}
 use Rattle.disk_model.proofs.Stored.{base_kept}
-use Rattle.disk_model.specs.Replay.{zero_block}
+use Rattle.disk_model.specs.Disk.{zero_block}
 use Rattle.disk_model.proofs.store.make_place.Goals as goal
 
 pub returns-in_ok-insert-clause-same : goal.returns-in_ok-insert-clause-same
