@@ -14,6 +14,8 @@ mod fuse;
 mod memory_disk;
 mod planned;
 mod store;
+#[cfg(test)]
+mod tests;
 
 pub use disk::{Block, CrashDisk, Disk, Io};
 pub use file_disk::FileDisk;
