@@ -1,3 +1,3 @@
 mod Plans
 mod Stored
-mod Crashes
+mod Torn

@@ -40,7 +40,7 @@ pub still_replayed : (written written' left left' : BTreeMap ℕ (Box (List ℕ)
     → IsReplayed written left calls → IsReplayed written' left' calls'
 still_replayed written written' left left' calls calls' same base same_calls replayed b =
     let before : held (get nat_cmp written' b) (base_of left b) ≡ (replay calls' (at_rest (base_of left))).reads b =
-        rw (same, same_calls) (replayed b) in
+    rw (same, same_calls) (replayed b) in
     subst (λ (image : Image). held (get nat_cmp written' b) (image b) ≡ (replay calls' (at_rest image)).reads b) (sym base) before
 
 pub still_placed : (left left' : BTreeMap ℕ (Box (List ℕ))) (calls calls' : List Call)
@@ -56,7 +56,7 @@ pub wrote_replayed : (written written' left left' : BTreeMap ℕ (Box (List ℕ)
     → IsReplayed written left calls → IsReplayed written' left' calls'
 wrote_replayed written written' left left' calls calls' at logged latest updates alike base pushed replayed b =
     let before : held (get nat_cmp written' b) (base_of left b) ≡ (replay calls' (at_rest (base_of left))).reads b =
-        rw (pushed, fold_push after (at_rest (base_of left)) calls (Wrote at logged)) (grind (arith, common_steps, replayed b)) in
+    rw (pushed, fold_push after (at_rest (base_of left)) calls (Wrote at logged)) (grind (arith, common_steps, replayed b)) in
     subst (λ (image : Image). held (get nat_cmp written' b) (image b) ≡ (replay calls' (at_rest image)).reads b) (sym base) before
 
 pub wrote_placed : (left left' : BTreeMap ℕ (Box (List ℕ))) (calls calls' : List Call) (at : ℕ) (logged : Box (List ℕ))
@@ -67,8 +67,8 @@ wrote_placed left left' calls calls' at logged placed here whole pushed places k
     rw pushed (elim (cases_lt k (length calls)) [
       | inl old ↦ rw get_or-append (placed _ (places k old))
       | inr new ↦
-        let last : length calls ≡ k = omega (arith, ap length pushed, length-append {A = Call}) in
-        rw (get_or_push calls (Wrote at logged) Synced k last) (rw (here, whole))
+          let last : length calls ≡ k = omega (arith, ap length pushed, length-append {A = Call}) in
+          rw (get_or_push calls (Wrote at logged) Synced k last) (rw (here, whole))
     ])
 
 -- a push into room that is there

@@ -1,7 +1,6 @@
--- The moments of a disk since its last crash, the fuse, and what a crash since a moment might have
--- left. Own model.
-use Rattle.std.specs.Prelude.{◌≡◌, ℕ, suc, zero, ◌+◌, ◌≤◌, true, [], refl}
-use Rattle.disk_model.specs.Disk.{Image, DiskState, MayLeave}
+-- The moments of a disk since its last crash, and the fuse. Own model.
+use Rattle.std.specs.Prelude.{◌≡◌, ℕ, suc, zero, ◌+◌, ◌≤◌, true, []}
+use Rattle.disk_model.specs.Disk.{Image, DiskState}
 use Rattle.disk_model.specs.declared.fuse.Fuse.{Fuse}
 use Rattle.disk_model.specs.declared.fuse.Fuse.TheVariants.{Unset, Burning, Out}
 
@@ -19,10 +18,6 @@ present t = t.state t.latest
 -- what a read gives now
 abbrev pub contents : Timeline → Image
 contents t = (present t).reads
-
--- A crash at some moment from `since` on might have left this image.
-abbrev pub MightHaveLeft : Timeline → ℕ → Image → Type 0
-MightHaveLeft t since image = (k : ℕ) × (since ≤ k) × (k ≤ t.latest) × MayLeave (t.state k) image
 
 -- the fuse after one more write or sync
 abbrev pub burnt : Fuse → Fuse
@@ -67,14 +62,3 @@ untold = record { latest = 0; state = λ _. record { reads = λ _. []; is_open =
 pub record Follows (old new : Timeline) : Type 0 where
   pub later : new.latest ≡ old.latest + 1
   pub past : (k : ℕ) → k ≤ old.latest → new.state k ≡ old.state k
-
--- a machine that has stopped crashes as of the stop, and any other as of now
-pub crash_at_stop : (fuse : Fuse) (t : Timeline) → IsOut fuse → crash_moment fuse t ≡ t.stop
-crash_at_stop Unset t out = absurd (cc)
-crash_at_stop (Burning _) t out = absurd (cc)
-crash_at_stop Out t out = refl
-
-pub crash_now : (fuse : Fuse) (t : Timeline) → (IsOut fuse → ⊥) → crash_moment fuse t ≡ t.latest
-crash_now Unset t lit = refl
-crash_now (Burning _) t lit = refl
-crash_now Out t lit = absurd (lit refl)

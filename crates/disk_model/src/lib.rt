@@ -8,6 +8,7 @@
 //! `specs/Disk.antt`.
 #![tactic(auto)]
 
+mod crashes;
 mod disk;
 mod file_disk;
 mod fuse;
@@ -17,6 +18,7 @@ mod store;
 #[cfg(test)]
 mod tests;
 
+pub use crashes::crash_laws;
 pub use disk::{Block, CrashDisk, Disk, Io};
 pub use file_disk::FileDisk;
 pub use fuse::Fuse;

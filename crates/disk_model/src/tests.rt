@@ -5,6 +5,7 @@ use std::test::Fail;
 use std::{env, fs};
 
 const FIRST: Block = [1; 4096];
+
 const SECOND: Block = [2; 4096];
 
 // A block of one byte up to its middle, and of another from there on.

@@ -8,6 +8,6 @@ pub returns-in-None-get : goal.returns-in-None-get
 unfolding zero_block
 returns-in-None-get c =
     let none : latest_of c.args.self.now.written c.args.self.now.left c.args.at ≡ zero_block =
-        latest_none c.args.self.now.written c.args.self.now.left c.args.at (sym c.in-None.ensures.value) (sym c.in-None-get.ensures.value) in
+    latest_none c.args.self.now.written c.args.self.now.left c.args.at (sym c.in-None.ensures.value) (sym c.in-None-get.ensures.value) in
     sym none ∙ (c.args.self.now.reads c.args.at
     ∙ sym (contents_now (base_of c.args.self.now.left) c.args.self.now.calls.items c.args.at))

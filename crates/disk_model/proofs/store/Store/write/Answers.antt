@@ -22,8 +22,8 @@ invariant_of-self-in-Break-branch-5 c = record {
 pub invariant_of-self-2 : goal.invariant_of-self-2
 invariant_of-self-2 c =
     let pushed : c.push.new.self.items ≡ c.args.self.now.calls.items ++ Wrote c.args.at c.in_ok-logged.logged ∷ [] =
-        pushed_with_room c.push.result c.args.self.now.calls.items c.reserve.new.self.items c.push.new.self.items _ _ _
-            c.push.ensures.items c.push.ensures.full c.in_ok-reserve.ensures.ok c.reserve.ensures.items in
+    pushed_with_room c.push.result c.args.self.now.calls.items c.reserve.new.self.items c.push.new.self.items _ _ _
+    c.push.ensures.items c.push.ensures.full c.in_ok-reserve.ensures.ok c.reserve.ensures.items in
     record {
       reads = wrote_replayed c.args.self.now.written c.insert.new.self c.args.self.now.left c.make_place.new.left
           c.args.self.now.calls.items c.push.new.self.items c.args.at c.in_ok-logged.logged c.in_ok-latest.latest

@@ -37,7 +37,7 @@ torn_last : (calls : List Call) (s : Replay) (image : Image) → ((b : ℕ) → 
 torn_last [] s image same = same
 torn_last (Wrote at block ∷ calls) s image same =
     torn_last calls (after s (Wrote at block)) (put image at block.value)
-        (λ b. ap (λ (x : List ℕ). if b == at then block.value else x) (same b))
+    (λ b. ap (λ (x : List ℕ). if b == at then block.value else x) (same b))
 torn_last (Synced ∷ calls) s image same = torn_last calls (after s Synced) image same
 
 -- what a crash leaves of a replay
@@ -52,7 +52,7 @@ picked_again (suc zero) safe first second long = refl
 picked_again (suc (suc zero)) safe first second long = refl
 picked_again (suc (suc (suc _))) safe first second long =
     ap (λ (rest : List ℕ). take 2048 second ++ rest)
-        (drop-append-drop 2048 safe (take 2048 first) 2048 (omega arith) (length-take-le 2048 first long))
+    (drop-append-drop 2048 safe (take 2048 first) 2048 (omega arith) (length-take-le 2048 first long))
 
 long_after : (s : Replay) (at : ℕ) (block : Box (List ℕ)) → length block.value ≡ 4096
     → ((b : ℕ) → s.is_open b ≡ true → length (s.reads b) ≡ 4096)
@@ -78,7 +78,7 @@ left_after : (pick at : ℕ) (block : Box (List ℕ)) (s : Replay) (image : Imag
     → (b : ℕ) → put image at (picked pick (image at) block.value) b ≡ left pick (after s (Wrote at block)) b
 left_after pick at block s image closed long same b =
     let here : picked pick (image at) block.value ≡ picked pick (s.safe at) block.value =
-        torn_over pick (s.is_open at) (s.safe at) (s.reads at) block.value (image at) (closed at) (long at) (same at) in
+    torn_over pick (s.is_open at) (s.safe at) (s.reads at) block.value (image at) (closed at) (long at) (same at) in
     elim (cases_Bool (b == at)) [
       | inl is ↦ let e : b ≡ at = grind arith in rw (is, e) here
       | inr apart ↦ rw (apart, same b) refl
@@ -94,10 +94,10 @@ torn_left : (pick : ℕ) (calls : List Call) (s : Replay) (image : Image)
 torn_left pick [] s image whole closed long same = same
 torn_left pick (Wrote at block ∷ calls) s image whole closed long same =
     torn_left pick calls (after s (Wrote at block)) (put image at (picked pick (image at) block.value))
-        (λ k lt. whole (suc k) (omega arith))
-        (closed_after s (Wrote at block) closed)
-        (long_after s at block (whole 0 (omega arith)) long)
-        (left_after pick at block s image closed long same)
+    (λ k lt. whole (suc k) (omega arith))
+    (closed_after s (Wrote at block) closed)
+    (long_after s at block (whole 0 (omega arith)) long)
+    (left_after pick at block s image closed long same)
 torn_left pick (Synced ∷ calls) s image whole closed long same = absurd (whole 0 (omega arith))
 
 -- what the last sync left, in the words of the model
@@ -119,12 +119,12 @@ safe_is base calls zero le b = refl
 safe_is base calls (suc k) le b =
     let before : Replay = replay (take k calls) (at_rest base) in
     let step : replay (take (suc k) calls) (at_rest base) ≡ after before (get_or calls k Synced) =
-        ap (λ (cs : List Call). replay cs (at_rest base)) (take-suc calls k Synced (omega arith))
-        ∙ fold_push after (at_rest base) (take k calls) (get_or calls k Synced) in
+    ap (λ (cs : List Call). replay cs (at_rest base)) (take-suc calls k Synced (omega arith))
+    ∙ fold_push after (at_rest base) (take k calls) (get_or calls k Synced) in
     subst (λ (s : Replay). s.safe b ≡ (if s.is_open b then safe_at (moments base calls 0).state k b else s.reads b)) (sym step)
-        (safe_after before (get_or calls k Synced) (safe_at (moments base calls 0).state k b) b
-            (closed_safe (take k calls) (at_rest base) (λ _ _. refl) b)
-            (safe_is base calls k (omega arith) b))
+    (safe_after before (get_or calls k Synced) (safe_at (moments base calls 0).state k b) b
+    (closed_safe (take k calls) (at_rest base) (λ _ _. refl) b)
+    (safe_is base calls k (omega arith) b))
 
 wrote_whole : (places : BTreeMap ℕ (Box (List ℕ))) (call : Call) → has_place places call ≡ true → is_sync call ≡ false → WroteWhole call
 wrote_whole places (Wrote at block) placed is = eqb-true _ _ (and_parts _ _ placed).1
@@ -141,19 +141,19 @@ crash_leaves pick until synced places base once twice calls le placed later rest
     let cs : List Call = take until calls in
     let s : Replay = replay (take synced cs) (at_rest base) in
     let whole : (k : ℕ) → synced ≤ k → k < length cs → WroteWhole (get_or cs k Synced) =
-        λ k from lt.
-        let below : k < until = omega (arith, length-take-le until calls le) in
-        wrote_whole places (get_or cs k Synced)
-            (rw (get_or-take until calls k Synced below) (placed k (omega arith))) (later k from lt) in
+    λ k from lt.
+    let below : k < until = omega (arith, length-take-le until calls le) in
+    wrote_whole places (get_or cs k Synced)
+    (rw (get_or-take until calls k Synced below) (placed k (omega arith))) (later k from lt) in
     let once_is : (b : ℕ) → once b ≡ s.reads b =
-        λ b. kept b ∙ torn_last (take synced cs) (at_rest base) base (λ _. refl) b in
+    λ b. kept b ∙ torn_last (take synced cs) (at_rest base) base (λ _. refl) b in
     let second : torn pick (drop synced cs) once b ≡ left pick (replay (drop synced cs) (at_rest s.reads)) b =
-        torn_left pick (drop synced cs) (at_rest s.reads) once
-            (λ k lt. rw (get_or-drop synced cs k Synced) (whole (synced + k) (omega arith) (omega (arith, length-drop synced cs))))
-            (λ _ _. refl) (λ b opened. absurd (cc)) once_is b in
+    torn_left pick (drop synced cs) (at_rest s.reads) once
+    (λ k lt. rw (get_or-drop synced cs k Synced) (whole (synced + k) (omega arith) (omega (arith, length-drop synced cs))))
+    (λ _ _. refl) (λ b opened. absurd (cc)) once_is b in
     let joined : replay (drop synced cs) (at_rest s.reads) ≡ replay cs (at_rest base) =
-        ap (replay (drop synced cs)) (sym rest) ∙ (sym (fold-append after (at_rest base) (take synced cs) (drop synced cs))
-        ∙ ap (λ (xs : List Call). replay xs (at_rest base)) (take-append-drop synced cs)) in
+    ap (replay (drop synced cs)) (sym rest) ∙ (sym (fold-append after (at_rest base) (take synced cs) (drop synced cs))
+    ∙ ap (λ (xs : List Call). replay xs (at_rest base)) (take-append-drop synced cs)) in
     tears b ∙ (ap (λ (xs : List Call). torn pick xs once b) (take_rest cs synced) ∙ (second ∙ (ap (λ (r : Replay). left pick r b) joined
     ∙ ap (λ (x : List ℕ). if (replay cs (at_rest base)).is_open b then picked pick x ((replay cs (at_rest base)).reads b) else (replay cs (at_rest base)).reads b)
-        (safe_is base calls until le b))))
+    (safe_is base calls until le b))))
