@@ -1,5 +1,5 @@
 -- What the places of the disk in memory hold.
-use Rattle.std.proofs.Common.{◌≡◌, ◌≢◌, ◌==◌, ℕ, ◌+◌, ◌≤◌, ◌<◌, Bool, true, false, cond, Option, Some, None, is_some, Result, Ok, Err, is_ok, OnErr, length-append, List, [], ◌∷◌, ◌++◌, length, take, get_or, refl, sym, ◌∙◌, ap, subst, arith, inl, inr, ◌⊎◌}
+use Rattle.std.proofs.Common.{◌≡◌, ◌==◌, ℕ, ◌+◌, ◌≤◌, true, false, cond, Some, None, is_some, Result, Ok, Err, is_ok, OnErr, length-append, List, [], ◌∷◌, ◌++◌, length, get_or, sym, ap, subst, arith, inl, inr}
 use Rattle.std.proofs.Math.Seq.{take-length}
 use Rattle.std.specs.BTreeMap.{BTreeMap, get, Updates}
 use Rattle.std.specs.BTreeMap.{is_at}
@@ -10,7 +10,7 @@ use Rattle.disk_model.specs.declared.store.Call.{Call}
 use Rattle.disk_model.specs.declared.store.Call.TheVariants.{Wrote, Synced}
 use Rattle.disk_model.specs.Disk.{Image, zero_block}
 use Rattle.disk_model.specs.Elapsed.{contents}
-use Rattle.disk_model.specs.Replay.{base_of, latest_of, held, put, after, replay, at_rest, moments, has_place, IsReplayed, HavePlaces}
+use Rattle.disk_model.specs.Replay.{base_of, latest_of, held, after, replay, at_rest, moments, has_place, IsReplayed, HavePlaces}
 use Rattle.std.proofs.lemmas.List.Sums.{fold_push}
 use Rattle.std.proofs.lemmas.Bool.{cases_lt}
 use Rattle.std.proofs.lemmas.List.{get_or_push}

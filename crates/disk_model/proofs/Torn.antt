@@ -1,6 +1,6 @@
 -- What a crash of the disk in memory leaves: the calls up to the last sync are written over what the
 -- crash before left, and those after it as the pick has it.
-use Rattle.std.proofs.Common.{◌≡◌, ◌≢◌, ◌==◌, ◌&&◌, ℕ, zero, suc, ◌+◌, ◌-◌, ◌≤◌, ◌<◌, Bool, true, false, cond, if◌then◌else◌, List, [], ◌∷◌, ◌++◌, length, take, drop, get_or, fold, replicate, refl, sym, ◌∙◌, ap, subst, arith, inl, inr, ◌⊎◌}
+use Rattle.std.proofs.Common.{◌≡◌, ◌==◌, ℕ, zero, suc, ◌+◌, ◌-◌, ◌≤◌, ◌<◌, Bool, true, false, if◌then◌else◌, List, [], ◌∷◌, ◌++◌, length, take, drop, get_or, refl, sym, ◌∙◌, ap, subst, arith, inl, inr}
 use Rattle.std.proofs.lemmas.Bool.{cases_Bool, and_parts, eqb-true}
 use Rattle.std.proofs.lemmas.Grind.{common_steps}
 use Rattle.std.proofs.lemmas.List.{take-append-drop, length-take-le, length-drop, take_rest, get_or-take, get_or-drop}
@@ -13,7 +13,7 @@ use Rattle.disk_model.specs.declared.store.Call.{Call}
 use Rattle.disk_model.specs.declared.store.Call.TheVariants.{Wrote, Synced}
 use Rattle.disk_model.specs.Disk.{Image}
 use Rattle.disk_model.specs.Pick.{picked, safe_at, left_by}
-use Rattle.disk_model.specs.Replay.{Replay, put, after, replay, at_rest, moments, has_place, HavePlaces, is_sync, torn, torn_by}
+use Rattle.disk_model.specs.Replay.{Replay, put, after, replay, at_rest, moments, has_place, HavePlaces, is_sync, torn}
 
 -- a call that wrote a whole block
 abbrev WroteWhole : Call → Type 0

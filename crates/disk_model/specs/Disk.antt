@@ -1,5 +1,5 @@
 -- A disk as a crash sees it: what a read gives of each block, and what a crash may leave. Own model.
-use Rattle.std.specs.Prelude.{◌≡◌, ◌≢◌, ℕ, ◌≤◌, Bool, true, false, List, replicate}
+use Rattle.std.specs.Prelude.{◌≡◌, ◌≢◌, ℕ, Bool, true, false, List, replicate}
 use Rattle.disk_model.specs.declared.disk.Io.{Io}
 use Rattle.disk_model.specs.declared.disk.Io.TheVariants.{Done, Failed}
 
@@ -29,7 +29,8 @@ IsSettled s = (b : ℕ) → s.is_open b ≡ false
 -- One write of a block. At `Done` a read gives the block, which is open. Where the write failed, any
 -- bytes may stand there; the block is then open, or as it was. No other block changes.
 pub record Writes (at : ℕ) (block : List ℕ) (result : Io) (old new : DiskState) : Type 0 where
-  pub here : result ≡ Done → (new.reads at ≡ block) × (new.is_open at ≡ true)
+  pub here : result ≡ Done → new.reads at ≡ block
+  pub opened : result ≡ Done → new.is_open at ≡ true
   pub failed : result ≡ Failed → new.is_open at ≡ false
       → (old.is_open at ≡ false) × (new.reads at ≡ old.reads at)
   pub elsewhere : (b : ℕ) → b ≢ at → (new.reads b ≡ old.reads b) × (new.is_open b ≡ old.is_open b)

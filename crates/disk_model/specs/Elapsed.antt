@@ -57,8 +57,3 @@ StopsBefore old_fuse new_fuse old new = (IsOut old_fuse → ⊥) → IsOut new_f
 -- the moments of a disk that tells nothing
 abbrev pub untold : Timeline
 untold = record { latest = 0; state = λ _. record { reads = λ _. []; is_open = λ _. true }; stop = 0 }
-
--- One moment later, with the moments that were as they were.
-pub record Follows (old new : Timeline) : Type 0 where
-  pub later : new.latest ≡ old.latest + 1
-  pub past : (k : ℕ) → k ≤ old.latest → new.state k ≡ old.state k

@@ -1,5 +1,5 @@
 -- What the disk in memory leaves at a crash. Own definitions.
-use Rattle.std.specs.Prelude.{ℕ, zero, suc, ◌++◌, Bool, List, take, drop, replicate, if◌then◌else◌}
+use Rattle.std.specs.Prelude.{ℕ, zero, suc, ◌++◌, List, take, drop, replicate, if◌then◌else◌}
 use Rattle.disk_model.specs.Disk.{Image, DiskState}
 use Rattle.disk_model.specs.Elapsed.{Timeline}
 

@@ -1,5 +1,5 @@
 -- The disk in memory, from what the last crash left and its calls since. Own definitions.
-use Rattle.std.specs.Prelude.{◌≡◌, ℕ, ◌==◌, ◌&&◌, ◌<◌, Bool, true, false, List, length, take, fold, Option, Some, None, is_some, slice_index_or, if◌then◌else◌}
+use Rattle.std.specs.Prelude.{◌≡◌, ℕ, ◌==◌, ◌&&◌, ◌+◌, ◌≤◌, ◌<◌, Bool, true, false, List, length, take, fold, Option, Some, None, is_some, slice_index_or, if◌then◌else◌}
 use Rattle.std.specs.BTreeMap.{BTreeMap, get}
 use Rattle.std.specs.Ordering.{nat_cmp}
 use Rattle.std.specs.Global.{Box}
@@ -57,6 +57,11 @@ moments base calls stop =
       state = λ k. seen (replay (take k calls) (at_rest base));
       stop = stop;
     }
+
+-- One moment later, with the moments that were as they were.
+pub record Follows (old new : Timeline) : Type 0 where
+  pub later : new.latest ≡ old.latest + 1
+  pub past : (k : ℕ) → k ≤ old.latest → new.state k ≡ old.state k
 
 -- whether there is a place for the block that a call wrote, and the block is whole
 abbrev pub has_place : BTreeMap ℕ (Box (List ℕ)) → Call → Bool

@@ -24,7 +24,10 @@ pub struct FileDisk {
 impl FileDisk {
     /// A disk of the whole blocks that the file has now. The file must be open for reading and writing.
     /// The error is that of asking for its length.
-    pub fn new(file: File) -> io::Result<FileDisk> {
+    pub fn new(file: File) -> io::Result<FileDisk>
+        ensures fuse { IfOk result (λ disk. ⟦<FileDisk as Disk>⟧.fuse disk ≡ Unset) }
+        ensures faults { IfOk result (λ disk. ⟦<FileDisk as Disk>⟧.faults disk ≡ 0) }
+    {
         let blocks = file.metadata()?.len() / BLOCK_BYTES;
         Ok(FileDisk {
             file,

@@ -7,9 +7,9 @@ ghost use Rattle.disk_model.specs.declared.disk.Io.TheVariants.{Done};
 ghost use Rattle.disk_model.specs.declared.store.Call.{Call};
 ghost use Rattle.disk_model.specs.declared.store.Call.TheVariants.{Synced};
 ghost use Rattle.disk_model.specs.Disk.{Image, Writes, Syncs, zero_block};
-ghost use Rattle.disk_model.specs.Elapsed.{present, contents, Follows};
+ghost use Rattle.disk_model.specs.Elapsed.{present, contents};
 ghost use Rattle.disk_model.specs.Pick.{picked, left_by};
-ghost use Rattle.disk_model.specs.Replay.{base_of, latest_of, replay, at_rest, moments, has_place, is_sync, torn_by, torn, IsReplayed, HavePlaces};
+ghost use Rattle.disk_model.specs.Replay.{base_of, latest_of, replay, at_rest, moments, Follows, has_place, is_sync, torn_by, torn, IsReplayed, HavePlaces};
 
 use crate::disk::Block;
 use outcome::Mem;

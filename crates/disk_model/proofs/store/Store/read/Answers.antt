@@ -1,7 +1,7 @@
-use Rattle.std.proofs.Common.{rules, refl, sym, ◌∙◌, ◌≡◌}
+use Rattle.std.proofs.Common.{sym, ◌∙◌, ◌≡◌}
 use Rattle.disk_model.specs.Disk.{zero_block}
 use Rattle.disk_model.proofs.Stored.{contents_now, latest_none}
-use Rattle.disk_model.specs.Replay.{base_of, latest_of, put, replay, at_rest, moments, has_place}
+use Rattle.disk_model.specs.Replay.{base_of, latest_of}
 use Rattle.disk_model.proofs.store.Store.read.Goals as goal
 
 pub returns-in-None-get : goal.returns-in-None-get
