@@ -1,7 +1,7 @@
 -- A disk as a crash sees it: what a read gives of each block, and what a crash may leave. Own model.
-use Rattle.std.specs.Prelude.{◌≡◌, ◌≢◌, ℕ, Bool, true, false, List, replicate}
+use Rattle.std.specs.Prelude.{◌≡◌, ◌≢◌, ℕ, Bool, false, List, replicate}
 use Rattle.disk_model.specs.declared.disk.Io.{Io}
-use Rattle.disk_model.specs.declared.disk.Io.TheVariants.{Done, Failed}
+use Rattle.disk_model.specs.declared.disk.Io.TheVariants.{Done}
 
 -- The bytes of each block, by the block's number.
 abbrev pub Image : Type 0
@@ -26,18 +26,15 @@ MayLeave s image = (b : ℕ) → s.is_open b ≡ false → image b ≡ s.reads b
 abbrev pub IsSettled : DiskState → Type 0
 IsSettled s = (b : ℕ) → s.is_open b ≡ false
 
--- One write of a block. At `Done` a read gives the block, which is open. Where the write failed, any
--- bytes may stand there; the block is then open, or as it was. No other block changes.
+-- One write of a block. At `Done` a read gives the block. Where the write failed, any bytes may stand
+-- there. In both cases the block may be open. No other block changes.
 pub record Writes (at : ℕ) (block : List ℕ) (result : Io) (old new : DiskState) : Type 0 where
   pub here : result ≡ Done → new.reads at ≡ block
-  pub opened : result ≡ Done → new.is_open at ≡ true
-  pub failed : result ≡ Failed → new.is_open at ≡ false
-      → (old.is_open at ≡ false) × (new.reads at ≡ old.reads at)
   pub elsewhere : (b : ℕ) → b ≢ at → (new.reads b ≡ old.reads b) × (new.is_open b ≡ old.is_open b)
 
--- One sync. At `Done` no block is open. Where it failed, the open blocks stay open.
+-- One sync. At `Done` no block is open. Where it failed, the open blocks may still be open. What a read
+-- gives doesn't change.
 pub record Syncs (result : Io) (old new : DiskState) : Type 0 where
-  pub reads_same : (b : ℕ) → new.reads b ≡ old.reads b
-  pub settled : result ≡ Done → IsSettled new
+  pub same : (b : ℕ) → new.reads b ≡ old.reads b
   pub kept : (b : ℕ) → old.is_open b ≡ false → new.is_open b ≡ false
-  pub failed : result ≡ Failed → (b : ℕ) → old.is_open b ≡ true → new.is_open b ≡ true
+  pub settled : result ≡ Done → IsSettled new

@@ -1,5 +1,5 @@
 -- The moments of a disk since its last crash, and the fuse. Own model.
-use Rattle.std.specs.Prelude.{◌≡◌, ℕ, suc, zero, ◌+◌, ◌≤◌, true, []}
+use Rattle.std.specs.Prelude.{◌≡◌, ℕ, suc, zero, ◌≤◌, true, []}
 use Rattle.disk_model.specs.Disk.{Image, DiskState}
 use Rattle.disk_model.specs.declared.fuse.Fuse.{Fuse}
 use Rattle.disk_model.specs.declared.fuse.Fuse.TheVariants.{Unset, Burning, Out}

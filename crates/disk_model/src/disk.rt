@@ -3,7 +3,7 @@ ghost use Rattle.outcome.specs.Causes.{Rose};
 ghost use Rattle.disk_model.specs.declared.fuse.Fuse.{Fuse};
 ghost use Rattle.disk_model.specs.declared.fuse.Fuse.TheVariants.{Unset};
 ghost use Rattle.disk_model.specs.Disk.{MayLeave, IsSettled, Writes, Syncs};
-ghost use Rattle.disk_model.specs.Elapsed.{Timeline, present, contents, crash_moment, burnt, set_to, IsOut, Elapses, StopsBefore};
+ghost use Rattle.disk_model.specs.Elapsed.{Timeline, present, contents, crash_moment, burnt, set_to, IsOut, Elapses};
 
 /// The bytes of a block.
 pub type Block = [u8; 4096];
@@ -52,7 +52,6 @@ pub trait Disk {
         ensures written { Told → Writes at block.now result (present (timeline self.old)) (present (timeline self.new)) }
         ensures time { Told → Elapses (fuse self.old) (fuse self.new) (timeline self.old) (timeline self.new) }
         ensures soon { Told → (timeline self.new).latest ≤ (timeline self.old).latest + 1 }
-        ensures stop { Told → StopsBefore (fuse self.old) (fuse self.new) (timeline self.old) (timeline self.new) }
         ensures size { size self.new ≡ size self.old }
         ensures fuse { fuse self.new ≡ burnt (fuse self.old) }
         ensures faults { faults self.old ≤ faults self.new }
@@ -63,7 +62,6 @@ pub trait Disk {
         ensures synced { Told → Syncs result (present (timeline self.old)) (present (timeline self.new)) }
         ensures time { Told → Elapses (fuse self.old) (fuse self.new) (timeline self.old) (timeline self.new) }
         ensures soon { Told → (timeline self.new).latest ≤ (timeline self.old).latest + 1 }
-        ensures stop { Told → StopsBefore (fuse self.old) (fuse self.new) (timeline self.old) (timeline self.new) }
         ensures size { size self.new ≡ size self.old }
         ensures fuse { fuse self.new ≡ burnt (fuse self.old) }
         ensures faults { faults self.old ≤ faults self.new }

@@ -1,4 +1,4 @@
-ghost use Rattle.std.specs.Prelude.{◌≡◌, ◌↔◌, ℕ, ◌+◌, ◌<◌, ◌≤◌, length, IsTrue, IsOk, IsErr, if◌then◌else◌};
+ghost use Rattle.std.specs.Prelude.{◌≡◌, ◌↔◌, ℕ, ◌+◌, ◌<◌, ◌≤◌, length, true, IsTrue, IsOk, IsErr, if◌then◌else◌};
 ghost use Rattle.outcome.specs.Causes.{Rose};
 ghost use Rattle.disk_model.specs.declared.fuse.Fuse.TheVariants.{Unset};
 ghost use Rattle.disk_model.specs.Disk.{MayLeave, IsSettled, Writes, Syncs, zero_block};
@@ -120,13 +120,14 @@ impl Disk for MemoryDisk {
         ensures written { Writes at block.now result (present (timeline_of self.old)) (present (timeline_of self.new)) }
         ensures time { Elapses (fuse_of self.old) (fuse_of self.new) (timeline_of self.old) (timeline_of self.new) }
         ensures soon { (timeline_of self.new).latest ≤ (timeline_of self.old).latest + 1 }
-        ensures stop { StopsBefore (fuse_of self.old) (fuse_of self.new) (timeline_of self.old) (timeline_of self.new) }
         ensures size { size_of self.new ≡ size_of self.old }
         ensures fuse { fuse_of self.new ≡ burnt (fuse_of self.old) }
         ensures faults { faults_of self.old ≤ faults_of self.new }
         ensures cause { result ≡ Io.Failed → Rose (faults_of self.old) (faults_of self.new) }
         ensures answer { Answers self.old self.new result }
+        ensures opened { result ≡ Io.Done → (present (timeline_of self.new)).is_open at ≡ true }
         ensures failed { result ≡ Io.Failed → present (timeline_of self.new) ≡ present (timeline_of self.old) }
+        ensures stop { StopsBefore (fuse_of self.old) (fuse_of self.new) (timeline_of self.old) (timeline_of self.new) }
         ensures counts { counts_of self.new ≡ record (counts_of self.old) { writes = counted (counts_of self.old).writes } }
     {
         self.counts.writes = self.counts.writes.saturating_add(1);
@@ -142,13 +143,13 @@ impl Disk for MemoryDisk {
         ensures synced { Syncs result (present (timeline_of self.old)) (present (timeline_of self.new)) }
         ensures time { Elapses (fuse_of self.old) (fuse_of self.new) (timeline_of self.old) (timeline_of self.new) }
         ensures soon { (timeline_of self.new).latest ≤ (timeline_of self.old).latest + 1 }
-        ensures stop { StopsBefore (fuse_of self.old) (fuse_of self.new) (timeline_of self.old) (timeline_of self.new) }
         ensures size { size_of self.new ≡ size_of self.old }
         ensures fuse { fuse_of self.new ≡ burnt (fuse_of self.old) }
         ensures faults { faults_of self.old ≤ faults_of self.new }
         ensures cause { result ≡ Io.Failed → Rose (faults_of self.old) (faults_of self.new) }
         ensures answer { Answers self.old self.new result }
         ensures failed { result ≡ Io.Failed → present (timeline_of self.new) ≡ present (timeline_of self.old) }
+        ensures stop { StopsBefore (fuse_of self.old) (fuse_of self.new) (timeline_of self.old) (timeline_of self.new) }
         ensures counts { counts_of self.new ≡ record (counts_of self.old) { syncs = counted (counts_of self.old).syncs } }
     {
         self.counts.syncs = self.counts.syncs.saturating_add(1);

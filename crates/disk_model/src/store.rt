@@ -86,6 +86,8 @@ impl Store {
         ensures written { IsOk result → Writes at block.now Done
             (present (moments (base_of self.old.left) self.old.calls.items 0))
             (present (moments (base_of self.new.left) self.new.calls.items 0)) }
+        ensures opened { IsOk result
+            → (present (moments (base_of self.new.left) self.new.calls.items 0)).is_open at ≡ true }
         ensures follows { IsOk result → Follows
             (moments (base_of self.old.left) self.old.calls.items 0)
             (moments (base_of self.new.left) self.new.calls.items 0) }
