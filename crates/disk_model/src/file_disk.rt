@@ -1,4 +1,4 @@
-ghost use Rattle.std.specs.Prelude.{◌≡◌, ℕ, ◌<◌, ◌≤◌, ◌^◌, IfOk};
+ghost use Rattle.std.specs.Prelude.{◌≡◌, ℕ, ◌/◌, ◌<◌, ◌≤◌, ◌^◌};
 ghost use Rattle.outcome.specs.Causes.{Rose};
 ghost use Rattle.disk_model.specs.declared.fuse.Fuse.TheVariants.{Unset};
 ghost use Rattle.disk_model.specs.Elapsed.{untold};
@@ -22,19 +22,18 @@ pub struct FileDisk {
 }
 
 impl FileDisk {
-    /// A disk of the whole blocks that the file has now. The file must be open for reading and writing.
-    /// The error is that of asking for its length.
-    pub fn new(file: File) -> io::Result<FileDisk>
-        ensures fuse { IfOk result (λ disk. ⟦<FileDisk as Disk>⟧.fuse disk ≡ Unset) }
-        ensures faults { IfOk result (λ disk. ⟦<FileDisk as Disk>⟧.faults disk ≡ 0) }
+    /// A disk of the whole blocks of a file of `len` bytes, which is open for reading and writing.
+    pub fn new(file: File, len: u64) -> FileDisk
+        ensures size { ⟦<FileDisk as Disk>⟧.size result ≡ len / 4096 }
+        ensures fuse { ⟦<FileDisk as Disk>⟧.fuse result ≡ Unset }
+        ensures faults { ⟦<FileDisk as Disk>⟧.faults result ≡ 0 }
     {
-        let blocks = file.metadata()?.len() / BLOCK_BYTES;
-        Ok(FileDisk {
+        FileDisk {
             file,
-            blocks,
+            blocks: len / BLOCK_BYTES,
             fuse: Fuse::Unset,
             faults: 0,
-        })
+        }
     }
 }
 

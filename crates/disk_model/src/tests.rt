@@ -98,7 +98,8 @@ fn a_file_keeps_its_blocks(rt: HostRuntime) -> Result<(), Fail> {
         .truncate(true)
         .open(&rt, &path)?;
     file.set_len(3 * 4096 + 5)?;
-    let mut disk = FileDisk::new(file)?;
+    let len = file.metadata()?.len();
+    let mut disk = FileDisk::new(file, len);
     assert_eq!(rt; disk.blocks(), 3);
     disk.fuse(2);
     assert_eq!(rt; disk.write(1, &FIRST), Io::Done);
