@@ -3,6 +3,12 @@
 //! [`Octets`] is a list of bytes, and every contract sees it as that list.
 #![tactic(auto)]
 
+mod fault;
 mod octets;
+mod reader;
+mod writer;
 
+pub use fault::XdrFault;
 pub use octets::Octets;
+pub use reader::Reader;
+pub use writer::Writer;
