@@ -32,11 +32,11 @@ pub record Form (A : Type 0) : Type 1 where
 abbrev pub Spells : {A : Type 0} → Form A → A → List ℕ → Type 0
 Spells form v bytes = form.Fits v × (bytes ≡ form.spell v)
 
--- the place of a fault of an item that begins at the cursor
-abbrev pub place : Cursor → XdrFault → ℕ
-place c (BadPad at) = at
-place c _ = c.at
+-- the place of a fault of an item that begins at `start`
+abbrev pub place : ℕ → XdrFault → ℕ
+place start (BadPad at) = at
+place start _ = start
 
 abbrev pub placed : {A : Type 0} → Cursor → Result A XdrFault → Result A ℕ
 placed c (Ok x) = Ok x
-placed c (Err e) = Err (place c e)
+placed c (Err e) = Err (place c.at e)

@@ -8,3 +8,5 @@ pub mod Parts
 pub mod Arms
 pub mod PartLaws
 pub mod ArmLaws
+pub mod Forms
+pub mod Reads

@@ -9,13 +9,23 @@ use Rattle.wire_xdr.specs.Form.{Passes, IsForm, Form}
 use Rattle.wire_xdr.specs.StepLaws.{bind_ok, ok_is, Passes-then}
 use Rattle.wire_xdr.specs.WordReads.{word_read, flag_read, count_read}
 use Rattle.wire_xdr.specs.WordLaws.{word_is, flag_is, count_is}
-use Rattle.wire_xdr.specs.Parts.{both_read, both_spell, both_Fits, as_read, many, list_read, list_spell, list_Fits, value_if, option_read, option_spell, option_Fits}
+use Rattle.wire_xdr.specs.Parts.{void_read, both_read, both_spell, both_Fits, as_read, many, list_read, list_spell, list_Fits, value_if, option_read, option_spell, option_Fits}
 
 -- the cursor behind two texts
 pub behind_both : (at : ℕ) (x y rest : List ℕ) → ◌≡◌ {A = Cursor} (record { at = (at + length x) + length y; rest = rest }) (record { at = at + length (x ++ y); rest = rest })
 behind_both at x y rest =
     let e : (at + length x) + length y ≡ at + length (x ++ y) = omega (arith, length-append x y) in
     ap (λ (k : ℕ). record { at = k; rest = rest }) e
+
+pub void_is : IsForm void_read (λ v. []) (λ v. Unit {0})
+void_is = record {
+  takes = λ old v new fits e.
+      let P : Unit {0} × Cursor → Type 0 = λ p. Passes old [] p.1 × Unit {0} in
+      subst P (ok_is {E = ℕ} (tt, old) (v, new) e) (record { parts = refl; by = omega arith; bytes = fits }, tt);
+  again = λ at v rest fits.
+      let e : at ≡ at + 0 = omega arith in
+      ap (λ (k : ℕ). Ok (tt, record { at = k; rest = rest })) e;
+}
 
 pub both_is : {A B : Type 0} (a : Form A) (b : Form B) → IsForm (both_read a b) (both_spell a b) (both_Fits a b)
 both_is {A} {B} a b = record {

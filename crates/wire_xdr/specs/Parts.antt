@@ -7,6 +7,10 @@ use Rattle.wire_xdr.specs.Words.{word_bytes, flag_bytes}
 use Rattle.wire_xdr.specs.Form.{Form}
 use Rattle.wire_xdr.specs.WordReads.{word_read, flag_read, count_read}
 
+-- nothing
+abbrev pub void_read : Cursor → Result (Unit {0} × Cursor) ℕ
+void_read c = Ok (tt, c)
+
 -- one after the other
 abbrev pub both_read : {A B : Type 0} → Form A → Form B → Cursor → Result ((A × B) × Cursor) ℕ
 both_read a b c = do

@@ -4,11 +4,13 @@
 #![tactic(auto)]
 
 mod fault;
+mod form;
 mod octets;
 mod reader;
 mod writer;
 
 pub use fault::XdrFault;
+pub use form::{BadXdr, Items, ReadError, Xdr, XdrBy, parse_count, read, read_by, write, write_by};
 pub use octets::Octets;
 pub use reader::Reader;
 pub use writer::Writer;

@@ -40,6 +40,15 @@ fn short(need: u64, rest: &[u8]) -> XdrFault
     }
 }
 
+/// The bytes from a place on.
+fn bytes_from(all: &[u8], at: usize) -> &[u8]
+    requires { at ≤ length all.now }
+    ensures rest { result.now ≡ drop at all.now }
+    ensures bytes { IsBytes result.now }
+{
+    &all[at..]
+}
+
 /// Where the first byte stands that isn't zero.
 fn first_nonzero(bytes: &[u8]) -> Option<usize>
     ensures { result ≡ position is_nonzero bytes.now }
@@ -68,9 +77,10 @@ impl<'a> Reader<'a> {
 
     /// The bytes that are left.
     pub fn rest(&self) -> &'a [u8]
-        ensures { result.now ≡ self.now.rest }
+        ensures rest { result.now ≡ self.now.rest }
+        ensures bytes { IsBytes result.now }
     {
-        &self.all[self.at..]
+        bytes_from(self.all, self.at)
     }
 
     /// How many bytes were read since the first.

@@ -1,0 +1,14 @@
+//! Types that have a form: read and written field by field, and their calls and laws.
+
+mod bad;
+mod chosen;
+mod items;
+mod option;
+mod words;
+mod xdr;
+
+pub use bad::{BadXdr, ReadError};
+pub use chosen::{XdrBy, read_by, write_by};
+pub use items::Items;
+pub use words::parse_count;
+pub use xdr::{Xdr, read, write};
