@@ -9,16 +9,16 @@ use Rattle.wire_xdr.specs.StepLaws.{bind_ok, ok_is, Passes-then}
 use Rattle.wire_xdr.specs.WordReads.{word_read}
 use Rattle.wire_xdr.specs.WordLaws.{word_is}
 use Rattle.wire_xdr.specs.PartLaws.{behind_both}
-use Rattle.wire_xdr.specs.Arms.{Arm, Case, ArmOf, arm_read, arms_read, is_listed, number_of, body_spell, body_Fits, refused_at, IsListed, Picks, IsPicked, other_arm, chosen_read, chosen_Fits, union_read, union_spell, union_Fits, union_or_read, union_or_Fits}
+use Rattle.wire_xdr.specs.Arms.{Arm, Case, case_of, ArmOf, arm_read, arms_read, is_listed, number_of, body_spell, body_Fits, refused_at, IsListed, Picks, IsPicked, other_arm, chosen_read, chosen_Fits, union_read, union_spell, union_Fits, union_or_read, union_or_Fits}
 
 -- What an arm of the union read is a value of that arm.
-arm_takes : {V : Type 0} (case : V → Case V) (a : Arm V) (listed : Bool) → ((body : a.Body) → case (a.make body) ≡ record { arm = a; body = body; listed = listed })
+arm_takes : {V : Type 0} (case : V → Case V) (a : Arm V) (listed : Bool) → ((body : a.Body) → case (a.make body) ≡ case_of listed a body)
     → (old : Cursor) (v : V) (new : Cursor) → IsBytes old.rest → arm_read a old ≡ Ok (v, new)
     → Passes old (body_spell case v) new × (number_of case v ≡ a.number) × ((case v).listed ≡ listed) × body_Fits case v
 arm_takes {V} case a listed made old v new fits e =
     let x = bind_ok (a.form.read old) (λ x. Ok (a.make x.0, x.1)) (v, new) e in
     let t = a.form.lawful.takes old x.0.0 x.0.1 fits x.1 in
-    let Q : Case V → Type 0 = λ k. Passes old (k.arm.form.spell k.body) x.0.1 × (k.arm.number ≡ a.number) × (k.listed ≡ listed) × k.arm.form.Fits k.body in
+    let Q : Case V → Type 0 = λ k. Passes old k.spell x.0.1 × (k.number ≡ a.number) × (k.listed ≡ listed) × k.Fits in
     let P : V × Cursor → Type 0 = λ p. Passes old (body_spell case p.0) p.1 × (number_of case p.0 ≡ a.number) × ((case p.0).listed ≡ listed) × body_Fits case p.0 in
     subst P (ok_is {E = ℕ} (a.make x.0.0, x.0.1) (v, new) x.2) (subst Q (sym (made x.0.0)) (t.0, refl, refl, t.1))
 
@@ -26,7 +26,9 @@ arm_again : {V : Type 0} (case : V → Case V) (at : ℕ) (v : V) (rest : List �
     → arm_read (case v).arm (record { at = at; rest = body_spell case v ++ rest }) ≡ Ok (v, record { at = at + length (body_spell case v); rest = rest })
 arm_again {V} case at v rest whole fits =
     let k = case v in
-    ap (λ (r : Result (k.arm.Body × Cursor) ℕ). r >>= λ x. Ok (k.arm.make x.0, x.1)) (k.arm.form.lawful.again at k.body rest fits)
+    let text = k.arm.form.spell k.body in
+    let read = ap (λ (r : Result (k.arm.Body × Cursor) ℕ). r >>= λ x. Ok (k.arm.make x.0, x.1)) (k.arm.form.lawful.again at k.body rest (k.fits fits)) in
+    subst (λ (t : List ℕ). arm_read k.arm (record { at = at; rest = t ++ rest }) ≡ Ok (k.arm.make k.body, record { at = at + length t; rest = rest })) (sym k.spell_is) read
     ∙ ap (λ (u : V). Ok (u, record { at = at + length (body_spell case v); rest = rest })) whole
 
 -- What was read was read by an arm of the list, or by what stands for all others.
@@ -89,7 +91,7 @@ picked : {V : Type 0} {case : V → Case V} (arms : List (ArmOf case)) (other : 
 picked {V} {case} arms other v c true reads is = reads (arm_read (other (number_of case v))) c
 picked {V} {case} arms other v c false reads is = unlisted arms (arm_read (other (number_of case v))) (number_of case v) c is ∙ reads (arm_read (other (number_of case v))) c
 
-pub union_or_is : {V B : Type 0} {case : V → Case V} (arms : List (ArmOf case)) (form : ℕ → Form B) (make : ℕ → B → V) → ((n : ℕ) (body : B) → case (make n body) ≡ record { arm = other_arm form make n; body = body; listed = false })
+pub union_or_is : {V B : Type 0} {case : V → Case V} (arms : List (ArmOf case)) (form : ℕ → Form B) (make : ℕ → B → V) → ((n : ℕ) (body : B) → case (make n body) ≡ case_of false (other_arm form make n) body)
     → ((v : V) → IsPicked arms (other_arm form make) v) → IsForm (union_or_read arms (other_arm form make)) (union_spell case) (union_or_Fits arms)
 union_or_is {V} {B} {case} arms form make made law = record {
   takes = λ old v new fits e.

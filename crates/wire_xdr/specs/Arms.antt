@@ -1,5 +1,5 @@
 -- The arms of a union: a number chooses how the rest is spelled (RFC 4506 section 4.15).
-use Rattle.std.specs.Prelude.{◌≡◌, ℕ, ◌<◌, ◌^◌, Bool, true, false, ◌==◌, ◌||◌, if◌then◌else◌, List, [], ◌∷◌, ◌++◌, Result, Ok, Err}
+use Rattle.std.specs.Prelude.{◌≡◌, ℕ, ◌<◌, ◌^◌, Bool, true, false, ◌==◌, ◌||◌, if◌then◌else◌, List, [], ◌∷◌, ◌++◌, Result, Ok, Err, refl}
 use Rattle.wire_xdr.specs.Cursor.{Cursor, ◌>>=◌}
 use Rattle.wire_xdr.specs.Words.{word_bytes}
 use Rattle.wire_xdr.specs.Form.{Form}
@@ -12,24 +12,34 @@ pub record Arm (V : Type 0) : Type 1 where
   pub form : Form Body
   pub make : Body → V
 
--- which arm a value is of, what it holds, and whether that arm is one of the list or the default
+-- Which arm a value is of, and what it holds; whether that arm is one of the list or the default; its
+-- number, and how what it holds is spelled.
 pub record Case (V : Type 0) : Type 1 where
   pub arm : Arm V
   pub body : arm.Body
   pub listed : Bool
+  pub number : ℕ
+  pub spell : List ℕ
+  pub Fits : Type 0
+  pub number_is : number ≡ arm.number
+  pub spell_is : spell ≡ arm.form.spell body
+  pub fits : Fits → arm.form.Fits body
+
+abbrev pub case_of : {V : Type 0} → Bool → (a : Arm V) → a.Body → Case V
+case_of listed a body = record { arm = a; body = body; listed = listed; number = a.number; spell = a.form.spell body; Fits = a.form.Fits body; number_is = refl; spell_is = refl; fits = λ h. h }
 
 -- a value of an arm of the list
 abbrev pub holds : {V B : Type 0} → ℕ → Form B → (B → V) → B → Case V
-holds number form make body = record { arm = record { Body = _; number = number; form = form; make = make }; body = body; listed = true }
+holds number form make body = case_of true (record { Body = _; number = number; form = form; make = make }) body
 
 -- a value of the default arm
 abbrev pub defaults : {V B : Type 0} → ℕ → Form B → (B → V) → B → Case V
-defaults number form make body = record { arm = record { Body = _; number = number; form = form; make = make }; body = body; listed = false }
+defaults number form make body = case_of false (record { Body = _; number = number; form = form; make = make }) body
 
 -- an arm of the list: a value that is made by it is of it
 pub record ArmOf {V : Type 0} (case : V → Case V) : Type 1 where
   pub arm : Arm V
-  pub made : (body : arm.Body) → case (arm.make body) ≡ record { arm = arm; body = body; listed = true }
+  pub made : (body : arm.Body) → case (arm.make body) ≡ case_of true arm body
 
 abbrev pub arm : {V B : Type 0} {case : V → Case V} (number : ℕ) (form : Form B) (make : B → V) → ((body : B) → case (make body) ≡ holds number form make body) → ArmOf case
 arm number form make made = record { arm = record { Body = _; number = number; form = form; make = make }; made = made }
@@ -50,13 +60,13 @@ is_listed (a ∷ arms) n = (n == a.arm.number) || is_listed arms n
 
 -- the number of a value's arm, and the spelling of what it holds
 abbrev pub number_of : {V : Type 0} → (V → Case V) → V → ℕ
-number_of case v = (case v).arm.number
+number_of case v = (case v).number
 
 abbrev pub body_spell : {V : Type 0} → (V → Case V) → V → List ℕ
-body_spell case v = (case v).arm.form.spell (case v).body
+body_spell case v = (case v).spell
 
 abbrev pub body_Fits : {V : Type 0} → (V → Case V) → V → Type 0
-body_Fits case v = (case v).arm.form.Fits (case v).body
+body_Fits case v = (case v).Fits
 
 -- a refusal at this place
 abbrev pub refused_at : {V : Type 0} → ℕ → Cursor → Result (V × Cursor) ℕ

@@ -8,7 +8,7 @@ use Rattle.wire_xdr.specs.WordReads.{word_read, hyper_read, signed_read, flag_re
 use Rattle.wire_xdr.specs.WordLaws.{word_is, hyper_is, signed_is, flag_is, fixed_is, opaque_is}
 use Rattle.wire_xdr.specs.Parts.{void_read, both_read, both_spell, both_Fits, as_read, list_read, list_spell, list_Fits, option_read, option_spell, option_Fits}
 use Rattle.wire_xdr.specs.PartLaws.{void_is, both_is, as_is, list_is, option_is}
-use Rattle.wire_xdr.specs.Arms.{Case, ArmOf, IsListed, IsPicked, other_arm, body_spell, chosen_read, chosen_Fits, union_read, union_spell, union_Fits, union_or_read, union_or_Fits}
+use Rattle.wire_xdr.specs.Arms.{Case, case_of, ArmOf, IsListed, IsPicked, other_arm, body_spell, chosen_read, chosen_Fits, union_read, union_spell, union_Fits, union_or_read, union_or_Fits}
 use Rattle.wire_xdr.specs.ArmLaws.{chosen_is, union_is, union_or_is}
 
 -- an unsigned number of four bytes (section 4.2), and of eight (section 4.5)
@@ -63,5 +63,5 @@ abbrev pub union : {V : Type 0} {case : V → Case V} (arms : List (ArmOf case))
 union {V} {case} arms law = record { read = union_read arms; spell = union_spell case; Fits = union_Fits case; lawful = union_is arms law }
 
 -- a tag and the arm with that number, or the default arm (section 4.15)
-abbrev pub union_or : {V B : Type 0} {case : V → Case V} (arms : List (ArmOf case)) (form : ℕ → Form B) (make : ℕ → B → V) → ((n : ℕ) (body : B) → case (make n body) ≡ record { arm = other_arm form make n; body = body; listed = false }) → ((v : V) → IsPicked arms (other_arm form make) v) → Form V
+abbrev pub union_or : {V B : Type 0} {case : V → Case V} (arms : List (ArmOf case)) (form : ℕ → Form B) (make : ℕ → B → V) → ((n : ℕ) (body : B) → case (make n body) ≡ case_of false (other_arm form make n) body) → ((v : V) → IsPicked arms (other_arm form make) v) → Form V
 union_or {V} {B} {case} arms form make made law = record { read = union_or_read arms (other_arm form make); spell = union_spell case; Fits = union_or_Fits arms; lawful = union_or_is arms form make made law }

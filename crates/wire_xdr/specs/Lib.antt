@@ -10,3 +10,4 @@ pub mod PartLaws
 pub mod ArmLaws
 pub mod Forms
 pub mod Reads
+pub mod Samples

@@ -3,6 +3,7 @@
 mod bad;
 mod chosen;
 mod items;
+mod laws;
 mod option;
 mod words;
 mod xdr;
@@ -10,5 +11,6 @@ mod xdr;
 pub use bad::{BadXdr, ReadError};
 pub use chosen::{XdrBy, read_by, write_by};
 pub use items::Items;
+pub use laws::{no_prefix, no_prefix_by, one_spelling, one_spelling_by};
 pub use words::parse_count;
 pub use xdr::{Xdr, read, write};

@@ -63,6 +63,14 @@ impl Writer {
         Ok(())
     }
 
+    /// Nothing (RFC 4506 section 4.16).
+    pub fn void(&mut self) -> Mem<()>
+        ensures ok { OnOk result (Appends self.old [] self.new) }
+        ensures err { OnErr result (self.new ≡ self.old) }
+    {
+        Ok(())
+    }
+
     /// A word (RFC 4506 section 4.2).
     #[tactic(auto, unfolding(crate::specs::Words::word_bytes))]
     pub fn u32(&mut self, v: u32) -> Mem<()>

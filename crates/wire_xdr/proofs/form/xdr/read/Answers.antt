@@ -1,7 +1,7 @@
 use Rattle.std.proofs.Common.{sym, subst}
 use Rattle.wire_xdr.specs.Cursor.{Cursor, IsBytes}
 use Rattle.wire_xdr.specs.Reads.{IsRead, Reads}
-use Rattle.wire_xdr.proofs.Whole.{read_ok, read_bad}
+use Rattle.wire_xdr.proofs.Whole.{read_ok}
 use Rattle.wire_xdr.proofs.form.xdr.read.Goals as goal
 
 pub returns-in-Ok : goal.returns-in-Ok
