@@ -13,4 +13,4 @@ pub use chosen::{XdrBy, read_by, write_by};
 pub use items::Items;
 pub use laws::{no_prefix, no_prefix_by, one_spelling, one_spelling_by};
 pub use words::parse_count;
-pub use xdr::{Xdr, read, write};
+pub use xdr::{Xdr, put_four, read, write};

@@ -52,3 +52,21 @@ pub fn write<T: Xdr>(alloc: Global, writer: &mut Writer, value: &T) -> Mem<()>
     value.put(&mut fresh)?;
     writer.append(fresh.as_slice())
 }
+
+/// Writes four values, one after the other: fields of a struct that has more than seven. Without memory
+/// a part may be written.
+pub fn put_four<A: Xdr, B: Xdr, C: Xdr, D: Xdr>(
+    writer: &mut Writer,
+    a: &A,
+    b: &B,
+    c: &C,
+    d: &D,
+) -> Mem<()>
+    requires { A.form.Fits a.now × B.form.Fits b.now × C.form.Fits c.now × D.form.Fits d.now }
+    ensures { OnOk result (Appends writer.old (A.form.spell a.now ++ (B.form.spell b.now ++ (C.form.spell c.now ++ D.form.spell d.now))) writer.new) }
+{
+    a.put(writer)?;
+    b.put(writer)?;
+    c.put(writer)?;
+    d.put(writer)
+}
