@@ -1,12 +1,10 @@
 -- A whole value is read exactly where it is spelled: what follows from the law of its form.
-use Rattle.std.proofs.Common.{◌≡◌, ℕ, List, [], ◌++◌, Result, Ok, Err, refl, sym, ap, ◌∙◌}
+use Rattle.std.proofs.Common.{◌≡◌, ℕ, List, [], ◌++◌, Ok, refl, sym, ap, ◌∙◌}
 use Rattle.std.proofs.lemmas.List.{append-nil}
-use Rattle.outcome.specs.declared.memory.NoMemory.{NoMemory}
-use Rattle.wire_xdr.specs.declared.form.bad.BadXdr.{BadXdr}
 use Rattle.wire_xdr.specs.Cursor.{Cursor, IsBytes}
 use Rattle.wire_xdr.specs.Form.{Form, Spells}
 use Rattle.wire_xdr.specs.StepLaws.{ok_is}
-use Rattle.wire_xdr.specs.Reads.{Answers, IsRead}
+use Rattle.wire_xdr.specs.Reads.{IsRead}
 
 -- bytes that begin with a spelling are read as its value
 spelled_read : {A : Type 0} (form : Form A) (old : Cursor) (v : A) (rest : List ℕ) → form.Fits v → old.rest ≡ form.spell v ++ rest → (new : Cursor) × (form.read old ≡ Ok (v, new)) × (new.rest ≡ rest)

@@ -1,7 +1,6 @@
 -- The laws of unions, each proved from those of its arms.
-use Rattle.std.proofs.Common.{◌≡◌, ℕ, zero, suc, ◌+◌, ◌^◌, ◌<◌, ◌≤◌, Bool, true, false, cond, eqb, ◌||◌, List, [], ◌∷◌, ◌++◌, length, Result, Ok, Err, refl, sym, ap, subst, ◌∙◌, append_assoc, arith}
+use Rattle.std.proofs.Common.{◌≡◌, ℕ, ◌+◌, ◌^◌, ◌<◌, Bool, true, false, cond, eqb, ◌||◌, List, [], ◌∷◌, ◌++◌, length, Result, Ok, refl, sym, ap, subst, ◌∙◌, append_assoc}
 use Rattle.std.proofs.lemmas.Bool.{eqb-true}
-use Rattle.std.proofs.lemmas.List.{length-append}
 use Rattle.wire_xdr.specs.Cursor.{Cursor, IsBytes, ◌>>=◌}
 use Rattle.wire_xdr.specs.Words.{word_bytes}
 use Rattle.wire_xdr.specs.Form.{Passes, IsForm, Form}
@@ -41,8 +40,8 @@ by_arm : {V : Type 0} {case : V → Case V} {P : Type 0} (arms : List (ArmOf cas
 by_arm [] otherwise n c r e found none = none refl e
 by_arm (a ∷ arms) otherwise n c r e found none =
     by_test (eqb n a.arm.number) (arm_read a.arm c) (arms_read arms otherwise n c) r e
-      (λ same x. found a (eqb-true n a.arm.number same) (rw same refl) x)
-      (λ other y. by_arm arms otherwise n c r y (λ b is listed x. found b is (rw other listed) x) (λ listed x. none (rw other listed) x))
+    (λ same x. found a (eqb-true n a.arm.number same) (rw same refl) x)
+    (λ other y. by_arm arms otherwise n c r y (λ b is listed x. found b is (rw other listed) x) (λ listed x. none (rw other listed) x))
 
 -- no arm of the list has the number
 unlisted_test : {A : Type 0} (b l : Bool) (x y z : A) → (b || l) ≡ false → (l ≡ false → y ≡ z) → cond b x y ≡ z
@@ -57,12 +56,12 @@ pub chosen_is : {V : Type 0} {case : V → Case V} (arms : List (ArmOf case)) �
 chosen_is {V} {case} arms law n = record {
   takes = λ old v new fits e.
       by_arm arms (refused_at old.at) n old (v, new) e
-        (λ a is listed x. let t = arm_takes case a.arm true a.made old v new fits x in (t.0, (t.1 ∙ sym is, t.3)))
-        (λ listed x. absurd cc);
+      (λ a is listed x. let t = arm_takes case a.arm true a.made old v new fits x in (t.0, (t.1 ∙ sym is, t.3)))
+      (λ listed x. absurd cc);
   again = λ at v rest fits.
       let c : Cursor = record { at = at; rest = body_spell case v ++ rest } in
       subst (λ (m : ℕ). arms_read arms (refused_at at) m c ≡ Ok (v, record { at = at + length (body_spell case v); rest = rest })) fits.0
-        ((law v).reads (refused_at at) c ∙ arm_again case at v rest (law v).whole fits.1);
+      ((law v).reads (refused_at at) c ∙ arm_again case at v rest (law v).whole fits.1);
 }
 
 pub union_is : {V : Type 0} {case : V → Case V} (arms : List (ArmOf case)) → ((v : V) → IsListed arms v) → IsForm (union_read arms) (union_spell case) (union_Fits case)
@@ -71,12 +70,12 @@ union_is {V} {case} arms law = record {
       let tag = bind_ok (word_read old) (λ tag. arms_read arms (refused_at old.at) tag.0 tag.1) (v, new) e in
       let first = word_is.takes old tag.0.0 tag.0.1 fits tag.1 in
       by_arm arms (refused_at old.at) tag.0.0 tag.0.1 (v, new) tag.2
-        (λ a is listed x.
-          let t = arm_takes case a.arm true a.made tag.0.1 v new first.0.bytes x in
-          let number : tag.0.0 ≡ number_of case v = is ∙ sym t.1 in
-          let both = Passes-then old (word_bytes tag.0.0) tag.0.1 (body_spell case v) new first.0 t.0 in
-          (subst (λ (m : ℕ). Passes old (word_bytes m ++ body_spell case v) new) number both, (subst (λ (m : ℕ). m < 2 ^ 32) number first.1, t.3)))
-        (λ listed x. absurd cc);
+      (λ a is listed x.
+      let t = arm_takes case a.arm true a.made tag.0.1 v new first.0.bytes x in
+      let number : tag.0.0 ≡ number_of case v = is ∙ sym t.1 in
+      let both = Passes-then old (word_bytes tag.0.0) tag.0.1 (body_spell case v) new first.0 t.0 in
+      (subst (λ (m : ℕ). Passes old (word_bytes m ++ body_spell case v) new) number both, (subst (λ (m : ℕ). m < 2 ^ 32) number first.1, t.3)))
+      (λ listed x. absurd cc);
   again = λ at v rest fits.
       let x = word_bytes (number_of case v) in
       let y = body_spell case v in
@@ -99,12 +98,13 @@ union_or_is {V} {B} {case} arms form make made law = record {
       let first = word_is.takes old tag.0.0 tag.0.1 fits tag.1 in
       let n = tag.0.0 in
       let done : (listed : Bool) → n ≡ number_of case v → is_listed arms n ≡ listed → (case v).listed ≡ listed → Passes tag.0.1 (body_spell case v) new → body_Fits case v → Passes old (union_spell case v) new × union_or_Fits arms v
-            = λ listed number is own second body.
-                (subst (λ (m : ℕ). Passes old (word_bytes m ++ body_spell case v) new) number (Passes-then old (word_bytes n) tag.0.1 (body_spell case v) new first.0 second),
-                 (subst (λ (m : ℕ). m < 2 ^ 32) number first.1, subst (λ (m : ℕ). is_listed arms m ≡ (case v).listed) number (is ∙ sym own), body)) in
+      = λ listed number is own second body. (
+        subst (λ (m : ℕ). Passes old (word_bytes m ++ body_spell case v) new) number (Passes-then old (word_bytes n) tag.0.1 (body_spell case v) new first.0 second),
+        (subst (λ (m : ℕ). m < 2 ^ 32) number first.1, subst (λ (m : ℕ). is_listed arms m ≡ (case v).listed) number (is ∙ sym own), body),
+      ) in
       by_arm arms (arm_read (other_arm form make n)) n tag.0.1 (v, new) tag.2
-        (λ a is listed x. let t = arm_takes case a.arm true a.made tag.0.1 v new first.0.bytes x in done true (is ∙ sym t.1) listed t.2 t.0 t.3)
-        (λ listed x. let t = arm_takes case (other_arm form make n) false (made n) tag.0.1 v new first.0.bytes x in done false (sym t.1) listed t.2 t.0 t.3);
+      (λ a is listed x. let t = arm_takes case a.arm true a.made tag.0.1 v new first.0.bytes x in done true (is ∙ sym t.1) listed t.2 t.0 t.3)
+      (λ listed x. let t = arm_takes case (other_arm form make n) false (made n) tag.0.1 v new first.0.bytes x in done false (sym t.1) listed t.2 t.0 t.3);
   again = λ at v rest fits.
       let x = word_bytes (number_of case v) in
       let y = body_spell case v in

@@ -1,6 +1,6 @@
 -- The forms of XDR (RFC 4506 section 4), a table: how each type is read and spelled, and what has a
 -- spelling. Types of a protocol are spelled by combining these.
-use Rattle.std.specs.Prelude.{◌≡◌, ℕ, ◌+◌, ◌<◌, ◌≤◌, ◌^◌, ℤ, FitsSigned, Bool, List, [], length, Option, Ok, refl, false}
+use Rattle.std.specs.Prelude.{◌≡◌, ℕ, ◌<◌, ◌≤◌, ◌^◌, ℤ, FitsSigned, Bool, List, [], length, Option, false}
 use Rattle.std.specs.Int.{w64}
 use Rattle.wire_xdr.specs.Words.{word_bytes, hyper_bytes, signed_bytes, flag_bytes, fixed_bytes, opaque_bytes}
 use Rattle.wire_xdr.specs.Form.{Form}

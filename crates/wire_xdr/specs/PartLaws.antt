@@ -1,14 +1,13 @@
 -- The laws of pairs, structs, lists and options, each proved from those of their parts.
-use Rattle.std.proofs.Common.{◌≡◌, ℕ, zero, suc, ◌+◌, ◌^◌, ◌<◌, ◌≤◌, Bool, true, false, List, [], ◌∷◌, ◌++◌, length, Option, Some, None, Result, Ok, Err, refl, sym, ap, subst, ◌∙◌, append_assoc, arith}
-use Rattle.std.specs.Prelude.{IfSome}
+use Rattle.std.proofs.Common.{◌≡◌, ℕ, zero, suc, ◌+◌, ◌^◌, ◌<◌, Bool, true, false, List, [], ◌∷◌, ◌++◌, length, Option, Some, None, Result, Ok, refl, sym, ap, subst, ◌∙◌, append_assoc, arith}
 use Rattle.std.specs.List.{flat_map, AllByRecursion}
-use Rattle.std.proofs.lemmas.List.{length-append, append-nil}
+use Rattle.std.proofs.lemmas.List.{length-append}
 use Rattle.wire_xdr.specs.Cursor.{Cursor, IsBytes, ◌>>=◌}
 use Rattle.wire_xdr.specs.Words.{word_bytes, flag_bytes}
 use Rattle.wire_xdr.specs.Form.{Passes, IsForm, Form}
 use Rattle.wire_xdr.specs.StepLaws.{bind_ok, ok_is, Passes-then}
-use Rattle.wire_xdr.specs.WordReads.{word_read, flag_read, count_read}
-use Rattle.wire_xdr.specs.WordLaws.{word_is, flag_is, count_is}
+use Rattle.wire_xdr.specs.WordReads.{flag_read, count_read}
+use Rattle.wire_xdr.specs.WordLaws.{flag_is, count_is}
 use Rattle.wire_xdr.specs.Parts.{void_read, both_read, both_spell, both_Fits, as_read, many, list_read, list_spell, list_Fits, value_if, option_read, option_spell, option_Fits}
 
 -- the cursor behind two texts

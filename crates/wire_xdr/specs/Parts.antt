@@ -1,11 +1,11 @@
 -- Reading and spelling what is made of smaller forms: pairs, structs, lists with a limit, options, and
 -- unions (RFC 4506 sections 4.12 to 4.19).
-use Rattle.std.specs.Prelude.{◌≡◌, ℕ, zero, suc, ◌<◌, ◌≤◌, ◌^◌, Bool, true, false, ◌==◌, if◌then◌else◌, List, [], ◌∷◌, ◌++◌, length, Option, Some, None, IfSome, Result, Ok, Err}
+use Rattle.std.specs.Prelude.{ℕ, zero, suc, ◌≤◌, Bool, true, false, List, [], ◌∷◌, ◌++◌, length, Option, Some, None, IfSome, Result, Ok}
 use Rattle.std.specs.List.{flat_map, AllByRecursion}
 use Rattle.wire_xdr.specs.Cursor.{Cursor, ◌>>=◌}
 use Rattle.wire_xdr.specs.Words.{word_bytes, flag_bytes}
 use Rattle.wire_xdr.specs.Form.{Form}
-use Rattle.wire_xdr.specs.WordReads.{word_read, flag_read, count_read}
+use Rattle.wire_xdr.specs.WordReads.{flag_read, count_read}
 
 -- nothing
 abbrev pub void_read : Cursor → Result (Unit {0} × Cursor) ℕ

@@ -1,5 +1,5 @@
 -- What a call that reads a value of a form answers.
-use Rattle.std.specs.Prelude.{◌≡◌, ℕ, List, ◌++◌, Result, Ok, Err, OnOk, IfOk}
+use Rattle.std.specs.Prelude.{◌≡◌, ℕ, List, ◌++◌, Result, Ok, Err}
 use Rattle.outcome.specs.declared.memory.NoMemory.{NoMemory}
 use Rattle.wire_xdr.specs.declared.form.bad.BadXdr.{BadXdr}
 use Rattle.wire_xdr.specs.declared.form.bad.ReadError.{ReadError}

@@ -1,21 +1,21 @@
 -- The laws of words: each is read exactly where it is spelled.
-use Rattle.std.proofs.Common.{◌≡◌, ℕ, zero, suc, ◌+◌, ◌-◌, ◌%◌, ◌^◌, ◌<◌, ◌≤◌, min, Bool, true, false, not, cond, ltb, eqb, List, [], ◌∷◌, ◌++◌, length, get_or, take, drop, replicate, Option, Some, None, Result, Ok, Err, refl, sym, ap, subst, ◌∙◌, append_assoc, arith}
+use Rattle.std.proofs.Common.{◌≡◌, ℕ, zero, suc, ◌+◌, ◌-◌, ◌^◌, ◌<◌, ◌≤◌, min, Bool, true, false, cond, ltb, eqb, List, ◌++◌, length, get_or, take, drop, replicate, Option, Some, None, Result, Ok, Err, refl, sym, ap, subst, ◌∙◌, append_assoc, arith}
 use Rattle.std.specs.Prelude.{ℤ, FitsSigned, position}
 use Rattle.std.specs.List.{position_or_len}
 use Rattle.std.specs.Int.{Width, w32, w64, byte_len, from_be_bytes, to_be_bytes, cast_signed, cast_unsigned}
-use Rattle.std.proofs.lemmas.Bool.{ltb-true, ltb-false, le-ltb, lt-ltb, eqb-true, not-false}
+use Rattle.std.proofs.lemmas.Bool.{ltb-false, le-ltb, eqb-true, not-false}
 use Rattle.std.proofs.lemmas.List.{take_at, drop_at, take-append-drop, length-append, length-take, length-drop, length-replicate, ext_get_or, get_or-replicate}
-use Rattle.std.proofs.lemmas.List.Sums.{fails_before_first, passes_at_first}
+use Rattle.std.proofs.lemmas.List.Sums.{fails_before_first}
 use Rattle.std.proofs.lemmas.Nat.{be_bytes_4, be_bytes_8, from_be_bytes-to_be_bytes_4, from_be_bytes-to_be_bytes_8}
 use Rattle.std.proofs.lemmas.Int.{of_z-to_z, to_z-of_z}
 use Rattle.std.proofs.Math.Facts.{sfits_to_z, Fits-of_z}
 use Rattle.std.proofs.Math.Seq.{take-add}
 use Rattle.wire_xdr.specs.declared.fault.XdrFault.{XdrFault}
-use Rattle.wire_xdr.specs.declared.fault.XdrFault.TheVariants.{Short, BadPad, BadFlag, TooLong}
+use Rattle.wire_xdr.specs.declared.fault.XdrFault.TheVariants.{Short, BadFlag, TooLong}
 use Rattle.wire_xdr.specs.Cursor.{Cursor, IsBytes, past, ◌>>=◌}
 use Rattle.wire_xdr.specs.Words.{number_at, signed_at, flag_at, count_at, padding, is_nonzero, unless_nonzero, fixed_at, opaque_at, word_bytes, hyper_bytes, signed_bytes, flag_bytes, fixed_bytes, opaque_bytes}
 use Rattle.wire_xdr.specs.Form.{Passes, IsForm, placed}
-use Rattle.wire_xdr.specs.StepLaws.{IsBytes-drop, IsBytes-take, bind_ok, guard_ok, placed_ok, ok_is, Passes-then, same_place}
+use Rattle.wire_xdr.specs.StepLaws.{IsBytes-drop, IsBytes-take, bind_ok, guard_ok, placed_ok, ok_is, Passes-then}
 use Rattle.wire_xdr.specs.WordReads.{word_read, hyper_read, signed_read, flag_read, count_read, fixed_read, opaque_read}
 
 -- ---- numbers
@@ -50,12 +50,14 @@ number_takes w limit wide old n new fits e =
     let front = take (byte_len w) old.rest in
     let n-is : from_be_bytes w front ≡ n = ap (λ (p : ℕ × Cursor). p.0) (ok_is {E = XdrFault} (from_be_bytes w front, past (byte_len w) old) (n, new) g.1) in
     let new-is : past (byte_len w) old ≡ new = ap (λ (p : ℕ × Cursor). p.1) (ok_is {E = XdrFault} (from_be_bytes w front, past (byte_len w) old) (n, new) g.1) in
-    let front-is : to_be_bytes w n ≡ front = rw (← n-is) (wide.back front (omega (arith, length-take (byte_len w) old.rest)) (IsBytes-take (byte_len w) old.rest fits)) in
-    (record {
-      parts = rw (front-is, ← new-is) (sym (take-append-drop (byte_len w) old.rest));
-      by = rw (← new-is, wide.len n) refl;
-      bytes = rw (← new-is) (IsBytes-drop (byte_len w) old.rest fits);
-    }, rw (← n-is) (wide.below front (IsBytes-take (byte_len w) old.rest fits)))
+    let front-is : to_be_bytes w n ≡ front = rw (← n-is) (wide.back front (omega (arith, length-take (byte_len w) old.rest)) (IsBytes-take (byte_len w) old.rest fits)) in (
+      record {
+        parts = rw (front-is, ← new-is) (sym (take-append-drop (byte_len w) old.rest));
+        by = rw (← new-is, wide.len n) refl;
+        bytes = rw (← new-is) (IsBytes-drop (byte_len w) old.rest fits);
+      },
+      rw (← n-is) (wide.below front (IsBytes-take (byte_len w) old.rest fits)),
+    )
 
 number_again : (w : Width) (limit : ℕ) (wide : IsWide w limit) (at n : ℕ) (rest : List ℕ) → n < limit → number_at w (record { at = at; rest = to_be_bytes w n ++ rest }) ≡ Ok (n, record { at = at + length (to_be_bytes w n); rest = rest })
 number_again w limit wide at n rest lt =
@@ -147,8 +149,8 @@ all_zero : (bytes : List ℕ) → position is_nonzero bytes ≡ None → bytes �
 all_zero bytes e =
     let past_end : length bytes ≤ position_or_len is_nonzero bytes = ltb-false _ _ (none_from_cond (ltb (position_or_len is_nonzero bytes) (length bytes)) (position_or_len is_nonzero bytes) e) in
     ext_get_or 0 bytes (replicate (length bytes) 0) (sym (length-replicate (length bytes) 0)) (λ i lt.
-        let zero_there : get_or bytes i 0 ≡ 0 = eqb-true (get_or bytes i 0) 0 (not-false (eqb (get_or bytes i 0) 0) (fails_before_first is_nonzero bytes i 0 (omega (arith, past_end, lt)))) in
-        zero_there ∙ sym (get_or-replicate (length bytes) i 0 0 lt))
+    let zero_there : get_or bytes i 0 ≡ 0 = eqb-true (get_or bytes i 0) 0 (not-false (eqb (get_or bytes i 0) 0) (fails_before_first is_nonzero bytes i 0 (omega (arith, past_end, lt)))) in
+    zero_there ∙ sym (get_or-replicate (length bytes) i 0 0 lt))
 
 zeros_pass : (k : ℕ) → position_or_len is_nonzero (replicate k 0) ≡ k
 zeros_pass zero = refl
@@ -179,11 +181,14 @@ fixed_takes n old v new fits e =
     let len : length (take n old.rest) ≡ n = omega (arith, length-take n old.rest, long) in
     let parts = fixed_parts n (padding n) old.rest zeros in
     let P : List ℕ × Cursor → Type 0 = λ x. Passes old (x.0 ++ replicate (padding (length x.0)) 0) x.1 × (length x.0 ≡ n) in
-    subst P u.1 (record {
-      parts = rw len parts;
-      by = rw len (omega (arith, length-append (take n old.rest) (replicate (padding n) 0), length-replicate {A = ℕ} (padding n) 0, len));
-      bytes = IsBytes-drop (n + padding n) old.rest fits;
-    }, len)
+    subst P u.1 (
+      record {
+        parts = rw len parts;
+        by = rw len (omega (arith, length-append (take n old.rest) (replicate (padding n) 0), length-replicate {A = ℕ} (padding n) 0, len));
+        bytes = IsBytes-drop (n + padding n) old.rest fits;
+      },
+      len,
+    )
 
 fixed_again : (at : ℕ) (v rest : List ℕ) → fixed_at (length v) (record { at = at; rest = fixed_bytes v ++ rest }) ≡ Ok (v, record { at = at + length (fixed_bytes v); rest = rest })
 unfolding fixed_bytes

@@ -21,10 +21,16 @@ fn faults_leave_the_reader(rt: HostRuntime) {
     assert_eq!(rt; reader.flag().err(), Some(XdrFault::BadFlag { value: 2 }));
     assert_eq!(rt; reader.at(), 0);
     let mut reader = Reader::new(&[0, 0, 0]);
-    assert_eq!(rt; reader.u32().err(), Some(XdrFault::Short { need: 4, have: 3 }));
+    assert_eq!(rt;
+        reader.u32().err(),
+        Some(XdrFault::Short { need: 4, have: 3 })
+    );
     assert_eq!(rt; reader.at(), 0);
     let mut reader = Reader::new(&[0, 0, 0, 9]);
-    assert_eq!(rt; reader.opaque(8).err(), Some(XdrFault::TooLong { len: 9, max: 8 }));
+    assert_eq!(rt;
+        reader.opaque(8).err(),
+        Some(XdrFault::TooLong { len: 9, max: 8 })
+    );
     assert_eq!(rt; reader.at(), 0);
 }
 
@@ -129,7 +135,10 @@ fn unions_and_numbers(rt: HostRuntime) -> Result<(), Fail> {
 
     let bytes = [0, 0, 0, 0, 0, 0, 0, 5, 0, 0, 0, 3];
     let mut reader = Reader::new(&bytes);
-    assert_eq!(rt; read_by::<Request>(rt.alloc(), 8, &mut reader)?.err(), Some(BadXdr { at: 0 }));
+    assert_eq!(rt;
+        read_by::<Request>(rt.alloc(), 8, &mut reader)?.err(),
+        Some(BadXdr { at: 0 })
+    );
     let request = read_by::<Request>(rt.alloc(), 9, &mut reader)??;
     assert!(rt; matches!(request, Request::List { id: 5, at_most: 3 }));
     let mut writer = Writer::new(rt.alloc())?;

@@ -32,11 +32,7 @@ pub trait XdrBy: Drop {
 }
 
 /// Reads a value of that number, with the contract of [`crate::read`].
-pub fn read_by<T: XdrBy>(
-    alloc: Global,
-    number: u32,
-    reader: &mut Reader,
-) -> Mem<Result<T, BadXdr>>
+pub fn read_by<T: XdrBy>(alloc: Global, number: u32, reader: &mut Reader) -> Mem<Result<T, BadXdr>>
     ensures { IsRead (T.form number) result reader.old reader.new }
 {
     let _rest = reader.rest();

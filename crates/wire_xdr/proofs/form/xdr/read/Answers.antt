@@ -1,6 +1,5 @@
-use Rattle.std.proofs.Common.{sym, subst}
-use Rattle.wire_xdr.specs.Cursor.{Cursor, IsBytes}
-use Rattle.wire_xdr.specs.Reads.{IsRead, Reads}
+use Rattle.std.proofs.Common.{subst}
+use Rattle.wire_xdr.specs.Cursor.{IsBytes}
 use Rattle.wire_xdr.proofs.Whole.{read_ok}
 use Rattle.wire_xdr.proofs.form.xdr.read.Goals as goal
 
