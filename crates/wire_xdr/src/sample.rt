@@ -11,7 +11,7 @@ use outcome::Mem;
 use std::alloc::Global;
 
 /// What a file is, a union with a tag: any other tag is refused.
-#[derive(Debug, Drop)]
+#[derive(Drop)]
 pub enum FileKind {
     Text,
     Data(Octets),
@@ -52,7 +52,7 @@ impl Xdr for FileKind {
 }
 
 /// A file, a struct.
-#[derive(Debug, Drop)]
+#[derive(Drop)]
 pub struct File {
     pub name: Octets,
     pub kind: FileKind,
@@ -83,7 +83,7 @@ impl Xdr for File {
 }
 
 /// A folder: bytes of a fixed number, a list with a limit and a value that may be missing.
-#[derive(Debug, Drop)]
+#[derive(Drop)]
 pub struct Folder {
     pub id: [u8; 8],
     pub files: Items<File>,
@@ -111,7 +111,7 @@ impl Xdr for Folder {
 }
 
 /// A result, a union with a default arm: what was done on 0, and else nothing but the number.
-#[derive(Debug, Drop)]
+#[derive(Drop)]
 pub enum Outcome {
     Done(Folder),
     Refused(u32),
@@ -144,7 +144,7 @@ impl Xdr for Outcome {
 }
 
 /// A request, by the number of its operation, which stands elsewhere.
-#[derive(Debug, Drop)]
+#[derive(Drop)]
 pub enum Request {
     Store(File),
     List { id: u64, at_most: u32 },
