@@ -40,3 +40,9 @@ pub record IsRead {A : Type 0} (form : Form A) (result : Result (Result A BadXdr
   pub found : IsFound form result old new
   -- where the bytes begin with the spelling of a value, that value is read
   pub only : (v : A) (rest : List ℕ) → form.Fits v → old.rest ≡ form.spell v ++ rest → Answers result v new rest
+
+-- the value that was read is of that number
+abbrev pub HasNumber : {A : Type 0} → (A → ℕ) → ℕ → Result (Result A BadXdr) NoMemory → Type 0
+HasNumber number_of n (Ok (Ok v)) = number_of v ≡ n
+HasNumber number_of n (Ok (Err bad)) = Unit {0}
+HasNumber number_of n (Err e) = Unit {0}

@@ -1,4 +1,4 @@
-ghost use Rattle.std.specs.Prelude.{◌≡◌, ℕ, ◌<◌, ◌^◌, List, [], length, take, replicate, OnOk, OnErr, IfOk};
+ghost use Rattle.std.specs.Prelude.{◌≡◌, ℕ, ◌<◌, ◌^◌, List, [], length, take, replicate, OnOk, OnErr, IfOk, IsOk};
 ghost use Rattle.std.specs.Int.{w64};
 ghost use Rattle.wire_xdr.specs.Words.{padding, word_bytes, hyper_bytes, signed_bytes, flag_bytes, fixed_bytes, opaque_bytes};
 ghost use Rattle.wire_xdr.specs.Cursor.{Appends};
@@ -63,10 +63,10 @@ impl Writer {
         Ok(())
     }
 
-    /// Nothing (RFC 4506 section 4.16).
+    /// Nothing (RFC 4506 section 4.16). It takes no memory.
     pub fn void(&mut self) -> Mem<()>
         ensures ok { OnOk result (Appends self.old [] self.new) }
-        ensures err { OnErr result (self.new ≡ self.old) }
+        ensures always { IsOk result }
     {
         Ok(())
     }

@@ -1,7 +1,7 @@
 ghost use Rattle.std.specs.Prelude.{◌≡◌, ℕ, OnOk, OnErr};
 ghost use Rattle.wire_xdr.specs.Cursor.{Appends};
 ghost use Rattle.wire_xdr.specs.Form.{Form};
-ghost use Rattle.wire_xdr.specs.Reads.{Reads, IsRead};
+ghost use Rattle.wire_xdr.specs.Reads.{Reads, IsRead, HasNumber};
 
 use crate::form::bad::{BadXdr, ReadError};
 use crate::reader::Reader;
@@ -31,9 +31,10 @@ pub trait XdrBy: Drop {
     ghost own: { (number : ℕ) (v : Self) → (form number).Fits v → number_of v ≡ number };
 }
 
-/// Reads a value of that number, with the contract of [`crate::read`].
+/// Reads a value of that number, with the contract of [`crate::read`]; what is read may be written again.
 pub fn read_by<T: XdrBy>(alloc: Global, number: u32, reader: &mut Reader) -> Mem<Result<T, BadXdr>>
-    ensures { IsRead (T.form number) result reader.old reader.new }
+    ensures read { IsRead (T.form number) result reader.old reader.new }
+    ensures own { HasNumber T.number_of number result }
 {
     let _rest = reader.rest();
     let mut next = reader.again();
