@@ -66,7 +66,7 @@ impl<'a> Reader<'a> {
     }
 
     /// A second reader that stands where this one stands.
-    pub(crate) fn again(&self) -> Reader<'a>
+    pub fn again(&self) -> Reader<'a>
         ensures { result ≡ self.now }
     {
         Reader {

@@ -1,6 +1,6 @@
 use crate::form::{
-    BadXdr, no_prefix, no_prefix_by, one_spelling, one_spelling_by, put_four, read, read_by, write,
-    write_by,
+    BadXdr, is_form, no_prefix, no_prefix_by, one_spelling, one_spelling_by, put_four, read,
+    read_by, words_are_forms, write, write_by,
 };
 use crate::sample::{File, FileKind, Folder, Outcome, Request};
 use crate::*;
@@ -145,6 +145,8 @@ fn unions_and_numbers(rt: HostRuntime) -> Result<(), Fail> {
     write_by(rt.alloc(), &mut writer, &request)?;
     put_four(&mut writer, &1u32, &2u64, &true, &[0u8; 3])?;
     assert_eq!(rt; writer.finish().as_slice().len(), 32);
+    words_are_forms();
+    is_form::<FileKind>();
     one_spelling::<FileKind>();
     no_prefix::<FileKind>();
     one_spelling_by::<Request>();
