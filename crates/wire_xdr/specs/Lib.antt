@@ -1,0 +1,13 @@
+pub mod Cursor
+pub mod Words
+pub mod Form
+pub mod StepLaws
+pub mod WordReads
+pub mod WordLaws
+pub mod Parts
+pub mod Arms
+pub mod PartLaws
+pub mod ArmLaws
+pub mod Forms
+pub mod Reads
+pub mod Samples

@@ -1,8 +1,48 @@
-//! XDR, the external data representation of RFC 4506: so far the byte strings that records are made of.
+//! XDR, the external data representation of RFC 4506: words, and types that are spelled by combining them.
 //!
-//! [`Octets`] is a list of bytes, and every contract sees it as that list.
+//! [`Reader`] and [`Writer`] read and write the words of section 4; their contracts cite `specs/Words.antt`,
+//! which tells each answer and each fault exactly. A type is spelled by a form (`specs/Form.antt`): what
+//! spells a value, apart from it how that is read, and the law that the two agree. `specs/Forms.antt` is the
+//! table of forms, and each brings its law. The contract to read first is that of [`read`]: a value is read
+//! exactly where the bytes begin with its spelling, a refusal names the first place that fails, and the
+//! reader then stands where it stood. [`one_spelling`] and [`no_prefix`] are the laws of every form.
+//!
+//! How to add a type T (`src/sample.rt` and `specs/Samples.antt` have one of each kind):
+//!
+//! 1. Write the struct or enum with `#[derive(Debug, Drop)]`: u32, u64, i64, bool, `[u8; N]`, [`Octets`],
+//!    [`Items`], `Option` and types that have a form.
+//! 2. Struct, in `specs/`: `unfoldable pub t : Form T` is `seen_as TO FROM (λ v. refl) (λ v. refl)` of nested
+//!    `both`, TO making the record from nested pairs and FROM the pairs from the record.
+//! 3. Enum: `t_case` says of each variant `holds NUMBER FORM MAKE BODY` (`void` and `tt` where it holds
+//!    nothing), `t_arms` lists `arm NUMBER FORM MAKE (λ v. refl)`, and `t_listed` has two lines for all
+//!    variants. The form is `union t_arms t_listed`; `union_or` where there is a default arm, whose variant
+//!    `defaults`; `chosen` where the number stands elsewhere.
+//! 4. `impl Xdr for T`: `ghost form = { t };`, and both methods have
+//!    `#[tactic(auto, unfolding(crate::specs::FILE::t))]`, which names the form of T alone.
+//! 5. `parse` reads the fields in their order: `X::parse(alloc, reader)?`, and `Octets::parse(alloc, reader,
+//!    MAX)?` and `Items::parse(alloc, reader, MAX)?` with a limit. A union begins with `let start =
+//!    reader.at();` and a `match` on `u32::parse`, whose last arm is `Err(ReadError::at(start))`.
+//! 6. `put` writes each field by `self.x.put(writer)?`; a variant writes its number first, and one that holds
+//!    nothing ends with `writer.void()`. With more than seven fields write four at a time by [`put_four`].
+//! 7. A type whose number stands elsewhere: `impl XdrBy`, with `number_of t_case` and a line for `own`.
+//! 8. No proof file is needed. Callers use `read::<T>` and `write::<T>`, or `read_by` and `write_by`.
 #![tactic(auto)]
 
+mod fault;
+mod form;
 mod octets;
+mod reader;
+mod sample;
+mod writer;
 
+pub use fault::XdrFault;
+pub use form::{
+    BadXdr, Items, ReadError, Xdr, XdrBy, is_form, no_prefix, no_prefix_by, one_spelling,
+    one_spelling_by, parse_count, put_four, read, read_by, words_are_forms, write, write_by,
+};
 pub use octets::Octets;
+pub use reader::Reader;
+pub use writer::Writer;
+
+#[cfg(test)]
+mod tests;
