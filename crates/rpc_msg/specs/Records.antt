@@ -33,22 +33,25 @@ pub data Front : Type 0 where
   Part : Front
   Large : ℕ → Front
 
--- The bytes after a header; `joined` is what the record's earlier fragments gave, and `next` says what
--- stands after this one.
-abbrev pub fragment_at : List ℕ → ℕ → List ℕ → (List ℕ → List ℕ → Front) → Front
-fragment_at joined header bytes next =
-    if nat_lt record_limit (length joined + fragment_len header) then Large (length joined + fragment_len header)
-    else (if nat_lt (length bytes) (fragment_len header) then Part
-    else (if is_last header
-      then Record (joined ++ take (fragment_len header) bytes) (drop (fragment_len header) bytes)
-      else next (joined ++ take (fragment_len header) bytes) (drop (fragment_len header) bytes)))
+-- The bytes after a header that said `last` and `len`; `joined` is what the record's earlier fragments
+-- gave, and `next` says what stands after this one.
+abbrev pub fragment_at : List ℕ → Bool → ℕ → List ℕ → (List ℕ → List ℕ → Front) → Front
+fragment_at joined last len bytes next =
+    if nat_lt record_limit (length joined + len) then Large (length joined + len)
+    else (if nat_lt (length bytes) len then Part
+    else (if last then Record (joined ++ take len bytes) (drop len bytes)
+    else next (joined ++ take len bytes) (drop len bytes)))
+
+abbrev pub header_of : List ℕ → ℕ
+header_of bytes = from_be_bytes w32 (take 4 bytes)
 
 -- What stands at the front, of up to so many fragments: as many as there are bytes is enough.
 unfoldable pub front_of : ℕ → List ℕ → List ℕ → Front
 front_of zero joined bytes = Part
 front_of (suc more) joined bytes =
     if nat_lt (length bytes) 4 then Part
-    else fragment_at joined (from_be_bytes w32 (take 4 bytes)) (drop 4 bytes) (λ so_far rest. front_of more so_far rest)
+    else fragment_at joined (is_last (header_of bytes)) (fragment_len (header_of bytes)) (drop 4 bytes)
+      (λ so_far rest. front_of more so_far rest)
 
 -- How a stream ends: with so many bytes after its last whole record, or with a record too large.
 pub data End : Type 0 where

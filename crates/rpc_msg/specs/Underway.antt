@@ -34,12 +34,15 @@ pub data Step : Type 0 where
 abbrev pub on_end : List ℕ → Bool → Step
 on_end joined last = if last then Ends joined else Goes (between joined)
 
--- A whole header came.
+-- A whole header came, which said `last` and `len`.
+abbrev pub on_fragment : List ℕ → Bool → ℕ → Step
+on_fragment joined last len =
+    if nat_lt record_limit (length joined + len) then Passes (length joined + len)
+    else (if len == 0 then on_end joined last
+    else Goes (record { joined = joined; header_bytes = 0; header = 0; lacking = len; last = last }))
+
 abbrev pub on_header : List ℕ → ℕ → Step
-on_header joined header =
-    if nat_lt record_limit (length joined + fragment_len header) then Passes (length joined + fragment_len header)
-    else (if fragment_len header == 0 then on_end joined (is_last header)
-    else Goes (record { joined = joined; header_bytes = 0; header = 0; lacking = fragment_len header; last = is_last header }))
+on_header joined header = on_fragment joined (is_last header) (fragment_len header)
 
 abbrev pub on_header_byte : Under → ℕ → Step
 on_header_byte under byte =
@@ -102,6 +105,12 @@ flow_byte (Shut sum) byte = record { records = []; state = Shut sum }
 unfoldable pub flow : State → List ℕ → Flow
 flow state [] = record { records = []; state = state }
 flow state (byte ∷ bytes) = then_flow (flow_byte state byte) (λ next. flow next bytes)
+
+-- The same for a piece of so many bytes that is cut in this way: its first record, and what follows.
+abbrev pub flow_of : ℕ → ℕ → Cut → Flow
+flow_of count len (Part under) = record { records = []; state = Open (count + len) under }
+flow_of count len (Whole joined rest) = then_flow (record { records = joined ∷ []; state = Open 0 fresh }) (λ next. flow next rest)
+flow_of count len (Large sum rest) = record { records = []; state = Shut sum }
 
 -- What a stream told where it stands now.
 abbrev pub end_of : State → End

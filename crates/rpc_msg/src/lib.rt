@@ -21,7 +21,7 @@ mod whole;
 pub use adapters::{Reading, Writing};
 pub use memory::{MemSink, MemSource};
 pub use planned::{Planned, nothing_planned};
-pub use records::{Fed, RECORD_LIMIT, RecordFeed, mark};
+pub use records::{Fed, RECORD_LIMIT, RecordFeed, mark, pieces_join};
 pub use sink::{Put, Sink};
 pub use source::{Source, Take};
 pub use whole::{Whole, WriteFault, put_all, puts_join, read_whole};

@@ -1,6 +1,6 @@
-ghost use Rattle.std.specs.Prelude.{◌≡◌, ◌≤◌, IfOk};
-ghost use Rattle.rpc_msg.specs.Records.{record_limit, mark_of};
-ghost use Rattle.rpc_msg.specs.Underway.{Feed, Feeds, IsFresh};
+ghost use Rattle.std.specs.Prelude.{◌≡◌, ℕ, ◌≤◌, List, ◌++◌, length, IfOk};
+ghost use Rattle.rpc_msg.specs.Records.{record_limit, mark_of, records_of};
+ghost use Rattle.rpc_msg.specs.Underway.{Feed, Feeds, IsFresh, Under, State, Open, fresh, cut, flow, then_flow, flow_of, told_of};
 
 use crate::fragments::{Fragments, Progress};
 use outcome::Mem;
@@ -106,3 +106,14 @@ pub fn mark(len: u32) -> [u8; 4]
 {
     (LAST + len).to_be_bytes()
 }
+
+/// What the calls of a feed add up to. A piece brings its first record and then what the bytes after it
+/// bring; two pieces bring what both joined bring, wherever the cut is; and what a whole stream brings
+/// are the records of its bytes, each its fragments joined (RFC 5531 section 11).
+pub fn pieces_join()
+    ensures piece { (under : Under) (count : ℕ) (bytes : List ℕ)
+        → flow (Open count under) bytes ≡ flow_of count (length bytes) (cut under bytes) }
+    ensures cut { (state : State) (first more : List ℕ)
+        → flow state (first ++ more) ≡ then_flow (flow state first) (λ next. flow next more) }
+    ensures records { (bytes : List ℕ) → told_of (flow (Open 0 fresh) bytes) ≡ records_of bytes }
+{}
