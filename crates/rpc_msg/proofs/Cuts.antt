@@ -25,10 +25,10 @@ on_body-append : (under : Under) (first more : List ℕ) → length first ≤ un
     → on_body under (first ++ more) ≡ on_body (grown under first) more
 on_body-append under first more within =
     let test : (length (first ++ more) == under.lacking) ≡ (length more == under.lacking - length first) =
-      rw (length-append first more) (same_test (length first) (length more) under.lacking within) in
+    rw (length-append first more) (same_test (length first) (length more) under.lacking within) in
     let joined : under.joined ++ (first ++ more) ≡ (under.joined ++ first) ++ more = sym (append_assoc under.joined first more) in
     let lacking : under.lacking - length (first ++ more) ≡ under.lacking - length first - length more =
-      omega (arith, length-append first more) in
+    omega (arith, length-append first more) in
     rw (test, joined, lacking) refl
 
 -- bytes of a fragment, one after the other, do what they do together
@@ -40,7 +40,7 @@ cut-body under (byte ∷ []) rest some within = rw (lt-ltb 0 under.lacking (omeg
 cut-body under (byte ∷ other ∷ front) rest some within =
     let goes : (1 == under.lacking) ≡ false = ne_eqb 1 under.lacking (λ e. omega arith) in
     let later : cut (grown under (byte ∷ [])) (other ∷ front ++ rest) ≡ cut_on (on_body (grown under (byte ∷ [])) (other ∷ front)) rest (λ next. cut next rest) =
-      cut-body (grown under (byte ∷ [])) (other ∷ front) rest (omega arith) (omega arith) in
+    cut-body (grown under (byte ∷ [])) (other ∷ front) rest (omega arith) (omega arith) in
     rw (lt-ltb 0 under.lacking (omega arith), goes, on_body-append under (byte ∷ []) (other ∷ front) (omega arith)) later
 
 -- the front of a piece, as far as the fragment at hand goes

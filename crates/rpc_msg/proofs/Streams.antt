@@ -32,7 +32,7 @@ flow_of-later count len (Large sum rest) = refl
 flow-step : (step : Step) (count : ℕ) (bytes : List ℕ)
     → ((under : Under) → flow (Open (count + 1) under) bytes ≡ flow_of (count + 1) (length bytes) (cut under bytes))
     → then_flow (flow_step step count) (λ next. flow next bytes)
-      ≡ flow_of count (suc (length bytes)) (cut_on step bytes (λ next. cut next bytes))
+    ≡ flow_of count (suc (length bytes)) (cut_on step bytes (λ next. cut next bytes))
 flow-step (Goes under) count bytes later = later under ∙ flow_of-later count (length bytes) (cut under bytes)
 flow-step (Ends joined) count bytes later = refl
 flow-step (Passes sum) count bytes later = rw (flow-shut sum bytes) refl
@@ -81,14 +81,14 @@ unfolding cut
 cut-short under [] short = refl
 cut-short under (byte ∷ bytes) short =
     let all : cut under (byte ∷ bytes) ≡ cut_on (on_body under (byte ∷ bytes)) [] (λ next. cut next []) =
-      ap (cut under) (sym (append-nil (byte ∷ bytes))) ∙ cut-body under (byte ∷ bytes) [] (omega arith) (omega arith) in
+    ap (cut under) (sym (append-nil (byte ∷ bytes))) ∙ cut-body under (byte ∷ bytes) [] (omega arith) (omega arith) in
     let goes : (length (byte ∷ bytes) == under.lacking) ≡ false = ne_eqb _ _ (λ e. omega arith) in
     rw (all, goes) refl
 
 -- enough bytes end the fragment
 cut-enough : (joined : List ℕ) (last : Bool) (len : ℕ) (bytes : List ℕ) → 0 < len → len ≤ length bytes
     → cut (record { joined = joined; header_bytes = 0; header = 0; lacking = len; last = last }) bytes
-      ≡ cut_on (on_end (joined ++ take len bytes) last) (drop len bytes) (λ next. cut next (drop len bytes))
+    ≡ cut_on (on_end (joined ++ take len bytes) last) (drop len bytes) (λ next. cut next (drop len bytes))
 cut-enough joined last len bytes some enough =
     let taken : length (take len bytes) ≡ len = rw (length-take len bytes) (omega arith) in
     let ends : (length (take len bytes) == len) ≡ true = eq-eqb _ _ taken in
@@ -100,34 +100,34 @@ SameFront more = (joined bytes : List ℕ) → length bytes ≤ more → front_o
 -- a fragment's end, both ways
 same_end : (more : ℕ) (joined : List ℕ) (last : Bool) (rest : List ℕ) → length rest ≤ more → SameFront more
     → (if last then Record joined rest else front_of more joined rest)
-      ≡ front_by (cut_on (on_end joined last) rest (λ next. cut next rest))
+    ≡ front_by (cut_on (on_end joined last) rest (λ next. cut next rest))
 same_end more joined true rest within same = refl
 same_end more joined false rest within same = same joined rest within
 
 same_fragment : (more : ℕ) (joined : List ℕ) (last : Bool) (len : ℕ) (bytes : List ℕ) → length bytes ≤ more → SameFront more
     → fragment_at joined last len bytes (λ so_far rest. front_of more so_far rest)
-      ≡ front_by (cut_on (on_fragment joined last len) bytes (λ next. cut next bytes))
+    ≡ front_by (cut_on (on_fragment joined last len) bytes (λ next. cut next bytes))
 same_fragment more joined last len bytes within same =
     elim (cases_Bool (nat_lt record_limit (length joined + len))) [
       | inl large ↦ rw large refl
       | inr small ↦ rw small (same_small more joined last len bytes within same)
     ]
   where
-  same_small : (more : ℕ) (joined : List ℕ) (last : Bool) (len : ℕ) (bytes : List ℕ) → length bytes ≤ more → SameFront more
-      → (if nat_lt (length bytes) len then records.Part
+    same_small : (more : ℕ) (joined : List ℕ) (last : Bool) (len : ℕ) (bytes : List ℕ) → length bytes ≤ more → SameFront more
+        → (if nat_lt (length bytes) len then records.Part
         else (if last then Record (joined ++ take len bytes) (drop len bytes)
         else front_of more (joined ++ take len bytes) (drop len bytes)))
         ≡ front_by (cut_on (if len == 0 then on_end joined last
-          else Goes (record { joined = joined; header_bytes = 0; header = 0; lacking = len; last = last })) bytes (λ next. cut next bytes))
-  same_small more joined last zero bytes within same =
-    rw (le-ltb (length bytes) 0 (omega arith), append-nil joined) (same_end more joined last bytes within same)
-  same_small more joined last (suc len) bytes within same =
-    let some : (suc len == 0) ≡ false = ne_eqb (suc len) 0 (λ e. omega arith) in
-    elim (cases_Bool (nat_lt (length bytes) (suc len))) [
-      | inl short ↦ rw (some, short) (sym (cut-short _ bytes (ltb-true _ _ short)))
-      | inr enough ↦ rw (some, enough, cut-enough joined last (suc len) bytes (omega arith) (ltb-false _ _ enough))
-          (same_end more (joined ++ take (suc len) bytes) last (drop (suc len) bytes) (omega (arith, length-drop (suc len) bytes)) same)
-    ]
+        else Goes (record { joined = joined; header_bytes = 0; header = 0; lacking = len; last = last })) bytes (λ next. cut next bytes))
+    same_small more joined last zero bytes within same =
+        rw (le-ltb (length bytes) 0 (omega arith), append-nil joined) (same_end more joined last bytes within same)
+    same_small more joined last (suc len) bytes within same =
+        let some : (suc len == 0) ≡ false = ne_eqb (suc len) 0 (λ e. omega arith) in
+        elim (cases_Bool (nat_lt (length bytes) (suc len))) [
+          | inl short ↦ rw (some, short) (sym (cut-short _ bytes (ltb-true _ _ short)))
+          | inr enough ↦ rw (some, enough, cut-enough joined last (suc len) bytes (omega arith) (ltb-false _ _ enough))
+              (same_end more (joined ++ take (suc len) bytes) last (drop (suc len) bytes) (omega (arith, length-drop (suc len) bytes)) same)
+        ]
 
 -- a header's value, byte after byte
 abbrev value : ℕ → ℕ → ℕ → ℕ → ℕ
@@ -148,7 +148,7 @@ same_front (suc more) joined (a ∷ b ∷ []) within = refl
 same_front (suc more) joined (a ∷ b ∷ c ∷ []) within = refl
 same_front (suc more) joined (a ∷ b ∷ c ∷ d ∷ rest) within =
     rw (le-ltb (length (a ∷ b ∷ c ∷ d ∷ rest)) 4 (omega arith), header_is a b c d rest)
-      (same_fragment more joined (is_last (value a b c d)) (fragment_len (value a b c d)) rest (omega arith) (same_front more))
+    (same_fragment more joined (is_last (value a b c d)) (fragment_len (value a b c d)) rest (omega arith) (same_front more))
 
 abbrev SameRecords : ℕ → Type 0
 SameRecords more = (bytes : List ℕ) → length bytes ≤ more → records_up_to more bytes ≡ told_of (flow (Open 0 fresh) bytes)
@@ -166,7 +166,7 @@ same_records zero [] within = refl
 same_records zero (byte ∷ bytes) within = absurd (omega arith)
 same_records (suc more) bytes within =
     rw (same_front (length bytes) [] bytes (omega arith), flow-cut fresh 0 bytes)
-      (same_told more (length bytes) (cut fresh bytes) (cut-shorter fresh bytes) within (same_records more))
+    (same_told more (length bytes) (cut fresh bytes) (cut-shorter fresh bytes) within (same_records more))
 
 -- a stream has the records of its bytes
 pub flow-records : (bytes : List ℕ) → told_of (flow (Open 0 fresh) bytes) ≡ records_of bytes

@@ -51,7 +51,7 @@ front_of zero joined bytes = Part
 front_of (suc more) joined bytes =
     if nat_lt (length bytes) 4 then Part
     else fragment_at joined (is_last (header_of bytes)) (fragment_len (header_of bytes)) (drop 4 bytes)
-      (λ so_far rest. front_of more so_far rest)
+    (λ so_far rest. front_of more so_far rest)
 
 -- How a stream ends: with so many bytes after its last whole record, or with a record too large.
 pub data End : Type 0 where

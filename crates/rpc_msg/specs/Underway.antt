@@ -10,11 +10,11 @@ use Rattle.rpc_msg.specs.declared.fragments.Progress.{Progress}
 use Rattle.rpc_msg.specs.declared.fragments.Progress.TheVariants as progress
 
 pub record Under : Type 0 where
-  pub joined : List ℕ       -- the bytes of its fragments so far
-  pub header_bytes : ℕ      -- how many bytes of the next header came
-  pub header : ℕ            -- and their number
-  pub lacking : ℕ           -- the bytes that the fragment under way lacks
-  pub last : Bool           -- whether that fragment is the record's last
+  pub joined : List ℕ  -- the bytes of its fragments so far
+  pub header_bytes : ℕ  -- how many bytes of the next header came
+  pub header : ℕ  -- and their number
+  pub lacking : ℕ  -- the bytes that the fragment under way lacks
+  pub last : Bool  -- whether that fragment is the record's last
 
 -- The next fragment's header is to come.
 abbrev pub between : List ℕ → Under

@@ -38,11 +38,11 @@ impl Model for Fragments {
     ghost Value = { Under };
 
     ghost view = { λ f. record {
-        joined = f.bytes.items;
-        header_bytes = f.header_bytes;
-        header = f.header;
-        lacking = f.lacking;
-        last = f.last;
+      joined = f.bytes.items;
+      header_bytes = f.header_bytes;
+      header = f.header;
+      lacking = f.lacking;
+      last = f.last;
     } };
 
     ghost invariant = { λ f. HasRoom (length f.bytes.items) (vec_capacity f.bytes) f.header_bytes f.header f.lacking };

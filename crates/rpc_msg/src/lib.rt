@@ -11,6 +11,8 @@ mod adapters;
 mod fragments;
 mod memory;
 mod planned;
+#[cfg(test)]
+mod record_tests;
 mod records;
 mod sink;
 mod source;

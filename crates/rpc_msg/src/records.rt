@@ -1,4 +1,4 @@
-ghost use Rattle.std.specs.Prelude.{◌≡◌, ℕ, ◌≤◌, List, ◌++◌, length, IfOk};
+ghost use Rattle.std.specs.Prelude.{◌≡◌, ℕ, ◌≤◌, ◌<◌, List, ◌++◌, length, IfOk};
 ghost use Rattle.rpc_msg.specs.Records.{record_limit, mark_of, records_of};
 ghost use Rattle.rpc_msg.specs.Underway.{Feed, Feeds, IsFresh, Under, State, Open, fresh, cut, flow, then_flow, flow_of, told_of};
 
@@ -42,9 +42,9 @@ impl Model for RecordFeed {
     ghost Value = { Feed };
 
     ghost view = { λ f. record {
-        under = if f.whole then fresh else f.fragments;
-        told = f.fragments.joined;
-        large = f.large;
+      under = if f.whole then fresh else f.fragments;
+      told = f.fragments.joined;
+      large = f.large;
     } };
 }
 
@@ -63,7 +63,9 @@ impl RecordFeed {
     /// Takes bytes from the front of a piece up to the end of one record, and says how many. Once a
     /// record was too large, the answer stays the same and nothing is taken.
     pub fn feed(&mut self, piece: &[u8]) -> (usize, Fed)
-        ensures { Feeds self.old.large self.old piece.now result self.new }
+        ensures exact { Feeds self.old.large self.old piece.now result self.new }
+        ensures within { result.0 ≤ length piece.now }
+        ensures some { result.1 ≡ Fed.Whole → 0 < result.0 }
     {
         if let Some(len) = self.large {
             return (0, Fed::TooLarge { len });
