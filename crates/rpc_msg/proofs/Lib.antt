@@ -1,3 +1,5 @@
 pub mod Fronts
+pub mod Cuts
+pub mod Streams
 mod Plans
 mod Progress

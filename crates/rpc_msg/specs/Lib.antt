@@ -4,3 +4,6 @@ pub mod Plan
 pub mod Memory
 pub mod Adapters
 pub mod Whole
+pub mod Records
+pub mod Underway
+pub mod Room

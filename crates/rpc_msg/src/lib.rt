@@ -8,8 +8,12 @@
 #![tactic(auto)]
 
 mod adapters;
+mod fragments;
 mod memory;
 mod planned;
+#[cfg(test)]
+mod record_tests;
+mod records;
 mod sink;
 mod source;
 #[cfg(test)]
@@ -19,6 +23,7 @@ mod whole;
 pub use adapters::{Reading, Writing};
 pub use memory::{MemSink, MemSource};
 pub use planned::{Planned, nothing_planned};
+pub use records::{Fed, RECORD_LIMIT, RecordFeed, mark, pieces_join};
 pub use sink::{Put, Sink};
 pub use source::{Source, Take};
 pub use whole::{Whole, WriteFault, put_all, puts_join, read_whole};
