@@ -21,12 +21,11 @@ pub record Case (V : Type 0) : Type 1 where
   pub number : ℕ
   pub spell : List ℕ
   pub Fits : Type 0
-  pub number_is : number ≡ arm.number
   pub spell_is : spell ≡ arm.form.spell body
   pub fits : Fits → arm.form.Fits body
 
 abbrev pub case_of : {V : Type 0} → Bool → (a : Arm V) → a.Body → Case V
-case_of listed a body = record { arm = a; body = body; listed = listed; number = a.number; spell = a.form.spell body; Fits = a.form.Fits body; number_is = refl; spell_is = refl; fits = λ h. h }
+case_of listed a body = record { arm = a; body = body; listed = listed; number = a.number; spell = a.form.spell body; Fits = a.form.Fits body; spell_is = refl; fits = λ h. h }
 
 -- a value of an arm of the list
 abbrev pub holds : {V B : Type 0} → ℕ → Form B → (B → V) → B → Case V

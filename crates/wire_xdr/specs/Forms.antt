@@ -4,10 +4,10 @@ use Rattle.std.specs.Prelude.{◌≡◌, ℕ, ◌<◌, ◌≤◌, ◌^◌, ℤ, 
 use Rattle.std.specs.Int.{w64}
 use Rattle.wire_xdr.specs.Words.{word_bytes, hyper_bytes, signed_bytes, flag_bytes, fixed_bytes, opaque_bytes}
 use Rattle.wire_xdr.specs.Form.{Form}
-use Rattle.wire_xdr.specs.WordReads.{word_read, hyper_read, signed_read, flag_read, fixed_read, opaque_read}
-use Rattle.wire_xdr.specs.WordLaws.{word_is, hyper_is, signed_is, flag_is, fixed_is, opaque_is}
-use Rattle.wire_xdr.specs.Parts.{void_read, both_read, both_spell, both_Fits, as_read, list_read, list_spell, list_Fits, option_read, option_spell, option_Fits}
-use Rattle.wire_xdr.specs.PartLaws.{void_is, both_is, as_is, list_is, option_is}
+use Rattle.wire_xdr.specs.WordReads.{word_read, hyper_read, signed_read, flag_read, count_read, fixed_read, opaque_read, between_read}
+use Rattle.wire_xdr.specs.WordLaws.{word_is, hyper_is, signed_is, flag_is, count_is, fixed_is, opaque_is, between_is}
+use Rattle.wire_xdr.specs.Parts.{void_read, both_read, both_spell, both_Fits, as_read, tested_read, tested_Fits, list_read, list_spell, list_Fits, option_read, option_spell, option_Fits}
+use Rattle.wire_xdr.specs.PartLaws.{void_is, both_is, as_is, tested_is, list_is, option_is}
 use Rattle.wire_xdr.specs.Arms.{Case, case_of, ArmOf, IsListed, IsPicked, other_arm, body_spell, chosen_read, chosen_Fits, union_read, union_spell, union_Fits, union_or_read, union_or_Fits}
 use Rattle.wire_xdr.specs.ArmLaws.{chosen_is, union_is, union_or_is}
 
@@ -26,6 +26,10 @@ signed = record { read = signed_read; spell = signed_bytes; Fits = FitsSigned w6
 abbrev pub flag : Form Bool
 flag = record { read = flag_read; spell = flag_bytes; Fits = λ b. Unit {0}; lawful = flag_is }
 
+-- an unsigned number of four bytes, at most max
+abbrev pub count : (max : ℕ) → max < 2 ^ 32 → Form ℕ
+count max small = record { read = count_read max; spell = word_bytes; Fits = λ n. n ≤ max; lawful = count_is max small }
+
 -- n bytes (section 4.9)
 abbrev pub fixed : ℕ → Form (List ℕ)
 fixed n = record { read = fixed_read n; spell = fixed_bytes; Fits = λ bytes. length bytes ≡ n; lawful = fixed_is n }
@@ -33,6 +37,10 @@ fixed n = record { read = fixed_read n; spell = fixed_bytes; Fits = λ bytes. le
 -- at most max bytes behind their length (sections 4.10 and 4.11)
 abbrev pub opaque : (max : ℕ) → max < 2 ^ 32 → Form (List ℕ)
 opaque max small = record { read = opaque_read max; spell = opaque_bytes; Fits = λ bytes. length bytes ≤ max; lawful = opaque_is max small }
+
+-- at least min and at most max bytes behind their length
+abbrev pub opaque_between : (min max : ℕ) → max < 2 ^ 32 → Form (List ℕ)
+opaque_between min max small = record { read = between_read min max; spell = opaque_bytes; Fits = λ bytes. (min ≤ length bytes) × (length bytes ≤ max); lawful = between_is min max small }
 
 -- nothing (section 4.16)
 abbrev pub void : Form (Unit {0})
@@ -45,6 +53,10 @@ both a b = record { read = both_read a b; spell = both_spell a b; Fits = both_Fi
 -- the same bytes, seen as another type: a struct of its fields
 abbrev pub seen_as : {A B : Type 0} (to : A → B) (from : B → A) → ((b : B) → to (from b) ≡ b) → ((a : A) → from (to a) ≡ a) → Form A → Form B
 seen_as to from to_from from_to a = record { read = as_read to a; spell = λ v. a.spell (from v); Fits = λ v. a.Fits (from v); lawful = as_is to from to_from from_to a }
+
+-- the values that pass a test
+abbrev pub such_that : {A : Type 0} → (A → Bool) → Form A → Form A
+such_that test a = record { read = tested_read test a; spell = a.spell; Fits = tested_Fits test a; lawful = tested_is test a }
 
 -- at most max values behind their count (section 4.13)
 abbrev pub list : {A : Type 0} (max : ℕ) → max < 2 ^ 32 → Form A → Form (List A)

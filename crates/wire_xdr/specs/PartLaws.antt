@@ -1,14 +1,14 @@
 -- The laws of pairs, structs, lists and options, each proved from those of their parts.
-use Rattle.std.proofs.Common.{◌≡◌, ℕ, zero, suc, ◌+◌, ◌^◌, ◌<◌, Bool, true, false, List, [], ◌∷◌, ◌++◌, length, Option, Some, None, Result, Ok, refl, sym, ap, subst, ◌∙◌, append_assoc, arith}
+use Rattle.std.proofs.Common.{◌≡◌, ℕ, zero, suc, ◌+◌, ◌^◌, ◌<◌, Bool, true, false, List, [], ◌∷◌, ◌++◌, length, Option, Some, None, Result, Ok, refl, sym, ap, subst, ◌∙◌, append_assoc, arith, cond, Err}
 use Rattle.std.specs.List.{flat_map, AllByRecursion}
 use Rattle.std.proofs.lemmas.List.{length-append}
 use Rattle.wire_xdr.specs.Cursor.{Cursor, IsBytes, ◌>>=◌}
 use Rattle.wire_xdr.specs.Words.{word_bytes, flag_bytes}
 use Rattle.wire_xdr.specs.Form.{Passes, IsForm, Form}
-use Rattle.wire_xdr.specs.StepLaws.{bind_ok, ok_is, Passes-then}
+use Rattle.wire_xdr.specs.StepLaws.{bind_ok, test_ok, ok_is, Passes-then}
 use Rattle.wire_xdr.specs.WordReads.{flag_read, count_read}
 use Rattle.wire_xdr.specs.WordLaws.{flag_is, count_is}
-use Rattle.wire_xdr.specs.Parts.{void_read, both_read, both_spell, both_Fits, as_read, many, list_read, list_spell, list_Fits, value_if, option_read, option_spell, option_Fits}
+use Rattle.wire_xdr.specs.Parts.{void_read, both_read, both_spell, both_Fits, as_read, tested_read, tested_Fits, many, list_read, list_spell, list_Fits, value_if, option_read, option_spell, option_Fits}
 
 -- the cursor behind two texts
 pub behind_both : (at : ℕ) (x y rest : List ℕ) → ◌≡◌ {A = Cursor} (record { at = (at + length x) + length y; rest = rest }) (record { at = at + length (x ++ y); rest = rest })
@@ -55,6 +55,20 @@ as_is {A} {B} to from to_from from_to a = record {
   again = λ at v rest fits.
       ap (λ (r : Result (A × Cursor) ℕ). r >>= λ x. Ok (to x.0, x.1)) (a.lawful.again at (from v) rest fits)
       ∙ ap (λ (b : B). Ok (b, record { at = at + length (a.spell (from v)); rest = rest })) (to_from v);
+}
+
+pub tested_is : {A : Type 0} (test : A → Bool) (a : Form A) → IsForm (tested_read test a) a.spell (tested_Fits test a)
+tested_is {A} test a = record {
+  takes = λ old v new fits e.
+      let x = bind_ok (a.read old) (λ x. cond (test x.0) (Ok x) (Err old.at)) (v, new) e in
+      let passed = test_ok (test x.0.0) x.0 (v, new) old.at x.2 in
+      let t = a.lawful.takes old x.0.0 x.0.1 fits x.1 in
+      let P : A × Cursor → Type 0 = λ p. Passes old (a.spell p.0) p.1 × tested_Fits test a p.0 in
+      subst P passed.1 (t.0, (passed.0, t.1));
+  again = λ at v rest fits.
+      let after : Cursor = record { at = at + length (a.spell v); rest = rest } in
+      ap (λ (r : Result (A × Cursor) ℕ). r >>= λ x. cond (test x.0) (Ok x) (Err at)) (a.lawful.again at v rest fits.1)
+      ∙ ap (λ (b : Bool). cond b (Ok (v, after)) (Err at)) fits.0;
 }
 
 many_takes : {A : Type 0} (a : Form A) (n : ℕ) (old : Cursor) (vs : List A) (new : Cursor) → IsBytes old.rest → many a n old ≡ Ok (vs, new) → Passes old (flat_map a.spell vs) new × (length vs ≡ n) × AllByRecursion a.Fits vs

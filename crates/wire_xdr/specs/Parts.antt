@@ -1,6 +1,6 @@
 -- Reading and spelling what is made of smaller forms: pairs, structs, lists with a limit, options, and
 -- unions (RFC 4506 sections 4.12 to 4.19).
-use Rattle.std.specs.Prelude.{ℕ, zero, suc, ◌≤◌, Bool, true, false, List, [], ◌∷◌, ◌++◌, length, Option, Some, None, IfSome, Result, Ok}
+use Rattle.std.specs.Prelude.{ℕ, zero, suc, ◌≤◌, Bool, true, false, List, [], ◌∷◌, ◌++◌, length, Option, Some, None, IfSome, Result, Ok, ◌≡◌, if◌then◌else◌, Err}
 use Rattle.std.specs.List.{flat_map, AllByRecursion}
 use Rattle.wire_xdr.specs.Cursor.{Cursor, ◌>>=◌}
 use Rattle.wire_xdr.specs.Words.{word_bytes, flag_bytes}
@@ -29,6 +29,15 @@ abbrev pub as_read : {A B : Type 0} → (A → B) → Form A → Cursor → Resu
 as_read to a c = do
   x ← a.read c
   Ok (to x.0, x.1)
+
+-- a value that passes a test; another is refused where it begins
+abbrev pub tested_read : {A : Type 0} → (A → Bool) → Form A → Cursor → Result (A × Cursor) ℕ
+tested_read test a c = do
+  x ← a.read c
+  if test x.0 then Ok x else Err c.at
+
+abbrev pub tested_Fits : {A : Type 0} → (A → Bool) → Form A → A → Type 0
+tested_Fits test a v = (test v ≡ true) × a.Fits v
 
 -- n values
 unfoldable pub many : {A : Type 0} → Form A → ℕ → Cursor → Result (List A × Cursor) ℕ

@@ -27,6 +27,10 @@ pub guard_ok : {A E : Type 0} (b : Bool) (d : E) (r : Result A E) (y : A) → co
 guard_ok true d r y e = absurd cc
 guard_ok false d r y e = (refl, e)
 
+pub test_ok : {A E : Type 0} (b : Bool) (x y : A) (d : E) → cond b (Ok x) (Err d) ≡ Ok y → (b ≡ true) × (x ≡ y)
+test_ok true x y d e = (refl, cc)
+test_ok false x y d e = absurd cc
+
 pub placed_ok : {A : Type 0} (c : Cursor) (r : Result A XdrFault) (x : A) → placed c r ≡ Ok x → r ≡ Ok x
 placed_ok c (Ok y) x e = cc
 placed_ok c (Err (Short n m)) x e = absurd cc

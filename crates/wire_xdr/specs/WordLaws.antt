@@ -16,7 +16,7 @@ use Rattle.wire_xdr.specs.Cursor.{Cursor, IsBytes, past, ◌>>=◌}
 use Rattle.wire_xdr.specs.Words.{number_at, signed_at, flag_at, count_at, padding, is_nonzero, unless_nonzero, fixed_at, opaque_at, word_bytes, hyper_bytes, signed_bytes, flag_bytes, fixed_bytes, opaque_bytes}
 use Rattle.wire_xdr.specs.Form.{Passes, IsForm, placed}
 use Rattle.wire_xdr.specs.StepLaws.{IsBytes-drop, IsBytes-take, bind_ok, guard_ok, placed_ok, ok_is, Passes-then}
-use Rattle.wire_xdr.specs.WordReads.{word_read, hyper_read, signed_read, flag_read, count_read, fixed_read, opaque_read}
+use Rattle.wire_xdr.specs.WordReads.{word_read, hyper_read, signed_read, flag_read, count_read, fixed_read, opaque_read, between_read}
 
 -- ---- numbers
 
@@ -232,4 +232,29 @@ opaque_is max small = record {
       let counted = ap (λ (r : Result (ℕ × Cursor) XdrFault). r >>= λ n. fixed_at n.0 n.1) (count_again max at (length v) (fixed_bytes v ++ rest) small le) in
       let place : (at + length len) + length (fixed_bytes v) ≡ at + length (len ++ fixed_bytes v) = omega (arith, length-append len (fixed_bytes v)) in
       ap (placed c) (start ∙ counted ∙ fixed_again (at + length len) v rest ∙ ap (λ (k : ℕ). Ok (v, record { at = k; rest = rest })) place);
+}
+
+-- the length of bytes that are there is what is counted
+count_of_opaque : (min max : ℕ) (small : max < 2 ^ 32) (at : ℕ) (v rest : List ℕ) → length v ≤ max → (after : Cursor) × (count_read max (record { at = at; rest = opaque_bytes v ++ rest }) ≡ Ok (length v, after))
+unfolding opaque_bytes
+count_of_opaque min max small at v rest le =
+    (_, ap (λ (r : List ℕ). count_read max (record { at = at; rest = r })) (append_assoc (word_bytes (length v)) (fixed_bytes v) rest) ∙ (count_is max small).again at (length v) (fixed_bytes v ++ rest) le)
+
+pub between_is : (min max : ℕ) → max < 2 ^ 32 → IsForm (between_read min max) opaque_bytes (λ v. (min ≤ length v) × (length v ≤ max))
+unfolding between_read
+between_is min max small = record {
+  takes = λ old v new fits e.
+      let n = bind_ok (count_read max old) (λ n. cond (ltb n.0 min) (Err old.at) (opaque_read max old)) (v, new) e in
+      let g = guard_ok (ltb n.0.0 min) old.at (opaque_read max old) (v, new) n.2 in
+      let t = (opaque_is max small).takes old v new fits g.1 in
+      let counted = count_of_opaque min max small old.at v new.rest t.1 in
+      let again : count_read max old ≡ Ok (length v, counted.0) = ap (λ (r : List ℕ). count_read max (record { at = old.at; rest = r })) t.0.parts ∙ counted.1 in
+      let same : n.0.0 ≡ length v = ap (λ (p : ℕ × Cursor). p.0) (ok_is {E = ℕ} n.0 (length v, counted.0) (sym n.1 ∙ again)) in
+      (t.0, (omega (arith, ltb-false n.0.0 min g.0, same), t.1));
+  again = λ at v rest fits.
+      let c : Cursor = record { at = at; rest = opaque_bytes v ++ rest } in
+      let long : ltb (length v) min ≡ false = le-ltb (length v) min fits.0 in
+      ap (λ (r : Result (ℕ × Cursor) ℕ). r >>= λ n. cond (ltb n.0 min) (Err at) (opaque_read max c)) (count_of_opaque min max small at v rest fits.1).1
+      ∙ ap (λ (b : Bool). cond b (Err at) (opaque_read max c)) long
+      ∙ (opaque_is max small).again at v rest fits.1;
 }

@@ -1,7 +1,7 @@
 -- Reading words, with the place of what is refused in place of the fault.
-use Rattle.std.specs.Prelude.{ℕ, ℤ, Bool, List, Result}
+use Rattle.std.specs.Prelude.{nat_lt, if◌then◌else◌, Err, ℕ, ℤ, Bool, List, Result}
 use Rattle.std.specs.Int.{w32, w64}
-use Rattle.wire_xdr.specs.Cursor.{Cursor}
+use Rattle.wire_xdr.specs.Cursor.{Cursor, ◌>>=◌}
 use Rattle.wire_xdr.specs.Words.{number_at, signed_at, flag_at, count_at, fixed_at, opaque_at}
 use Rattle.wire_xdr.specs.Form.{placed}
 
@@ -25,3 +25,10 @@ fixed_read n c = placed c (fixed_at n c)
 
 unfoldable pub opaque_read : ℕ → Cursor → Result (List ℕ × Cursor) ℕ
 opaque_read max c = placed c (opaque_at max c)
+
+-- bytes behind their length, which is at least min and at most max; a shorter length is refused at the
+-- length, whatever stands behind it
+unfoldable pub between_read : ℕ → ℕ → Cursor → Result (List ℕ × Cursor) ℕ
+between_read min max c = do
+  n ← count_read max c
+  if nat_lt n.0 min then Err c.at else opaque_read max c

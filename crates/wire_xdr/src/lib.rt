@@ -12,16 +12,19 @@
 //! 1. Write the struct or enum with `#[derive(Debug, Drop)]`: u32, u64, i64, bool, `[u8; N]`, [`Octets`],
 //!    [`Items`], `Option` and types that have a form.
 //! 2. Struct, in `specs/`: `unfoldable pub t : Form T` is `seen_as TO FROM (λ v. refl) (λ v. refl)` of nested
-//!    `both`, TO making the record from nested pairs and FROM the pairs from the record.
+//!    `both`, TO making the record from nested pairs and FROM the pairs from the record. The fields' forms are
+//!    `word`, `hyper`, `signed`, `flag`, `count MAX`, `fixed N`, `opaque MAX`, `opaque_between MIN MAX`, `list
+//!    MAX`, `option`, `such_that TEST FORM` and those of other types; a limit is followed by `(lit< tt)`.
 //! 3. Enum: `t_case` says of each variant `holds NUMBER FORM MAKE BODY` (`void` and `tt` where it holds
 //!    nothing), `t_arms` lists `arm NUMBER FORM MAKE (λ v. refl)`, and `t_listed` has two lines for all
 //!    variants. The form is `union t_arms t_listed`; `union_or` where there is a default arm, whose variant
 //!    `defaults`; `chosen` where the number stands elsewhere.
 //! 4. `impl Xdr for T`: `ghost form = { t };`, and both methods have
 //!    `#[tactic(auto, unfolding(crate::specs::FILE::t))]`, which names the form of T alone.
-//! 5. `parse` reads the fields in their order: `X::parse(alloc, reader)?`, and `Octets::parse(alloc, reader,
-//!    MAX)?` and `Items::parse(alloc, reader, MAX)?` with a limit. A union begins with `let start =
-//!    reader.at();` and a `match` on `u32::parse`, whose last arm is `Err(ReadError::at(start))`.
+//! 5. `parse` reads the fields in their order: `X::parse(alloc, reader)?`, and with a limit `Octets::parse(alloc,
+//!    reader, MAX)?`, `Octets::parse_between(..)?` and `Items::parse(alloc, reader, MAX)?`. A union begins with
+//!    `let start = reader.at();` and a `match` on `u32::parse`, whose last arm is `Err(ReadError::at(start))`; a
+//!    field of `such_that` is read and then tested in the same way.
 //! 6. `put` writes each field by `self.x.put(writer)?`; a variant writes its number first, and one that holds
 //!    nothing ends with `writer.void()`. With more than seven fields write four at a time by [`put_four`].
 //! 7. A type whose number stands elsewhere: `impl XdrBy`, with `number_of t_case` and a line for `own`.

@@ -1,7 +1,7 @@
 //! The example of RFC 4506 section 7, and a few types more: how types are read and written by the forms
 //! that `specs/Samples.antt` gives them.
 
-ghost use Rattle.wire_xdr.specs.Samples.{file_kind, file, folder, outcome, request, request_number, request_own};
+ghost use Rattle.wire_xdr.specs.Samples.{file_kind, file, label, folder, outcome, request, request_number, request_own};
 
 use crate::form::{Items, ReadError, Xdr, XdrBy};
 use crate::octets::Octets;
@@ -79,6 +79,34 @@ impl Xdr for File {
         self.kind.put(writer)?;
         self.owner.put(writer)?;
         self.content.put(writer)
+    }
+}
+
+/// A label of 1 to 16 bytes, and its weight, which is even.
+#[derive(Drop)]
+pub struct Label {
+    pub text: Octets,
+    pub weight: u32,
+}
+
+impl Xdr for Label {
+    ghost form = { label };
+
+    #[tactic(auto, unfolding(crate::specs::Samples::label))]
+    fn parse(alloc: Global, reader: &mut Reader) -> Result<Label, ReadError> {
+        let text = Octets::parse_between(alloc, reader, 1, 16)?;
+        let start = reader.at();
+        let weight = u32::parse(alloc, reader)?;
+        if weight % 2 != 0 {
+            return Err(ReadError::at(start));
+        }
+        Ok(Label { text, weight })
+    }
+
+    #[tactic(auto, unfolding(crate::specs::Samples::label))]
+    fn put(&self, writer: &mut Writer) -> Mem<()> {
+        self.text.put(writer)?;
+        self.weight.put(writer)
     }
 }
 

@@ -2,7 +2,7 @@ use crate::form::{
     BadXdr, is_form, no_prefix, no_prefix_by, one_spelling, one_spelling_by, put_four, read,
     read_by, words_are_forms, write, write_by,
 };
-use crate::sample::{File, FileKind, Folder, Outcome, Request};
+use crate::sample::{File, FileKind, Folder, Label, Outcome, Request};
 use crate::*;
 use std::test::Fail;
 
@@ -120,6 +120,26 @@ fn places_of_refusals(rt: HostRuntime) -> Result<(), Fail> {
         bytes[at] = byte;
         let refused = refusal(&rt, &bytes)?.map(|bad| bad.at);
         assert_eq!(rt; refused, want, "at {at}");
+    }
+    Ok(())
+}
+
+#[test]
+fn limits_from_below(rt: HostRuntime) -> Result<(), Fail> {
+    for (bytes, want) in [
+        ([0, 0, 0, 1, 97, 0, 0, 0, 0, 0, 0, 2], None),
+        ([0, 0, 0, 0, 0, 0, 0, 2, 0, 0, 0, 0], Some(BadXdr { at: 0 })),
+        (
+            [0, 0, 0, 1, 97, 0, 0, 9, 0, 0, 0, 2],
+            Some(BadXdr { at: 7 }),
+        ),
+        (
+            [0, 0, 0, 1, 97, 0, 0, 0, 0, 0, 0, 3],
+            Some(BadXdr { at: 8 }),
+        ),
+    ] {
+        let mut reader = Reader::new(&bytes);
+        assert_eq!(rt; read::<Label>(rt.alloc(), &mut reader)?.err(), want);
     }
     Ok(())
 }

@@ -3,7 +3,7 @@
 ghost use Rattle.std.specs.Prelude.{◌≡◌, ◌<◌, ◌^◌, length, OnOk};
 ghost use Rattle.wire_xdr.specs.Cursor.{Appends};
 ghost use Rattle.wire_xdr.specs.Words.{opaque_bytes};
-ghost use Rattle.wire_xdr.specs.WordReads.{count_read, opaque_read};
+ghost use Rattle.wire_xdr.specs.WordReads.{count_read, opaque_read, between_read};
 ghost use Rattle.wire_xdr.specs.Forms.{word, hyper, signed, flag, fixed};
 ghost use Rattle.wire_xdr.specs.Reads.{Reads};
 
@@ -127,6 +127,25 @@ impl Octets {
             Ok(bytes) => Ok(Octets::from_slice(alloc, bytes)?),
             Err(fault) => Err(ReadError::of_fault(start, fault)),
         }
+    }
+
+    /// Reads bytes behind their length, which is at least `min` and at most `max`: the form
+    /// `opaque_between min max`.
+    #[tactic(auto, unfolding(crate::specs::WordReads::between_read))]
+    pub fn parse_between(
+        alloc: Global,
+        reader: &mut Reader,
+        min: u32,
+        max: u32,
+    ) -> Result<Octets, ReadError>
+        ensures { Reads result reader.new (between_read min max reader.old) }
+    {
+        let start = reader.at();
+        let mut ahead = reader.again();
+        if parse_count(&mut ahead, max)? < min {
+            return Err(ReadError::at(start));
+        }
+        Octets::parse(alloc, reader, max)
     }
 
     /// Writes the bytes behind their length. Without memory a part may be written.
