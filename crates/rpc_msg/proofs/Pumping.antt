@@ -1,19 +1,16 @@
 -- What serving adds up to, record by record and piece by piece.
-use Rattle.std.proofs.Common.{◌≡◌, ℕ, suc, ◌+◌, ◌-◌, ◌<◌, ◌≤◌, ◌==◌, true, List, [], ◌∷◌, ◌++◌, length, take, drop, refl, sym, ap, ◌∙◌, arith, append_assoc, append-nil, length-append, length-drop, length-take, take-append-drop, subst}
-use Rattle.std.specs.List.{flat_map}
+use Rattle.std.proofs.Common.{◌≡◌, ℕ, ◌+◌, ◌-◌, ◌<◌, ◌≤◌, ◌==◌, true, List, [], ◌∷◌, ◌++◌, length, take, drop, refl, sym, ap, ◌∙◌, arith, append_assoc, append-nil, length-append, length-drop, length-take, take-append-drop}
 use Rattle.std.proofs.lemmas.List.{take_rest, take-append-le}
 use Rattle.std.specs.declared.option.Option.{Option}
 use Rattle.std.specs.declared.option.Option.TheVariants.{None, Some}
 use Rattle.std.specs.Io.KnownBytes.{Appends, Consumes, Keeps}
 use Rattle.std.proofs.KnownBytes.{Appends-trans, Appends-nil, Consumes-trans, Consumes-nil, Consumes-kept}
 use Rattle.std.proofs.Math.Seq.{take-append_seam, take-add}
-use Rattle.rpc_msg.specs.Records.{marked, mark_of}
-use Rattle.rpc_msg.specs.Sink.{AppendsFront}
-use Rattle.rpc_msg.specs.Underway.{Under, between, fresh, Step, Goes, Ends, Passes, Cut, Part, Whole, Large, cut, cut_on, on_byte, State, Open, Shut, Flow, then_flow, flow, flow_of, Feed, Feeds, FeedsCut}
+use Rattle.rpc_msg.specs.Records.{mark_of}
+use Rattle.rpc_msg.specs.Underway.{Under, fresh, Step, Goes, Ends, Passes, Cut, Part, Whole, Large, cut, cut_on, on_byte, State, Open, Shut, Flow, then_flow, flow, Feed, Feeds, FeedsCut}
 use Rattle.rpc_msg.specs.Serving.{Serves, sent, Passed, PassedFront, Ran}
 use Rattle.rpc_msg.specs.declared.records.Fed.{Fed}
 use Rattle.rpc_msg.specs.declared.records.Fed.TheVariants as fed
-use Rattle.rpc_msg.proofs.Fronts.{front_more}
 use Rattle.rpc_msg.proofs.Streams.{flow-cut, flow-append}
 use Rattle.std.proofs.lemmas.Grind.{flat_map-append}
 use Rattle.std.proofs.lemmas.Bool.{eqb-true}

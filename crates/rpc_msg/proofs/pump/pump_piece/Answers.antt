@@ -1,8 +1,5 @@
-use Rattle.std.proofs.Common.{◌≡◌, ◌+◌, ◌≤◌, length, arith, sym, ◌∙◌, ap, refl}
-use Rattle.std.specs.declared.option.Option.TheVariants.{None}
+use Rattle.std.proofs.Common.{◌+◌, ◌≤◌, length, arith, ◌∙◌, refl}
 use Rattle.std.specs.Io.KnownBytes.{Appends}
-use Rattle.rpc_msg.specs.Underway.{Open, State, fresh}
-use Rattle.rpc_msg.specs.Serving.{Passed, state_of}
 use Rattle.rpc_msg.specs.Sink.{AppendsFront}
 use Rattle.rpc_msg.proofs.Fronts.{front_join}
 use Rattle.rpc_msg.proofs.Pumping.{passed_quiet, flow-nil, passed_need, passed_large, passed_whole, said_now, within_now, appends_join}

@@ -1,4 +1,4 @@
-use Rattle.std.proofs.Common.{◌≡◌, ◌+◌, ◌≤◌, List, [], ℕ, length, take, arith, sym, ◌∙◌, refl, length-take}
+use Rattle.std.proofs.Common.{◌≡◌, ◌≤◌, List, [], ℕ, length, take, arith, sym, ◌∙◌, refl, length-take}
 use Rattle.std.specs.declared.option.Option.TheVariants.{None, Some}
 use Rattle.std.specs.Io.KnownBytes.{Appends}
 use Rattle.std.proofs.KnownBytes.{Consumes-nil}

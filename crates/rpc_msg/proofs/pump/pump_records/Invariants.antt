@@ -1,4 +1,4 @@
-use Rattle.std.proofs.Common.{length, ◌-◌, ◌+◌, ◌≡◌, ◌≤◌, ◌<◌}
+use Rattle.std.proofs.Common.{◌≡◌, ◌≤◌}
 use Rattle.rpc_msg.specs.Serving.{state_of}
 use Rattle.rpc_msg.proofs.Pumping.{Running}
 use Rattle.rpc_msg.proofs.pump.pump_records.Given as goal
