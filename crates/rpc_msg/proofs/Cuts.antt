@@ -1,9 +1,9 @@
 -- What a piece brings, taken part by part.
-use Rattle.std.proofs.Common.{◌≡◌, ℕ, suc, ◌+◌, ◌-◌, ◌<◌, ◌≤◌, ◌==◌, ◌⊎◌, Bool, true, false, cond, nat_lt, List, [], ◌∷◌, ◌++◌, length, take, drop, refl, sym, ap, ◌∙◌, inl, inr, arith, append_assoc, length-append, length-drop, length-take, take-append-drop, slice_index, subst}
+use Rattle.std.proofs.Common.{◌≡◌, ℕ, ◌+◌, ◌-◌, ◌<◌, ◌≤◌, ◌==◌, false, List, [], ◌∷◌, ◌++◌, length, take, drop, refl, sym, ap, ◌∙◌, inl, inr, arith, append_assoc, length-append, length-take, take-append-drop, slice_index}
 use Rattle.std.proofs.Math.ListN.{drop_of_length-le}
 use Rattle.std.proofs.lemmas.Bool.{ne_eqb, eq-eqb, lt-ltb, le-ltb}
 use Rattle.std.proofs.lemmas.Bool.Decides.{eqb_tells}
-use Rattle.rpc_msg.specs.Underway.{Under, Step, Goes, Ends, Passes, Cut, Part, Whole, Large, cut, cut_on, on_byte, on_body, on_end, on_header_byte, Makes, MakesCut, Feed, Feeds}
+use Rattle.rpc_msg.specs.Underway.{Under, Step, Goes, Ends, Passes, Cut, Part, cut, cut_on, on_byte, on_body, on_header_byte, Makes, MakesCut, Feed, Feeds}
 use Rattle.std.specs.declared.option.Option.TheVariants.{None}
 use Rattle.rpc_msg.specs.declared.records.Fed.TheVariants as fed
 use Rattle.rpc_msg.specs.declared.fragments.Progress.{Progress}

@@ -36,3 +36,6 @@ front_more old middle new first second put more =
       within = omega (arith, length-append first second, more.within);
       appended = rw take-append-add (Appends-trans _ _ _ _ _ put more.appended);
     }
+
+pub front_join : (a b c : Option (List ℕ)) (x y : List ℕ) → Appends a b x → AppendsFront b c y → AppendsFront a c (x ++ y)
+front_join a b c x y first more = front_more a b c x y first more

@@ -1,5 +1,6 @@
 pub mod Fronts
 pub mod Cuts
 pub mod Streams
+pub mod Pumping
 mod Plans
 mod Progress

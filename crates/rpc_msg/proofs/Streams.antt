@@ -1,11 +1,9 @@
 -- A stream that comes in pieces has the records of the whole, and these are its fragments joined.
-use Rattle.std.proofs.Common.{◌≡◌, ℕ, zero, suc, ◌+◌, ◌-◌, ◌*◌, ◌<◌, ◌≤◌, ◌==◌, ◌⊎◌, Bool, true, false, cond, nat_lt, nat_le, if◌then◌else◌, List, [], ◌∷◌, ◌++◌, length, take, drop, refl, sym, ap, ◌∙◌, inl, inr, arith, append_assoc, append-nil, length-append, length-drop, length-take, take-append-drop}
-use Rattle.std.specs.Int.{w32, from_be_bytes}
-use Rattle.std.proofs.lemmas.Bool.{cases_Bool, ne_eqb, eq-eqb, lt-ltb, le-ltb, ltb-true, ltb-false}
-use Rattle.std.proofs.lemmas.Bool.Decides.{eqb_tells}
+use Rattle.std.proofs.Common.{◌≡◌, ℕ, zero, suc, ◌+◌, ◌*◌, ◌<◌, ◌≤◌, ◌==◌, Bool, true, false, nat_lt, if◌then◌else◌, List, [], ◌∷◌, ◌++◌, length, take, drop, refl, sym, ap, ◌∙◌, inl, inr, arith, append_assoc, append-nil, length-drop, length-take}
+use Rattle.std.proofs.lemmas.Bool.{cases_Bool, ne_eqb, eq-eqb, le-ltb, ltb-true, ltb-false}
 use Rattle.rpc_msg.specs.Records.{record_limit, is_last, fragment_len, fragment_at, header_of, Front, Record, front_of, Told, told_by, records_up_to, records_of, End, Rest, TooLarge}
 use Rattle.rpc_msg.specs.Records as records
-use Rattle.rpc_msg.specs.Underway.{Under, between, fresh, Step, Goes, Ends, Passes, Cut, Part, Whole, Large, cut, cut_on, on_byte, on_body, on_end, on_fragment, on_header, State, Open, Shut, Flow, then_flow, flow_step, flow_byte, flow, flow_of, end_of, told_of}
+use Rattle.rpc_msg.specs.Underway.{Under, between, fresh, Step, Goes, Ends, Passes, Cut, Part, Whole, Large, cut, cut_on, on_byte, on_body, on_end, on_fragment, State, Open, Shut, then_flow, flow_step, flow_byte, flow, flow_of, told_of}
 use Rattle.rpc_msg.proofs.Cuts.{cut-take, cut-body}
 
 -- two pieces, one after the other, are the joined piece

@@ -7,3 +7,4 @@ pub mod Whole
 pub mod Records
 pub mod Underway
 pub mod Room
+pub mod Serving

@@ -93,6 +93,13 @@ impl RecordFeed {
         (at, Fed::Need)
     }
 
+    /// The sum that passed the limit, once a record was too large.
+    pub fn large(&self) -> Option<u32>
+        ensures { result ≡ self.now.large }
+    {
+        self.large
+    }
+
     /// The record that ended last, after the answer `Whole` and up to the next piece.
     pub fn record(&self) -> &[u8]
         ensures { result.now ≡ self.now.told }

@@ -1,4 +1,4 @@
-use Rattle.std.proofs.Common.{arith, ap, sym, ◌∙◌, ◌≡◌, ◌<◌, ◌≤◌}
+use Rattle.std.proofs.Common.{arith, ap, ◌≡◌, ◌<◌}
 use Rattle.rpc_msg.specs.Underway.{Under}
 use Rattle.rpc_msg.proofs.Cuts.{cut-header, cut-take, made_cut}
 use Rattle.rpc_msg.proofs.fragments.Fragments.take.Goals as goal

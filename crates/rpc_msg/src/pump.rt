@@ -1,0 +1,203 @@
+ghost use Rattle.std.specs.Prelude.{◌≡◌, ℕ, ◌+◌, ◌<◌, ◌≤◌, ◌^◌, List, length, None, IfOk, OnErr};
+ghost use Rattle.rpc_msg.specs.Records.{record_limit};
+ghost use Rattle.rpc_msg.specs.Underway.{Open};
+ghost use Rattle.rpc_msg.specs.Serving.{Served, PieceIs, RestWithin, PieceHasCause, PumpIs, PumpHasCause, TookWithin};
+ghost use Rattle.rpc_msg.specs.Source.{TakesBytes, TakeHasCause};
+ghost use Rattle.outcome.specs.Causes.{HasCause};
+
+use crate::records::{Fed, RecordFeed, mark};
+use crate::sink::Sink;
+use crate::source::{Source, Take};
+use crate::whole::{WriteFault, put_all};
+use outcome::Mem;
+use std::alloc::Global;
+use wire_xdr::Octets;
+
+// How many bytes are asked for at a time.
+const ROOM: usize = 4096;
+
+// The room for a marked record of the greatest length.
+const MARKED_ROOM: usize = 73_732;
+
+/// Answers records.
+pub trait Handler {
+    // Whether a handler may answer a record with this reply, and is then as the second one.
+    ghost answers: { Self → List ℕ → List ℕ → Self → Type 0 };
+
+    /// The reply to a record, empty where there is none. Without memory the handler is as before.
+    fn on(&mut self, alloc: Global, record_: &[u8]) -> Mem<Octets>
+        ensures small { IfOk result (λ reply. length reply ≤ record_limit) }
+        ensures answered { IfOk result (λ reply. answers self.old record_.now reply self.new) }
+        ensures err { OnErr result (self.new ≡ self.old) };
+}
+
+/// Why no more records are taken.
+#[derive(Clone, Copy, Debug, PartialEq, Eq)]
+pub enum Pumped {
+    /// The source ended.
+    End {
+        /// The bytes after the last whole record, headers included.
+        rest: u64,
+    },
+    /// A record was too large.
+    TooLarge {
+        /// The sum of its fragments' lengths that passed the limit, in bytes.
+        len: u32,
+    },
+    /// The source has more bytes than the budget.
+    TooMuch,
+    /// No record is left to be given to the handler.
+    Enough,
+    /// A fault of the source.
+    ReadFault,
+    /// A fault of the sink.
+    WriteFault,
+}
+
+/// What became of one piece.
+#[derive(Clone, Copy, Debug)]
+enum Piece {
+    /// All of it was taken; so many bytes came after the last whole record.
+    Taken(u64),
+    /// A record was too large.
+    TooLarge(u32),
+    /// No record is left to be given to the handler.
+    Enough,
+    /// A fault of the sink.
+    WriteFault,
+}
+
+/// Takes the records of a source, gives each to the handler, and puts the mark and the reply as one
+/// piece where the reply isn't empty, until the source ends. `left` falls by one for each record; none
+/// is taken at 0. No more than `budget` bytes are passed to the feed. Without memory what was done
+/// before stands.
+pub fn pump_records<S: Source, K: Sink, H: Handler>(
+    alloc: Global,
+    source: &mut S,
+    sink: &mut K,
+    feed: &mut RecordFeed,
+    handler: &mut H,
+    budget: u64,
+    left: &mut u64,
+) -> Mem<Pumped>
+    ensures pumped { IfOk result (PumpIs H.answers feed.old feed.new handler.old handler.new
+        (K.taken sink.old) (K.taken sink.new) left.old left.new (S.left source.old) (S.left source.new) budget) }
+    ensures cause { IfOk result (PumpHasCause (S.faults source.old) (S.faults source.new)
+        (K.faults sink.old) (K.faults sink.new)) }
+    ensures reads_later { S.faults source.old ≤ S.faults source.new }
+    ensures puts_later { K.faults sink.old ≤ K.faults sink.new }
+    ensures reads_failing { S.failing source.new ≡ S.failing source.old }
+    ensures puts_failing { K.failing sink.new ≡ K.failing sink.old }
+{
+    if *left == 0 {
+        return Ok(Pumped::Enough);
+    }
+    if let Some(len) = feed.large() {
+        return Ok(Pumped::TooLarge { len });
+    }
+    let mut room = [0; ROOM];
+    let mut unspent = budget;
+    let mut rest = 0;
+    'takes: while unspent > 0 {
+        match take_some(source, &mut room, unspent) {
+            Take::Took(count) => {
+                unspent -= count as u64;
+                match pump_piece(alloc, sink, feed, handler, &room[..count], rest, left)? {
+                    Piece::Taken(after) => rest = after,
+                    Piece::TooLarge(len) => return Ok(Pumped::TooLarge { len }),
+                    Piece::Enough => return Ok(Pumped::Enough),
+                    Piece::WriteFault => return Ok(Pumped::WriteFault),
+                }
+            }
+            Take::End => return Ok(Pumped::End { rest }),
+            Take::Failed => return Ok(Pumped::ReadFault),
+        }
+    }
+    match take_some(source, &mut room, 1) {
+        Take::Took(_) => Ok(Pumped::TooMuch),
+        Take::End => Ok(Pumped::End { rest }),
+        Take::Failed => Ok(Pumped::ReadFault),
+    }
+}
+
+// Takes at most so many bytes into the front of the room.
+fn take_some<S: Source>(source: &mut S, room: &mut [u8], most: u64) -> Take
+    requires some { 0 < most }
+    requires room { 0 < length room.old }
+    ensures within { TookWithin most result room.new }
+    ensures bytes { TakesBytes (S.left source.old) (S.left source.new) result room.new }
+    ensures cause { TakeHasCause (S.faults source.old) (S.faults source.new) result }
+    ensures failing { S.failing source.new ≡ S.failing source.old }
+{
+    let count = room.len().min(most as usize);
+    source.take(&mut room[..count])
+}
+
+// Gives one record to the handler, and puts the mark and the reply as one piece.
+fn serve<K: Sink, H: Handler>(
+    alloc: Global,
+    sink: &mut K,
+    handler: &mut H,
+    record_: &[u8],
+    left: &mut u64,
+) -> Mem<Result<(), WriteFault>>
+    requires { 0 < left.old }
+    ensures served { IfOk result (Served H.answers handler.old handler.new record_.now (K.taken sink.old) (K.taken sink.new)) }
+    ensures counted { IfOk result (λ _. left.old ≡ left.new + 1) }
+    ensures cause { IfOk result (HasCause (K.faults sink.old) (K.faults sink.new)) }
+    ensures later { K.faults sink.old ≤ K.faults sink.new }
+    ensures failing { K.failing sink.new ≡ K.failing sink.old }
+{
+    let mut piece = Vec::with_capacity(alloc, MARKED_ROOM)?;
+    *left -= 1;
+    let reply = handler.on(alloc, record_)?;
+    if reply.is_empty() {
+        return Ok(Ok(()));
+    }
+    piece.extend_from_slice(&mark(reply.len() as u32)).unwrap();
+    piece.extend_from_slice(reply.as_slice()).unwrap();
+    Ok(put_all(sink, piece.as_slice()))
+}
+
+// Gives the records that end in a piece to the handler. `rest` bytes came after the last one.
+fn pump_piece<K: Sink, H: Handler>(
+    alloc: Global,
+    sink: &mut K,
+    feed: &mut RecordFeed,
+    handler: &mut H,
+    piece: &[u8],
+    rest: u64,
+    left: &mut u64,
+) -> Mem<Piece>
+    requires open_now { feed.old.large ≡ None }
+    requires some { 0 < left.old }
+    requires fits { rest + length piece.now < 2 ^ 64 }
+    ensures passed { IfOk result (PieceIs H.answers (Open rest feed.old.under) feed.new handler.old handler.new
+        (K.taken sink.old) (K.taken sink.new) left.old left.new piece.now) }
+    ensures within { IfOk result (RestWithin (rest + length piece.now)) }
+    ensures cause { IfOk result (PieceHasCause (K.faults sink.old) (K.faults sink.new)) }
+    ensures later { K.faults sink.old ≤ K.faults sink.new }
+    ensures failing { K.failing sink.new ≡ K.failing sink.old }
+{
+    let mut rest = rest;
+    let mut at = 0;
+    'feeds: while at < piece.len() {
+        let (count, fed) = feed.feed(&piece[at..]);
+        at += count;
+        match fed {
+            Fed::Need => rest += count as u64,
+            Fed::TooLarge { len } => return Ok(Piece::TooLarge(len)),
+            Fed::Whole => {
+                match serve(alloc, sink, handler, feed.record(), left)? {
+                    Ok(()) => {}
+                    Err(_) => return Ok(Piece::WriteFault),
+                }
+                if *left == 0 {
+                    return Ok(Piece::Enough);
+                }
+                rest = 0;
+            }
+        }
+    }
+    Ok(Piece::Taken(rest))
+}
