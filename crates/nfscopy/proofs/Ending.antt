@@ -81,7 +81,8 @@ text_ends law before now Done text takes small puts = (takes.ended, answers law 
 text_ends law before now Usage text takes small puts = no_usage (schedule_of text) puts.0
 text_ends law before now Refused text takes small puts = answers law before now Refused text takes small puts
 text_ends law before now ReadFault text takes small puts = absurd puts
-text_ends law before now WriteFault text takes small puts = answers law before now WriteFault text takes small puts
+text_ends law before now WriteFault text takes small puts =
+    (puts.0, answers law before now WriteFault text takes small puts)
 text_ends law before now NoMemory text takes small puts = answers law before now NoMemory text takes small puts
 
 -- the input passes the limit
@@ -100,7 +101,7 @@ large_ends law before now Done large puts = let is = puts.0 in absurd (cc)
 large_ends law before now Usage large puts = let is = puts.0 in absurd (cc)
 large_ends law before now Refused large puts = large_answers law before now Refused large puts
 large_ends law before now ReadFault large puts = absurd puts
-large_ends law before now WriteFault large puts = large_answers law before now WriteFault large puts
+large_ends law before now WriteFault large puts = (puts.0, large_answers law before now WriteFault large puts)
 large_ends law before now NoMemory large puts = large_answers law before now NoMemory large puts
 
 -- the source failed

@@ -52,13 +52,13 @@ pub record Answers (before now : Outside) (status : Status) (text : List ℕ) : 
   pub promise : Promises text
 
 -- How `run` ends. With status 0 all of the input was read. With 3 the source's count of faults rose, and
--- nothing was put.
+-- nothing was put. With 4 the sink's count rose, also where the source doesn't tell its bytes.
 abbrev pub RunEnds : Outside → Outside → Status → Type 0
 RunEnds before now Done = IsAtEnd now.left × IfSome before.left (Answers before now Done)
 RunEnds before now Usage = ⊥
 RunEnds before now Refused = IfSome before.left (Answers before now Refused)
 RunEnds before now ReadFault = Rose before.reads now.reads × Keeps before.taken now.taken × IfSome before.left Promises
-RunEnds before now WriteFault = IfSome before.left (Answers before now WriteFault)
+RunEnds before now WriteFault = Rose before.writes now.writes × IfSome before.left (Answers before now WriteFault)
 RunEnds before now NoMemory = IfSome before.left (Answers before now NoMemory)
 
 -- how the program ends for its words, from what was outside before to what is outside then
