@@ -4,3 +4,5 @@ pub mod Streams
 pub mod Pumping
 mod Plans
 mod Progress
+pub mod Watching
+pub mod HeadLaws

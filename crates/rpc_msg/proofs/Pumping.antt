@@ -8,7 +8,7 @@ use Rattle.std.proofs.KnownBytes.{Appends-trans, Appends-nil, Consumes-trans, Co
 use Rattle.std.proofs.Math.Seq.{take-append_seam, take-add}
 use Rattle.rpc_msg.specs.Records.{mark_of}
 use Rattle.rpc_msg.specs.Underway.{Under, fresh, Step, Goes, Ends, Passes, Cut, Part, Whole, Large, cut, cut_on, on_byte, State, Open, Shut, Flow, then_flow, flow, Feed, Feeds, FeedsCut}
-use Rattle.rpc_msg.specs.Serving.{Serves, sent, Passed, PassedFront, Ran}
+use Rattle.rpc_msg.specs.Serving.{Serves, sent, Passed, PassedFront, Ran, Stops, StopsFront, RanShort}
 use Rattle.rpc_msg.specs.declared.records.Fed.{Fed}
 use Rattle.rpc_msg.specs.declared.records.Fed.TheVariants as fed
 use Rattle.rpc_msg.proofs.Streams.{flow-cut, flow-append}
@@ -167,7 +167,7 @@ SaidOf fed.Need new = new.large ≡ None
 SaidOf fed.Whole new = (new.under ≡ fresh) × (new.large ≡ None)
 SaidOf (fed.TooLarge sum) new = new.large ≡ Some sum
 
-said_at : (is : Cut) (bytes : List ℕ) (taken : ℕ) (said : Fed) (new : Feed) → FeedsCut is bytes taken said new → SaidOf said new
+pub said_at : (is : Cut) (bytes : List ℕ) (taken : ℕ) (said : Fed) (new : Feed) → FeedsCut is bytes taken said new → SaidOf said new
 said_at (Part next) bytes taken said new feeds = rw feeds.answer feeds.small
 said_at (Whole joined rest) bytes taken said new feeds = rw feeds.answer (feeds.under_way, feeds.small)
 said_at (Large sum rest) bytes taken said new feeds = rw feeds.answer feeds.large
@@ -341,3 +341,65 @@ ran_none answers s old a l source budget =
 -- what was at the front of the room is at the front of its front
 pub take_front : (n most : ℕ) (buf room : List ℕ) → n ≤ length buf → take n (buf ++ drop most room) ≡ take n buf
 take_front n most buf room within = take-append-le n buf (drop most room) within
+
+-- it ended a record, for which memory was wanted
+pub stops_whole : {H : Type 0} (answers : H → List ℕ → List ℕ → H → Type 0)
+    (s : State) (rest : ℕ) (feed new_feed : Feed) (old middle : H) (a b : Option (List ℕ)) (l k : ℕ)
+    (piece : List ℕ) (at : ℕ) (result : ℕ × Fed) → feed.large ≡ None
+    → Feeds feed.large feed (take (length piece - at) (drop at piece)) result new_feed
+    → Passed answers Appends s (Open rest feed.under) old middle a b l k (take at piece)
+    → result.1 ≡ fed.Whole
+    → Stops answers s old middle a b l k (take (at + result.0) piece) new_feed
+stops_whole answers s rest feed new_feed old middle a b l k piece at result small exact done said =
+    let is : flow (Open rest feed.under) (take result.0 (drop at piece)) ≡ flow_said rest result.0 result.1 new_feed =
+    fed_flow feed.under rest (drop at piece) result.0 result.1 new_feed (fed_now feed new_feed piece at result small exact) in
+    let one : flow (Open rest feed.under) (take result.0 (drop at piece)) ≡ record { records = new_feed.told ∷ []; state = Open 0 fresh } =
+    is ∙ ap (λ (f : Fed). flow_said rest result.0 f new_feed) said in
+    let both : flow s (take at piece ++ take result.0 (drop at piece)) ≡ then_flow (flow s (take at piece)) (λ next. flow next (take result.0 (drop at piece))) =
+    flow-append s (take at piece) (take result.0 (drop at piece)) in
+    rw take-add (record {
+      records = (flow s (take at piece)).records;
+      replies = done.replies;
+      told = rw (both, done.state) (rw one refl);
+      served = done.served;
+      put = done.put;
+      counted = done.counted;
+    })
+
+stops_join : {H : Type 0} (answers : H → List ℕ → List ℕ → H → Type 0)
+    (s m : State) (old middle new : H) (a b c : Option (List ℕ)) (l k j : ℕ) (first more : List ℕ) (feed : Feed)
+    → Passed answers Appends s m old middle a b l k first → Stops answers m middle new b c k j more feed
+    → Stops answers s old new a c l j (first ++ more) feed
+stops_join answers s m old middle new a b c l k j first more feed done later =
+    let both : flow s (first ++ more) ≡ then_flow (flow s first) (λ next. flow next more) = flow-append s first more in
+    record {
+      records = (flow s first).records ++ later.records;
+      replies = done.replies ++ later.replies;
+      told = rw (both, done.state) (rw later.told (rw (append_assoc (flow s first).records later.records (feed.told ∷ [])) refl));
+      served = Serves-append answers old middle new _ _ done.replies later.replies done.served later.served;
+      put = rw (flat_map-append sent done.replies later.replies) (appends_join a b c _ _ done.put later.put);
+      counted = omega (arith, done.counted, later.counted, length-append (flow s first).records later.records);
+    }
+
+-- a front of a piece was passed, and then memory was wanted
+pub ran_short : {H : Type 0} (answers : H → List ℕ → List ℕ → H → Type 0) (s : State) (rest : ℕ) (feed new_feed : Feed) (old middle : H)
+    (a b : Option (List ℕ)) (l k : ℕ) (source now : Option (List ℕ)) (unspent budget : ℕ)
+    (new : H) (c : Option (List ℕ)) (j : ℕ) (later : Option (List ℕ)) (piece : List ℕ)
+    → Running answers s rest feed old middle a b l k source now unspent budget
+    → Consumes now later piece → length piece ≤ unspent
+    → StopsFront answers (Open rest feed.under) middle new b c k j piece new_feed
+    → RanShort answers s old new a c l j source later budget new_feed
+ran_short answers s rest feed new_feed old middle a b l k source now unspent budget new c j later piece run taken within front =
+    let spent = run.spent in
+    let inside = front.within in
+    let all : (run.bytes ++ take front.count piece) ++ drop front.count piece ≡ run.bytes ++ piece =
+    append_assoc run.bytes (take front.count piece) (drop front.count piece)
+    ∙ ap (λ (l : List ℕ). run.bytes ++ l) (take-append-drop front.count piece) in
+    let taken_len : length (take front.count piece) ≡ front.count = rw (length-take front.count piece) (omega arith) in
+    record {
+      bytes = run.bytes ++ take front.count piece;
+      over = drop front.count piece;
+      taken = rw all (Consumes-trans _ _ _ _ _ run.taken taken);
+      within = omega (arith, length-append run.bytes (take front.count piece));
+      stopped = stops_join answers s (Open rest feed.under) old middle new a b c l k j run.bytes (take front.count piece) new_feed run.passed front.stopped;
+    }

@@ -8,3 +8,9 @@ pub mod Records
 pub mod Underway
 pub mod Room
 pub mod Serving
+pub mod Draws
+pub mod Unread
+pub mod Watching
+pub mod Heads
+pub mod GssCred
+pub mod Messages

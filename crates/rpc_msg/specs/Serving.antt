@@ -9,7 +9,7 @@ use Rattle.std.specs.Io.KnownBytes.{Appends, Consumes, IsAtEnd}
 use Rattle.outcome.specs.Causes.{Rose}
 use Rattle.rpc_msg.specs.Records.{marked}
 use Rattle.rpc_msg.specs.Sink.{AppendsFront}
-use Rattle.rpc_msg.specs.Underway.{Feed, State, Open, Shut, flow}
+use Rattle.rpc_msg.specs.Underway.{Feed, State, Open, Shut, fresh, flow}
 use Rattle.rpc_msg.specs.declared.pump.Pumped.{Pumped}
 use Rattle.rpc_msg.specs.declared.pump.Pumped.TheVariants as pumped
 use Rattle.rpc_msg.specs.declared.pump.Piece.{Piece}
@@ -66,6 +66,23 @@ pub record PassedFront {H : Type 0} (answers : H → List ℕ → List ℕ → H
   pub within : count ≤ length bytes
   pub passed : Passed answers Puts old_state new_state old new old_put new_put old_left new_left (take count bytes)
 
+-- Memory was wanted at a record, the one that the feed lends: those before it were served, each reply
+-- was put, and `left` fell by one for each; it wasn't answered and isn't counted.
+pub record Stops {H : Type 0} (answers : H → List ℕ → List ℕ → H → Type 0) (old_state : State) (old new : H)
+    (old_put new_put : Option (List ℕ)) (old_left new_left : ℕ) (bytes : List ℕ) (feed : Feed) : Type 0 where
+  pub records : List (List ℕ)
+  pub replies : List (List ℕ)
+  pub told : flow old_state bytes ≡ record { records = records ++ feed.told ∷ []; state = Open 0 fresh }
+  pub served : Serves answers old records replies new
+  pub put : Appends old_put new_put (flat_map sent replies)
+  pub counted : old_left ≡ new_left + length records
+
+pub record StopsFront {H : Type 0} (answers : H → List ℕ → List ℕ → H → Type 0) (old_state : State) (old new : H)
+    (old_put new_put : Option (List ℕ)) (old_left new_left : ℕ) (bytes : List ℕ) (feed : Feed) : Type 0 where
+  pub count : ℕ
+  pub within : count ≤ length bytes
+  pub stopped : Stops answers old_state old new old_put new_put old_left new_left (take count bytes) feed
+
 abbrev pub PieceIs : {H : Type 0} → (H → List ℕ → List ℕ → H → Type 0) → State → Feed → H → H → Option (List ℕ) → Option (List ℕ)
     → ℕ → ℕ → List ℕ → Piece → Type 0
 PieceIs answers state feed old new old_put new_put old_left new_left bytes (piece.Taken rest) =
@@ -90,6 +107,16 @@ pub record Ran {H : Type 0} (answers : H → List ℕ → List ℕ → H → Typ
   pub taken : Consumes old_source new_source (bytes ++ over)
   pub within : length bytes ≤ budget
   pub passed : Passed answers Puts old_state new_state old new old_put new_put old_left new_left bytes
+
+-- The same where the source gave these bytes, and others that came with them.
+pub record RanShort {H : Type 0} (answers : H → List ℕ → List ℕ → H → Type 0) (old_state : State) (old new : H)
+    (old_put new_put : Option (List ℕ)) (old_left new_left : ℕ)
+    (old_source new_source : Option (List ℕ)) (budget : ℕ) (feed : Feed) : Type 0 where
+  pub bytes : List ℕ
+  pub over : List ℕ
+  pub taken : Consumes old_source new_source (bytes ++ over)
+  pub within : length bytes ≤ budget
+  pub stopped : Stops answers old_state old new old_put new_put old_left new_left bytes feed
 
 abbrev pub PumpIs : {H : Type 0} → (H → List ℕ → List ℕ → H → Type 0) → Feed → Feed → H → H → Option (List ℕ) → Option (List ℕ)
     → ℕ → ℕ → Option (List ℕ) → Option (List ℕ) → ℕ → Pumped → Type 0

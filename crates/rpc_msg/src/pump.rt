@@ -1,7 +1,7 @@
 ghost use Rattle.std.specs.Prelude.{◌≡◌, ℕ, ◌+◌, ◌<◌, ◌≤◌, ◌^◌, List, length, None, IfOk, OnErr};
 ghost use Rattle.rpc_msg.specs.Records.{record_limit};
 ghost use Rattle.rpc_msg.specs.Underway.{Open};
-ghost use Rattle.rpc_msg.specs.Serving.{Served, PieceIs, RestWithin, PieceHasCause, PumpIs, PumpHasCause, TookWithin};
+ghost use Rattle.rpc_msg.specs.Serving.{Served, PieceIs, StopsFront, RanShort, state_of, RestWithin, PieceHasCause, PumpIs, PumpHasCause, TookWithin};
 ghost use Rattle.rpc_msg.specs.Source.{TakesBytes, TakeHasCause};
 ghost use Rattle.outcome.specs.Causes.{HasCause};
 
@@ -70,7 +70,8 @@ enum Piece {
 /// Takes the records of a source, gives each to the handler, and puts the mark and the reply as one
 /// piece where the reply isn't empty, until the source ends. `left` falls by one for each record; none
 /// is taken at 0. No more than `budget` bytes are passed to the feed. Without memory what was done
-/// before stands.
+/// before stands: the replies to the records before the one at hand were put, and nothing else. The feed
+/// lends that record still; it isn't answered, nor counted in `left`.
 pub fn pump_records<S: Source, K: Sink, H: Handler>(
     alloc: Global,
     source: &mut S,
@@ -82,6 +83,8 @@ pub fn pump_records<S: Source, K: Sink, H: Handler>(
 ) -> Mem<Pumped>
     ensures pumped { IfOk result (PumpIs H.answers feed.old feed.new handler.old handler.new
         (K.taken sink.old) (K.taken sink.new) left.old left.new (S.left source.old) (S.left source.new) budget) }
+    ensures err { OnErr result (RanShort H.answers (state_of 0 feed.old) handler.old handler.new
+        (K.taken sink.old) (K.taken sink.new) left.old left.new (S.left source.old) (S.left source.new) budget feed.new) }
     ensures cause { IfOk result (PumpHasCause (S.faults source.old) (S.faults source.new)
         (K.faults sink.old) (K.faults sink.new)) }
     ensures reads_later { S.faults source.old ≤ S.faults source.new }
@@ -120,8 +123,8 @@ pub fn pump_records<S: Source, K: Sink, H: Handler>(
     }
 }
 
-// Takes at most so many bytes into the front of the room.
-fn take_some<S: Source>(source: &mut S, room: &mut [u8], most: u64) -> Take
+/// Takes at most so many bytes into the front of the room.
+pub fn take_some<S: Source>(source: &mut S, room: &mut [u8], most: u64) -> Take
     requires some { 0 < most }
     requires room { 0 < length room.old }
     ensures within { TookWithin most result room.new }
@@ -144,13 +147,16 @@ fn serve<K: Sink, H: Handler>(
     requires { 0 < left.old }
     ensures served { IfOk result (Served H.answers handler.old handler.new record_.now (K.taken sink.old) (K.taken sink.new)) }
     ensures counted { IfOk result (λ _. left.old ≡ left.new + 1) }
+    ensures err_handler { OnErr result (handler.new ≡ handler.old) }
+    ensures err_sink { OnErr result (sink.new ≡ sink.old) }
+    ensures err_left { OnErr result (left.new ≡ left.old) }
     ensures cause { IfOk result (HasCause (K.faults sink.old) (K.faults sink.new)) }
     ensures later { K.faults sink.old ≤ K.faults sink.new }
     ensures failing { K.failing sink.new ≡ K.failing sink.old }
 {
     let mut piece = Vec::with_capacity(alloc, MARKED_ROOM)?;
-    *left -= 1;
     let reply = handler.on(alloc, record_)?;
+    *left -= 1;
     if reply.is_empty() {
         return Ok(Ok(()));
     }
@@ -174,6 +180,8 @@ fn pump_piece<K: Sink, H: Handler>(
     requires fits { rest + length piece.now < 2 ^ 64 }
     ensures passed { IfOk result (PieceIs H.answers (Open rest feed.old.under) feed.new handler.old handler.new
         (K.taken sink.old) (K.taken sink.new) left.old left.new piece.now) }
+    ensures err { OnErr result (StopsFront H.answers (Open rest feed.old.under) handler.old handler.new
+        (K.taken sink.old) (K.taken sink.new) left.old left.new piece.now feed.new) }
     ensures within { IfOk result (RestWithin (rest + length piece.now)) }
     ensures cause { IfOk result (PieceHasCause (K.faults sink.old) (K.faults sink.new)) }
     ensures later { K.faults sink.old ≤ K.faults sink.new }

@@ -1,8 +1,11 @@
 use Rattle.std.proofs.Common.{◌+◌, ◌≤◌, length, arith, ◌∙◌, refl}
 use Rattle.std.specs.Io.KnownBytes.{Appends}
 use Rattle.rpc_msg.specs.Sink.{AppendsFront}
+use Rattle.rpc_msg.specs.Serving.{StopsFront}
+use Rattle.rpc_msg.specs.Underway.{Open}
 use Rattle.rpc_msg.proofs.Fronts.{front_join}
-use Rattle.rpc_msg.proofs.Pumping.{passed_quiet, flow-nil, passed_need, passed_large, passed_whole, said_now, within_now, appends_join}
+use Rattle.rpc_msg.proofs.Pumping.{passed_quiet, flow-nil, passed_need, passed_large, passed_whole, stops_whole, said_now, within_now, appends_join}
+use Rattle.rpc_msg.proofs.Progress.{on_err}
 use Rattle.rpc_msg.proofs.pump.pump_piece.Goals as goal
 
 pub feeds-init : goal.feeds-init
@@ -80,3 +83,17 @@ feeds-preserved g c =
       calls.failing ∙ kept.5,
       omega arith,
     )
+
+pub returns-in_err-serve-in-Whole-clause-err : goal.returns-in_err-serve-in-Whole-clause-err
+returns-in_err-serve-in-Whole-clause-err g c =
+    let kept = c.feeds.invariant in
+    let fed = c.feed-count.ensures.exact in
+    let calls = c.in_err-serve-in-Whole.ensures in
+    let short : StopsFront g.H.Handler.answers (Open c.args.rest c.args.feed.now.under) c.args.handler.now c.serve.new.handler
+    (g.K.Sink.taken c.args.sink.now) (g.K.Sink.taken c.serve.new.sink) c.args.left.now c.serve.new.left c.args.piece.now c.feed-count.new.self =
+    rw (calls.err_handler, calls.err_sink, calls.err_left) (record {
+      count = c.feeds.at + c.feed-count.result.0;
+      within = within_now _ _ _ kept.1 c.feed-count.ensures.within;
+      stopped = stops_whole _ _ _ c.feeds.feed c.feed-count.new.self _ _ _ _ _ _ c.args.piece.now c.feeds.at c.feed-count.result kept.2 fed kept.0 c.in-Whole.is;
+    }) in
+    on_err _ _ short

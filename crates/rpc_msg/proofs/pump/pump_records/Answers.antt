@@ -4,7 +4,8 @@ use Rattle.std.specs.Io.KnownBytes.{Appends}
 use Rattle.std.proofs.KnownBytes.{Consumes-nil}
 use Rattle.rpc_msg.specs.Sink.{AppendsFront}
 use Rattle.rpc_msg.proofs.Fronts.{front_join}
-use Rattle.rpc_msg.proofs.Pumping.{passed_quiet, flow-nil, appends_join, running_taken, ran_stopped, ran_end, ran_much, ran_none, none_given}
+use Rattle.rpc_msg.proofs.Pumping.{passed_quiet, flow-nil, appends_join, running_taken, ran_stopped, ran_short, ran_end, ran_much, ran_none, none_given}
+use Rattle.rpc_msg.proofs.Progress.{on_err}
 use Rattle.rpc_msg.proofs.pump.pump_records.Goals as goal
 
 -- the length of what was taken
@@ -112,3 +113,12 @@ returns-in-End-take_some-clause-pumped g c =
     let gave = rw c.in-End-take_some.is at c.take_some-2.ensures.bytes in
     let ran = ran_end _ _ _ _ _ _ _ _ _ _ _ _ _ _ _ run (none_given _ _ gave.0) in
     (ran.0, ran.1, gave.1, run.some)
+
+pub returns-in_err-after-in-Took-clause-err : goal.returns-in_err-after-in-Took-clause-err
+returns-in_err-after-in-Took-clause-err g c =
+    let kept = c.takes.invariant in
+    let took = rw c.in-Took.is at c.take_some.ensures.within in
+    let gave = rw c.in-Took.is at c.take_some.ensures.bytes in
+    let len = taken_len c.in-Took.count c.take_some.new.room took.2 in
+    on_err _ _ (ran_short _ _ _ _ _ _ _ _ _ _ _ _ _ _ _ _ _ _ _ (take c.in-Took.count c.take_some.new.room)
+    kept.0 gave (omega (arith, len, took.1)) c.in_err-after-in-Took.ensures.err)

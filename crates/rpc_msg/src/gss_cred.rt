@@ -1,0 +1,65 @@
+ghost use Rattle.std.specs.Prelude.{IfOk};
+ghost use Rattle.rpc_msg.specs.GssCred.{gss_cred};
+ghost use Rattle.rpc_msg.specs.Messages.{ReadsWhole};
+
+use outcome::Mem;
+use std::alloc::Global;
+use wire_xdr::{BadXdr, Octets, ReadError, Reader, Writer, Xdr, read};
+
+/// The credential of RPCSEC_GSS (RFC 2203 section 5), which is the body of an auth of flavor 6. Each number
+/// may be any word here: what version, procedure and service are served is for the caller to say.
+#[derive(Debug, Drop)]
+pub struct GssCred {
+    pub version: u32,
+    pub gss_proc: u32,
+    pub seq_num: u32,
+    pub service: u32,
+    pub handle: Octets,
+}
+
+impl Xdr for GssCred {
+    ghost form = { gss_cred };
+
+    #[tactic(auto, unfolding(crate::specs::GssCred::gss_cred))]
+    fn parse(alloc: Global, reader: &mut Reader) -> Result<GssCred, ReadError> {
+        Ok(GssCred {
+            version: u32::parse(alloc, reader)?,
+            gss_proc: u32::parse(alloc, reader)?,
+            seq_num: u32::parse(alloc, reader)?,
+            service: u32::parse(alloc, reader)?,
+            handle: Octets::parse(alloc, reader, 400)?,
+        })
+    }
+
+    #[tactic(auto, unfolding(crate::specs::GssCred::gss_cred))]
+    fn put(&self, writer: &mut Writer) -> Mem<()> {
+        self.version.put(writer)?;
+        self.gss_proc.put(writer)?;
+        self.seq_num.put(writer)?;
+        self.service.put(writer)?;
+        self.handle.put(writer)
+    }
+}
+
+/// Reads the body of a credential of flavor 6: all of it is to spell one. A refusal names the first place
+/// that fails, or the place behind the credential where more bytes stand there.
+pub fn read_gss_cred(alloc: Global, body: &[u8]) -> Mem<Result<GssCred, BadXdr>>
+    ensures { IfOk result (ReadsWhole gss_cred body.now) }
+{
+    read_whole_value(alloc, body)
+}
+
+// Reads bytes that are to spell a value and nothing more.
+fn read_whole_value<T: Xdr>(alloc: Global, bytes: &[u8]) -> Mem<Result<T, BadXdr>>
+    ensures { IfOk result (ReadsWhole T.form bytes.now) }
+{
+    let mut reader = Reader::new(bytes);
+    let value = match read::<T>(alloc, &mut reader)? {
+        Ok(value) => value,
+        Err(bad) => return Ok(Err(bad)),
+    };
+    if reader.rest().is_empty() {
+        return Ok(Ok(value));
+    }
+    Ok(Err(BadXdr { at: reader.at() }))
+}

@@ -1,0 +1,189 @@
+ghost use Rattle.std.specs.Prelude.{◌≡◌};
+ghost use Rattle.wire_xdr.specs.Arms.{number_of};
+ghost use Rattle.rpc_msg.specs.Heads.{stat, stat_case, denial, reply};
+
+use crate::auth::Auth;
+use outcome::Mem;
+use std::alloc::Global;
+use wire_xdr::{ReadError, Reader, Writer, Xdr};
+
+// The message type of a reply.
+const REPLY: u32 = 1;
+
+/// What became of a call that was accepted (RFC 5531 section 9).
+#[derive(Clone, Copy, Debug, PartialEq, Eq)]
+pub enum Stat {
+    /// It was carried out, and the result stands behind the head.
+    Success,
+    /// The program isn't served.
+    ProgUnavail,
+    /// The program is served in these versions.
+    ProgMismatch { low: u32, high: u32 },
+    /// The program has no such procedure.
+    ProcUnavail,
+    /// The arguments aren't spelled.
+    Garbage,
+    /// Want of memory.
+    SystemErr,
+}
+
+/// Why a call was denied (RFC 5531 section 9).
+#[derive(Clone, Copy, Debug, PartialEq, Eq)]
+pub enum Denial {
+    /// RPC is spoken in these versions.
+    Mismatch { low: u32, high: u32 },
+    /// The caller isn't known or may not call; the number is an auth_stat.
+    Auth(u32),
+}
+
+/// The head of a reply (RFC 5531 section 9): the number of the call that it answers, and what became of it.
+#[derive(Debug, Drop)]
+pub enum ReplyHead {
+    Accepted { xid: u32, verf: Auth, stat: Stat },
+    Denied { xid: u32, why: Denial },
+}
+
+impl Stat {
+    /// Its number, which is called accept_stat.
+    pub fn number(self) -> u32
+        ensures { result ≡ number_of stat_case self }
+    {
+        match self {
+            Stat::Success => 0,
+            Stat::ProgUnavail => 1,
+            Stat::ProgMismatch { .. } => 2,
+            Stat::ProcUnavail => 3,
+            Stat::Garbage => 4,
+            Stat::SystemErr => 5,
+        }
+    }
+}
+
+impl Xdr for Stat {
+    ghost form = { stat };
+
+    #[tactic(auto, unfolding(crate::specs::Heads::stat))]
+    fn parse(alloc: Global, reader: &mut Reader) -> Result<Stat, ReadError> {
+        let start = reader.at();
+        match u32::parse(alloc, reader)? {
+            0 => Ok(Stat::Success),
+            1 => Ok(Stat::ProgUnavail),
+            2 => Ok(Stat::ProgMismatch {
+                low: u32::parse(alloc, reader)?,
+                high: u32::parse(alloc, reader)?,
+            }),
+            3 => Ok(Stat::ProcUnavail),
+            4 => Ok(Stat::Garbage),
+            5 => Ok(Stat::SystemErr),
+            _ => Err(ReadError::at(start)),
+        }
+    }
+
+    #[tactic(auto, unfolding(crate::specs::Heads::stat))]
+    fn put(&self, writer: &mut Writer) -> Mem<()> {
+        match self {
+            Stat::Success => {
+                0u32.put(writer)?;
+                writer.void()
+            }
+            Stat::ProgUnavail => {
+                1u32.put(writer)?;
+                writer.void()
+            }
+            Stat::ProgMismatch { low, high } => {
+                2u32.put(writer)?;
+                low.put(writer)?;
+                high.put(writer)
+            }
+            Stat::ProcUnavail => {
+                3u32.put(writer)?;
+                writer.void()
+            }
+            Stat::Garbage => {
+                4u32.put(writer)?;
+                writer.void()
+            }
+            Stat::SystemErr => {
+                5u32.put(writer)?;
+                writer.void()
+            }
+        }
+    }
+}
+
+impl Xdr for Denial {
+    ghost form = { denial };
+
+    #[tactic(auto, unfolding(crate::specs::Heads::denial))]
+    fn parse(alloc: Global, reader: &mut Reader) -> Result<Denial, ReadError> {
+        let start = reader.at();
+        match u32::parse(alloc, reader)? {
+            0 => Ok(Denial::Mismatch {
+                low: u32::parse(alloc, reader)?,
+                high: u32::parse(alloc, reader)?,
+            }),
+            1 => Ok(Denial::Auth(u32::parse(alloc, reader)?)),
+            _ => Err(ReadError::at(start)),
+        }
+    }
+
+    #[tactic(auto, unfolding(crate::specs::Heads::denial))]
+    fn put(&self, writer: &mut Writer) -> Mem<()> {
+        match self {
+            Denial::Mismatch { low, high } => {
+                0u32.put(writer)?;
+                low.put(writer)?;
+                high.put(writer)
+            }
+            Denial::Auth(why) => {
+                1u32.put(writer)?;
+                why.put(writer)
+            }
+        }
+    }
+}
+
+impl Xdr for ReplyHead {
+    ghost form = { reply };
+
+    #[tactic(auto, unfolding(crate::specs::Heads::reply))]
+    fn parse(alloc: Global, reader: &mut Reader) -> Result<ReplyHead, ReadError> {
+        let xid = u32::parse(alloc, reader)?;
+        let kind_at = reader.at();
+        if u32::parse(alloc, reader)? != REPLY {
+            return Err(ReadError::at(kind_at));
+        }
+        let start = reader.at();
+        match u32::parse(alloc, reader)? {
+            0 => Ok(ReplyHead::Accepted {
+                xid,
+                verf: Auth::parse(alloc, reader)?,
+                stat: Stat::parse(alloc, reader)?,
+            }),
+            1 => Ok(ReplyHead::Denied {
+                xid,
+                why: Denial::parse(alloc, reader)?,
+            }),
+            _ => Err(ReadError::at(start)),
+        }
+    }
+
+    #[tactic(auto, unfolding(crate::specs::Heads::reply))]
+    fn put(&self, writer: &mut Writer) -> Mem<()> {
+        match self {
+            ReplyHead::Accepted { xid, verf, stat } => {
+                xid.put(writer)?;
+                REPLY.put(writer)?;
+                0u32.put(writer)?;
+                verf.put(writer)?;
+                stat.put(writer)
+            }
+            ReplyHead::Denied { xid, why } => {
+                xid.put(writer)?;
+                REPLY.put(writer)?;
+                1u32.put(writer)?;
+                why.put(writer)
+            }
+        }
+    }
+}
