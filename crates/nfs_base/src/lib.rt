@@ -1,19 +1,47 @@
-//! The words that every layer speaks: the two servers, statuses, jobs by name, and notes.
+//! The words that every layer speaks: the servers, statuses, stateids, handles, network locations, jobs by
+//! name, notes, and the limits.
 //!
+//! Types of the wire are those of RFC 8881 and RFC 7862 that more than one operation has. Each is spelled
+//! by a form of `specs/Forms.antt`, one a type; [`Answer`] is what any operation answers. The contract to
+//! read first is that of [`wire_xdr::read`], which [`read_state_id`] and its like have at one type each.
 //! A [`Note`] says one thing that happened in a step, and prints as one line of the transcript;
-//! `specs/Text.antt` has each line's exact text. Statuses are those of RFC 8881 section 15.1.
+//! `specs/Text.antt` has each line's exact text.
 #![tactic(auto)]
 
+mod answer;
+mod calls;
+mod handle;
 mod job;
 mod limits;
+mod net_loc;
 mod note;
+mod seal;
 mod side;
+mod state_id;
 mod status;
 #[cfg(test)]
 mod tests;
+mod time;
+mod written;
 
+pub use answer::Answer;
+pub use calls::{
+    read_handle, read_net_loc, read_state_id, read_status, read_time, write_handle, write_net_loc,
+    write_state_id, write_status, write_time,
+};
+pub use handle::Handle;
 pub use job::{JobName, Stop};
-pub use limits::{BLOCK_SIZE, CHUNK_SIZE, MOST_BLOCKS, MOST_FILES};
+pub use limits::{
+    BLOCK_SIZE, CHUNK_SIZE, CONTEXT_IDLE, DATA_LIMIT, HANDLE_LIMIT, LEASE_SECONDS, MOST_BLOCKS,
+    MOST_CLIENTS, MOST_CONTEXTS, MOST_FILES, MOST_GRANTS, MOST_JOBS, MOST_NET_LOCS, MOST_OPENS,
+    MOST_OPERATIONS, MOST_SESSIONS, NAME_LIMIT, PRIVILEGE_LIMIT, RECORD_LIMIT, SECRET_LEAST,
+    SECRET_LIMIT, SLOTS, TEXT_LIMIT, TOKEN_LIMIT, WINDOW_SIZE,
+};
+pub use net_loc::NetLoc;
 pub use note::Note;
+pub use seal::{End, Seal};
 pub use side::Side;
+pub use state_id::StateId;
 pub use status::Status;
+pub use time::Time;
+pub use written::{Stability, WriteResponse};

@@ -1,0 +1,31 @@
+ghost use Rattle.nfs_base.specs.Forms.{time};
+
+use outcome::Mem;
+use std::alloc::Global;
+use wire_xdr::{ReadError, Reader, Writer, Xdr};
+
+/// A time, or a length of time (nfstime4, RFC 8881 section 3.3.1): seconds and nanoseconds. Any number of
+/// nanoseconds is kept.
+#[derive(Clone, Copy, Debug, PartialEq, Eq)]
+pub struct Time {
+    pub secs: i64,
+    pub nanos: u32,
+}
+
+impl Xdr for Time {
+    ghost form = { time };
+
+    #[tactic(auto, unfolding(crate::specs::Forms::time))]
+    fn parse(alloc: Global, reader: &mut Reader) -> Result<Time, ReadError> {
+        Ok(Time {
+            secs: i64::parse(alloc, reader)?,
+            nanos: u32::parse(alloc, reader)?,
+        })
+    }
+
+    #[tactic(auto, unfolding(crate::specs::Forms::time))]
+    fn put(&self, writer: &mut Writer) -> Mem<()> {
+        self.secs.put(writer)?;
+        self.nanos.put(writer)
+    }
+}
