@@ -1,0 +1,120 @@
+ghost use Rattle.copy_ops.specs.Forms.{copy_args, notify_args, clone_args};
+
+use nfs_base::{MOST_NET_LOCS, NetLoc, StateId};
+use outcome::Mem;
+use std::alloc::Global;
+use wire_xdr::{Items, ReadError, Reader, Writer, Xdr, put_four};
+
+/// What COPY is asked to do (COPY4args, RFC 7862 section 15.2). Offsets and the count are bytes; a count of
+/// 0 goes to the end of the source file.
+#[derive(Debug, Drop)]
+pub struct CopyArgs {
+    pub src_id: StateId,
+    pub dst_id: StateId,
+    pub src_off: u64,
+    pub dst_off: u64,
+    pub count: u64,
+
+    /// Whether the bytes are to be copied in their order.
+    pub consecutive: bool,
+
+    /// Whether the answer is to wait until the copy is done.
+    pub synchronous: bool,
+
+    /// Where the source server is found, at most eight places; none where it is this server.
+    pub sources: Items<NetLoc>,
+}
+
+impl Xdr for CopyArgs {
+    ghost form = { copy_args };
+
+    #[tactic(auto, unfolding(crate::specs::Forms::copy_args))]
+    fn parse(alloc: Global, reader: &mut Reader) -> Result<CopyArgs, ReadError> {
+        Ok(CopyArgs {
+            src_id: StateId::parse(alloc, reader)?,
+            dst_id: StateId::parse(alloc, reader)?,
+            src_off: u64::parse(alloc, reader)?,
+            dst_off: u64::parse(alloc, reader)?,
+            count: u64::parse(alloc, reader)?,
+            consecutive: bool::parse(alloc, reader)?,
+            synchronous: bool::parse(alloc, reader)?,
+            sources: Items::parse(alloc, reader, MOST_NET_LOCS)?,
+        })
+    }
+
+    #[tactic(auto, unfolding(crate::specs::Forms::copy_args))]
+    fn put(&self, writer: &mut Writer) -> Mem<()> {
+        put_four(
+            writer,
+            &self.src_id,
+            &self.dst_id,
+            &self.src_off,
+            &self.dst_off,
+        )?;
+        self.count.put(writer)?;
+        self.consecutive.put(writer)?;
+        self.synchronous.put(writer)?;
+        self.sources.put(writer)
+    }
+}
+
+/// What COPY_NOTIFY is asked to allow (COPY_NOTIFY4args, RFC 7862 section 15.3): that the destination
+/// reads the file that the stateid opened.
+#[derive(Debug, Drop)]
+pub struct NotifyArgs {
+    pub src_id: StateId,
+    pub destination: NetLoc,
+}
+
+impl Xdr for NotifyArgs {
+    ghost form = { notify_args };
+
+    #[tactic(auto, unfolding(crate::specs::Forms::notify_args))]
+    fn parse(alloc: Global, reader: &mut Reader) -> Result<NotifyArgs, ReadError> {
+        Ok(NotifyArgs {
+            src_id: StateId::parse(alloc, reader)?,
+            destination: NetLoc::parse(alloc, reader)?,
+        })
+    }
+
+    #[tactic(auto, unfolding(crate::specs::Forms::notify_args))]
+    fn put(&self, writer: &mut Writer) -> Mem<()> {
+        self.src_id.put(writer)?;
+        self.destination.put(writer)
+    }
+}
+
+/// What CLONE is asked to do (CLONE4args, RFC 7862 section 15.13). Offsets and the count are bytes; a count
+/// of 0 goes to the end of the source file.
+#[derive(Clone, Copy, Debug, PartialEq, Eq)]
+pub struct CloneArgs {
+    pub src_id: StateId,
+    pub dst_id: StateId,
+    pub src_off: u64,
+    pub dst_off: u64,
+    pub count: u64,
+}
+
+impl Xdr for CloneArgs {
+    ghost form = { clone_args };
+
+    #[tactic(auto, unfolding(crate::specs::Forms::clone_args))]
+    fn parse(alloc: Global, reader: &mut Reader) -> Result<CloneArgs, ReadError> {
+        Ok(CloneArgs {
+            src_id: StateId::parse(alloc, reader)?,
+            dst_id: StateId::parse(alloc, reader)?,
+            src_off: u64::parse(alloc, reader)?,
+            dst_off: u64::parse(alloc, reader)?,
+            count: u64::parse(alloc, reader)?,
+        })
+    }
+
+    #[tactic(auto, unfolding(crate::specs::Forms::clone_args))]
+    fn put(&self, writer: &mut Writer) -> Mem<()> {
+        self.src_id.put(writer)?;
+        self.dst_id.put(writer)?;
+        self.src_off.put(writer)?;
+        self.dst_off.put(writer)?;
+        self.count.put(writer)
+    }
+}
