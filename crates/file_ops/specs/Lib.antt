@@ -1,0 +1,9 @@
+pub mod Args
+pub mod Callbacks
+pub mod Files
+pub mod Free
+pub mod Opening
+pub mod Operations
+pub mod Parms
+pub mod Results
+pub mod Sessions

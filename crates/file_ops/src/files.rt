@@ -1,0 +1,196 @@
+//! Operations on files (RFC 8881 sections 18.2, 18.3, 18.7, 18.22 and 18.32).
+
+ghost use Rattle.file_ops.specs.Files.{close_args, commit_args, attributes, read_args, read_done, write_args, write_done};
+
+use crate::zero::NO_LIMIT;
+use nfs_base::{Stability, StateId};
+use outcome::Mem;
+use std::alloc::Global;
+use wire_xdr::{Items, Octets, ReadError, Reader, Writer, Xdr};
+
+/// The arguments of CLOSE, CLOSE4args.
+#[derive(Drop)]
+pub struct CloseArgs {
+    pub seqid: u32,
+    pub state_id: StateId,
+}
+
+impl Xdr for CloseArgs {
+    ghost form = { close_args };
+
+    #[tactic(auto, unfolding(crate::specs::Files::close_args))]
+    fn parse(alloc: Global, reader: &mut Reader) -> Result<CloseArgs, ReadError> {
+        Ok(CloseArgs {
+            seqid: u32::parse(alloc, reader)?,
+            state_id: StateId::parse(alloc, reader)?,
+        })
+    }
+
+    #[tactic(auto, unfolding(crate::specs::Files::close_args))]
+    fn put(&self, writer: &mut Writer) -> Mem<()> {
+        self.seqid.put(writer)?;
+        self.state_id.put(writer)
+    }
+}
+
+/// The arguments of COMMIT, COMMIT4args: a range in bytes.
+#[derive(Drop)]
+pub struct CommitArgs {
+    pub offset: u64,
+    pub count: u32,
+}
+
+impl Xdr for CommitArgs {
+    ghost form = { commit_args };
+
+    #[tactic(auto, unfolding(crate::specs::Files::commit_args))]
+    fn parse(alloc: Global, reader: &mut Reader) -> Result<CommitArgs, ReadError> {
+        Ok(CommitArgs {
+            offset: u64::parse(alloc, reader)?,
+            count: u32::parse(alloc, reader)?,
+        })
+    }
+
+    #[tactic(auto, unfolding(crate::specs::Files::commit_args))]
+    fn put(&self, writer: &mut Writer) -> Mem<()> {
+        self.offset.put(writer)?;
+        self.count.put(writer)
+    }
+}
+
+/// Attributes of a file, fattr4 (RFC 8881 section 3.3.8): which ones, and their values one after the other.
+#[derive(Drop)]
+pub struct Attributes {
+    pub mask: Items<u32>,
+    pub values: Octets,
+}
+
+impl Xdr for Attributes {
+    ghost form = { attributes };
+
+    #[tactic(auto, unfolding(crate::specs::Files::attributes))]
+    fn parse(alloc: Global, reader: &mut Reader) -> Result<Attributes, ReadError> {
+        Ok(Attributes {
+            mask: Items::parse(alloc, reader, NO_LIMIT)?,
+            values: Octets::parse(alloc, reader, NO_LIMIT)?,
+        })
+    }
+
+    #[tactic(auto, unfolding(crate::specs::Files::attributes))]
+    fn put(&self, writer: &mut Writer) -> Mem<()> {
+        self.mask.put(writer)?;
+        self.values.put(writer)
+    }
+}
+
+/// The arguments of READ, READ4args: a range in bytes.
+#[derive(Drop)]
+pub struct ReadArgs {
+    pub state_id: StateId,
+    pub offset: u64,
+    pub count: u32,
+}
+
+impl Xdr for ReadArgs {
+    ghost form = { read_args };
+
+    #[tactic(auto, unfolding(crate::specs::Files::read_args))]
+    fn parse(alloc: Global, reader: &mut Reader) -> Result<ReadArgs, ReadError> {
+        Ok(ReadArgs {
+            state_id: StateId::parse(alloc, reader)?,
+            offset: u64::parse(alloc, reader)?,
+            count: u32::parse(alloc, reader)?,
+        })
+    }
+
+    #[tactic(auto, unfolding(crate::specs::Files::read_args))]
+    fn put(&self, writer: &mut Writer) -> Mem<()> {
+        self.state_id.put(writer)?;
+        self.offset.put(writer)?;
+        self.count.put(writer)
+    }
+}
+
+/// What READ answers with status 0, READ4resok: whether the file ends behind the bytes, and these.
+#[derive(Drop)]
+pub struct ReadDone {
+    pub eof: bool,
+    pub bytes: Octets,
+}
+
+impl Xdr for ReadDone {
+    ghost form = { read_done };
+
+    #[tactic(auto, unfolding(crate::specs::Files::read_done))]
+    fn parse(alloc: Global, reader: &mut Reader) -> Result<ReadDone, ReadError> {
+        Ok(ReadDone {
+            eof: bool::parse(alloc, reader)?,
+            bytes: Octets::parse(alloc, reader, NO_LIMIT)?,
+        })
+    }
+
+    #[tactic(auto, unfolding(crate::specs::Files::read_done))]
+    fn put(&self, writer: &mut Writer) -> Mem<()> {
+        self.eof.put(writer)?;
+        self.bytes.put(writer)
+    }
+}
+
+/// The arguments of WRITE, WRITE4args.
+#[derive(Drop)]
+pub struct WriteArgs {
+    pub state_id: StateId,
+    pub offset: u64,
+    pub stable: Stability,
+    pub bytes: Octets,
+}
+
+impl Xdr for WriteArgs {
+    ghost form = { write_args };
+
+    #[tactic(auto, unfolding(crate::specs::Files::write_args))]
+    fn parse(alloc: Global, reader: &mut Reader) -> Result<WriteArgs, ReadError> {
+        Ok(WriteArgs {
+            state_id: StateId::parse(alloc, reader)?,
+            offset: u64::parse(alloc, reader)?,
+            stable: Stability::parse(alloc, reader)?,
+            bytes: Octets::parse(alloc, reader, NO_LIMIT)?,
+        })
+    }
+
+    #[tactic(auto, unfolding(crate::specs::Files::write_args))]
+    fn put(&self, writer: &mut Writer) -> Mem<()> {
+        self.state_id.put(writer)?;
+        self.offset.put(writer)?;
+        self.stable.put(writer)?;
+        self.bytes.put(writer)
+    }
+}
+
+/// What WRITE answers with status 0, WRITE4resok: how many bytes were written, and how firmly.
+#[derive(Drop)]
+pub struct WriteDone {
+    pub count: u32,
+    pub committed: Stability,
+    pub verifier: [u8; 8],
+}
+
+impl Xdr for WriteDone {
+    ghost form = { write_done };
+
+    #[tactic(auto, unfolding(crate::specs::Files::write_done))]
+    fn parse(alloc: Global, reader: &mut Reader) -> Result<WriteDone, ReadError> {
+        Ok(WriteDone {
+            count: u32::parse(alloc, reader)?,
+            committed: Stability::parse(alloc, reader)?,
+            verifier: <[u8; 8]>::parse(alloc, reader)?,
+        })
+    }
+
+    #[tactic(auto, unfolding(crate::specs::Files::write_done))]
+    fn put(&self, writer: &mut Writer) -> Mem<()> {
+        self.count.put(writer)?;
+        self.committed.put(writer)?;
+        self.verifier.put(writer)
+    }
+}
