@@ -1,0 +1,6 @@
+pub mod Bodies
+pub mod Compounds
+pub mod Reading
+pub mod Spelled
+pub mod Walking
+pub mod Written

@@ -1,0 +1,9 @@
+pub mod Body
+pub mod Callbacks
+pub mod Compounds
+pub mod Numbered
+pub mod OpNames
+pub mod Ops
+pub mod Results
+pub mod Walk
+pub mod Whole

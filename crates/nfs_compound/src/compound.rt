@@ -1,0 +1,77 @@
+//! The arguments of a COMPOUND.
+
+ghost use Rattle.std.specs.Prelude.{◌≡◌, IfOk};
+ghost use Rattle.nfs_compound.specs.declared.tail.Tail.TheVariants.{Whole};
+ghost use Rattle.nfs_compound.specs.Compounds.{compound_at, compound_of, compound_bytes, CompoundFits, IsFound};
+ghost use Rattle.nfs_compound.specs.Whole.{IsTold, Answers};
+
+use crate::body::parse_body;
+use crate::limits::NO_LIMIT;
+use crate::op::Op;
+use crate::tail::Tail;
+use outcome::{Mem, NoMemory};
+use std::alloc::Global;
+use wire_xdr::{BadXdr, Items, Octets, ReadError, Reader, Writer, Xdr};
+
+/// The arguments of COMPOUND, COMPOUND4args (RFC 8881 section 16.2).
+#[derive(Drop)]
+pub struct Compound {
+    pub tag: Octets,
+    pub minor: u32,
+    /// How many operations the bytes say that there are. What is written has the number of `ops` there.
+    pub count: u32,
+    /// The operations, up to the first that can't be read or isn't served.
+    pub ops: Items<Op>,
+    /// What stands behind them.
+    pub tail: Tail,
+}
+
+/// Reads a COMPOUND, which is all of the bytes. It is refused exactly where the tag, the minor version or the
+/// number of operations can't be read, at the item that can't, and where bytes follow the last operation, at
+/// the first of them. Otherwise its operations are read up to the first that can't be read or isn't served,
+/// however many there are, and the tail says where that stands and why. Behind an operation that is cut nothing
+/// is looked at. What was read may be written again, where the tail is `Whole`.
+pub fn read_compound(alloc: Global, bytes: &[u8]) -> Mem<Result<Compound, BadXdr>>
+    ensures exact { IfOk result (Answers (compound_of bytes.now)) }
+    ensures found { IfOk result (IsFound bytes.now) }
+{
+    let mut reader = Reader::new(bytes);
+    let _rest = reader.rest();
+    match parse_compound(alloc, &mut reader) {
+        Ok(compound) => Ok(Ok(compound)),
+        Err(ReadError::Bad(bad)) => Ok(Err(bad)),
+        Err(ReadError::Memory) => Err(NoMemory),
+    }
+}
+
+/// Reads a COMPOUND up to the end of the bytes.
+#[tactic(auto, unfolding(crate::specs::Compounds::compound_at))]
+fn parse_compound(alloc: Global, reader: &mut Reader) -> Result<Compound, ReadError>
+    ensures { IsTold result (compound_at reader.old) }
+{
+    let tag = Octets::parse(alloc, reader, NO_LIMIT)?;
+    let minor = u32::parse(alloc, reader)?;
+    let count = u32::parse(alloc, reader)?;
+    let (ops, tail) = parse_body(alloc, reader, count)?;
+    Ok(Compound {
+        tag,
+        minor,
+        count,
+        ops,
+        tail,
+    })
+}
+
+/// The spelling of a whole COMPOUND, with the number of `ops` before the operations.
+#[tactic(auto, unfolding(crate::specs::Compounds::compound_bytes))]
+pub fn write_compound(alloc: Global, compound: &Compound) -> Mem<Octets>
+    requires whole { compound.now.tail ≡ Whole }
+    requires fits { CompoundFits compound.now }
+    ensures { IfOk result (λ bytes. bytes ≡ compound_bytes compound.now) }
+{
+    let mut writer = Writer::new(alloc)?;
+    compound.tag.put(&mut writer)?;
+    compound.minor.put(&mut writer)?;
+    compound.ops.put(&mut writer)?;
+    Ok(writer.finish())
+}
