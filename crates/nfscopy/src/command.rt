@@ -7,6 +7,9 @@ ghost use Rattle.nfscopy.specs.Command.{command_of};
 pub enum Command {
     /// Reads a schedule, carries it out and prints the transcript.
     Run,
+
+    /// Reads a stream of records and prints what they hold.
+    Show,
 }
 
 impl Command {
@@ -16,6 +19,7 @@ impl Command {
     {
         match words {
             [word] if word.as_bytes() == b"run".as_slice() => Some(Command::Run),
+            [word] if word.as_bytes() == b"show".as_slice() => Some(Command::Show),
             _ => None,
         }
     }

@@ -2,12 +2,14 @@
 //!
 //! The contract to read first is [`nfscopy`]: for each command and each status it says what was read,
 //! what was put, and why. `specs/Ends.antt` has the definitions; for `run` they name the transcript of
-//! the schedule and the promise that its history keeps (crate `copy_model`).
+//! the schedule and the promise that its history keeps (crate `copy_model`), for `show` the lines of a
+//! stream of records (crate `wire_show`).
 #![tactic(auto)]
 
 mod command;
 mod notice;
 mod run;
+mod show;
 mod status;
 mod top;
 

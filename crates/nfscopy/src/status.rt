@@ -10,7 +10,7 @@ pub enum Status {
     /// The words are of no command.
     Usage = 1,
 
-    /// The input is no schedule, or passes its limit.
+    /// The input is no schedule, has a record that is too large, or passes its limit.
     Refused = 2,
 
     /// The source of the input counted a fault.

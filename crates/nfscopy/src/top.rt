@@ -5,13 +5,14 @@ ghost use Rattle.nfscopy.specs.Ends.{Ends, outside};
 
 use crate::command::Command;
 use crate::run::{run, usage};
+use crate::show::show;
 use rpc_msg::{Sink, Source};
 use std::alloc::Global;
 
 /// Does what the words ask for, and answers the exit status. The words don't include the program's name.
 ///
-/// `run` reads a schedule from `input` and puts the transcript to `output`. Words of no command put the
-/// line `usage`. What each status says of the input, the output and the promise stands in `Ends`.
+/// `run` reads a schedule from `input` and puts the transcript to `output`; `show` reads a stream of records
+/// and puts what they hold, line by line. Words of no command put the line `usage`. What each status says of the input, the output and the promise stands in `Ends`.
 pub fn nfscopy<S: Source, K: Sink>(
     alloc: Global,
     words: &[String],
@@ -26,6 +27,7 @@ pub fn nfscopy<S: Source, K: Sink>(
     let status = match Command::from_words(words) {
         None => usage(output),
         Some(Command::Run) => run(alloc, input, output),
+        Some(Command::Show) => show(alloc, input, output),
     };
     status.code()
 }

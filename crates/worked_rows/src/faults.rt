@@ -63,7 +63,7 @@ fn first_calls(rt: HostRuntime) -> Result<(), Fail> {
         ("end", &["run"][..], "", sink, 4, ""),
         ("only volumes", &["run"][..], VOLUMES, sink, 4, ""),
         ("both fail", &["run"][..], VOLUMES, both, 3, ""),
-        ("usage", &["show"][..], "flow", sink, 4, ""),
+        ("usage", &["shows"][..], "flow", sink, 4, ""),
         ("usage, both fail", &[][..], "flow", both, 4, ""),
         (
             "usage, no read",

@@ -15,3 +15,5 @@ mod faults;
 mod limits;
 #[cfg(test)]
 mod rows;
+#[cfg(test)]
+mod shows;

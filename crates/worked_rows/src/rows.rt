@@ -258,7 +258,8 @@ fn words(rt: HostRuntime) -> Result<(), Fail> {
         &["ru"][..],
         &["runs"][..],
         &["gen", "1"][..],
-        &["show"][..],
+        &["show", "x"][..],
+        &["shows"][..],
     ] {
         let text = Vec::from_slice(rt.alloc(), FIRST_COPY.as_bytes())?;
         let answer = ask(rt.alloc(), words, text, NO_FAULTS)?;

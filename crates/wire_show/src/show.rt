@@ -1,0 +1,81 @@
+ghost use Rattle.std.specs.Prelude.{◌≤◌, [], ◌∷◌, IfOk};
+ghost use Rattle.wire_show.specs.Text.{lines_text};
+ghost use Rattle.wire_show.specs.Showing.{ShowIs, ShowHasCause, LastIs, LastHasCause};
+
+use crate::line::Line;
+use crate::piece::{Piece, put_lines, show_piece};
+use outcome::Mem;
+use rpc_msg::{RecordFeed, Sink, Source, Take, take_some};
+use std::alloc::Global;
+
+// How many bytes are asked for at a time.
+const ROOM: usize = 4096;
+
+// The most bytes of an input that are looked at.
+const MOST_BYTES: u64 = 16_777_216;
+
+/// How showing ended.
+#[derive(Clone, Copy, Debug, PartialEq, Eq)]
+pub enum Shown {
+    /// All of the input was read and all lines were put.
+    Whole,
+    /// A record is too large, or the input passes its limit; the lines up to there were put, and the last
+    /// one says so.
+    Refused,
+    /// A fault of the source.
+    ReadFault,
+    /// A fault of the sink.
+    WriteFault,
+}
+
+/// Puts the lines of a stream of records. The memory that it takes doesn't grow with the input.
+///
+/// `Refused` comes exactly where a record is too large or the input passes 16,777,216 bytes, and `Whole`
+/// exactly where the input ended before that, unless a read, a put or memory fails. After such a failure a
+/// front of the lines was put.
+pub fn do_show<S: Source, K: Sink>(alloc: Global, input: &mut S, output: &mut K) -> Mem<Shown>
+    ensures shown { ShowIs (S.left input.old) (S.left input.new) (K.taken output.old) (K.taken output.new) result }
+    ensures cause { IfOk result (ShowHasCause (S.faults input.old) (S.faults input.new) (K.faults output.old) (K.faults output.new)) }
+    ensures reads_later { S.faults input.old ≤ S.faults input.new }
+    ensures puts_later { K.faults output.old ≤ K.faults output.new }
+{
+    let mut feed = RecordFeed::new(alloc)?;
+    let mut room = [0; ROOM];
+    let mut unspent = MOST_BYTES;
+    let mut rest = 0;
+    let mut number = 1;
+    'takes: while unspent > 0 {
+        match take_some(input, &mut room, unspent) {
+            Take::Took(count) => {
+                unspent -= count as u64;
+                match show_piece(alloc, output, &mut feed, &room[..count], rest, &mut number)? {
+                    Piece::Taken(after) => rest = after,
+                    Piece::TooLarge(len) => {
+                        return put_last(alloc, output, Line::Large { len }, true);
+                    }
+                    Piece::WriteFault => return Ok(Shown::WriteFault),
+                }
+            }
+            Take::End => return put_last(alloc, output, Line::Rest { count: rest }, false),
+            Take::Failed => return Ok(Shown::ReadFault),
+        }
+    }
+    match take_some(input, &mut room, 1) {
+        Take::Took(_) => put_last(alloc, output, Line::TooMuch, true),
+        Take::End => put_last(alloc, output, Line::Rest { count: rest }, false),
+        Take::Failed => Ok(Shown::ReadFault),
+    }
+}
+
+// Puts the last line.
+fn put_last<K: Sink>(alloc: Global, output: &mut K, line: Line, refused: bool) -> Mem<Shown>
+    ensures last { LastIs refused (K.taken output.old) (K.taken output.new) (lines_text (line ∷ [])) result }
+    ensures cause { IfOk result (LastHasCause (K.faults output.old) (K.faults output.new)) }
+    ensures later { K.faults output.old ≤ K.faults output.new }
+{
+    match put_lines(alloc, &[line], output)? {
+        Ok(()) if refused => Ok(Shown::Refused),
+        Ok(()) => Ok(Shown::Whole),
+        Err(_) => Ok(Shown::WriteFault),
+    }
+}
