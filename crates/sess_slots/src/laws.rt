@@ -1,0 +1,19 @@
+ghost use Rattle.std.specs.Prelude.{◌≡◌, ◌≢◌, ℕ, ◌+◌, ◌<◌, ◌≤◌, ◌%◌, ◌^◌, List, length, slice_index};
+ghost use Rattle.sess_slots.specs.declared.answers.Place.{Place};
+ghost use Rattle.sess_slots.specs.declared.slot.Slot.{Slot};
+ghost use Rattle.sess_slots.specs.Slots.{next_number, begin_at, after_reply};
+ghost use Rattle.sess_slots.specs.Runs.{SlotCall, executed};
+
+use crate::Begin;
+
+/// What holds of every run of calls on a slot, whatever numbers and roots they have, sent again in any order.
+/// The numbers that are executed are those after the slot's own, one after the other. So each is executed
+/// once: before one comes again, all the 2^32 numbers have come. A number that was executed is a retry
+/// until the next one is, answered to its own root context alone, and another number than these two is neither
+/// executed nor answered.
+pub fn a_number_runs_once()
+    ensures in_order { (place : Place) (slot : Slot) (calls : List SlotCall) (k : ℕ) → k < length (executed place slot calls) → slice_index (executed place slot calls) k ≡ (slot.last + 1 + k) % 2 ^ 32 }
+    ensures once { (place : Place) (slot : Slot) (calls : List SlotCall) (i j : ℕ) → i < j → j < length (executed place slot calls) → slice_index (executed place slot calls) i ≡ slice_index (executed place slot calls) j → i + 2 ^ 32 ≤ j }
+    ensures retried { (place : Place) (slot : Slot) (root : ℕ) (reply : List ℕ) → begin_at (after_reply slot root reply) (next_number slot.last) root place ≡ Begin.Replay place }
+    ensures guarded { (place : Place) (slot : Slot) (root other : ℕ) (reply : List ℕ) → root ≢ other → begin_at (after_reply slot root reply) (next_number slot.last) other place ≡ Begin.FalseRetry }
+{}
