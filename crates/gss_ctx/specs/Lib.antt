@@ -1,0 +1,10 @@
+pub mod Window
+pub mod Table
+pub mod Seals
+pub mod Admission
+pub mod Making
+pub mod Once
+pub mod Calls
+pub mod Forms
+pub mod Init
+pub mod Replies

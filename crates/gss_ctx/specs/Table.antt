@@ -1,0 +1,80 @@
+-- The contexts of an acceptor, and what each call does to them (RFC 2203, RFC 7861).
+use Rattle.std.specs.Prelude.{ℕ, ◌+◌, ◌-◌, ◌==◌, ◌||◌, ◌&&◌, Bool, false, not, nat_lt, nat_le, if◌then◌else◌, List, [], ◌∷◌, ◌++◌, filter, find, fold, count_by, min, is_none, bytes_eq, Option, Some, None, option_map}
+use Rattle.nfs_base.specs.declared.seal.End.{End}
+use Rattle.wire_xdr.specs.Words.{word_bytes}
+use Rattle.gss_ctx.specs.declared.context.Context.{Context}
+use Rattle.gss_ctx.specs.declared.context.Entry.{Entry}
+use Rattle.gss_ctx.specs.Window.{none_seen, noted}
+
+-- whose contexts these are and in which boot, how many numbers were given out, and the contexts
+pub record Table (P : Type 0) : Type 0 where
+  pub owner : End
+  pub boot : ℕ
+  pub made : ℕ
+  pub entries : List (Entry P)
+
+-- a handle is the boot and the context's number (own profile)
+abbrev pub handle_of : ℕ → ℕ → List ℕ
+handle_of boot number = word_bytes boot ++ word_bytes number
+
+-- it admitted something in the last 3,600 seconds, or was made in them
+abbrev pub is_live : {P : Type 0} → ℕ → Entry P → Bool
+is_live now entry = nat_lt (now - entry.context.used) 3600
+
+-- 256 live contexts are held
+abbrev pub is_full : {P : Type 0} → ℕ → List (Entry P) → Bool
+is_full now entries = nat_le 256 (count_by (is_live now) entries)
+
+abbrev pub entry_of : {P : Type 0} → ℕ → List (Entry P) → Option (Entry P)
+entry_of number entries = find (λ e. e.number == number) entries
+
+abbrev pub context_of : {P : Type 0} → ℕ → List (Entry P) → Option (Context P)
+context_of number entries = option_map (λ e. e.context) (entry_of number entries)
+
+-- the live context of a handle
+abbrev pub live_entry : {P : Type 0} → ℕ → ℕ → List ℕ → List (Entry P) → Option (Entry P)
+live_entry boot now handle entries = find (λ e. bytes_eq (handle_of boot e.number) handle && is_live now e) entries
+
+-- the lowest number of a live context above another number
+abbrev pub lower : Option ℕ → ℕ → Option ℕ
+lower None n = Some n
+lower (Some m) n = Some (min m n)
+
+abbrev pub lower_live : {P : Type 0} → ℕ → ℕ → Option ℕ → Entry P → Option ℕ
+lower_live after now lowest e = if nat_lt after e.number && is_live now e then lower lowest e.number else lowest
+
+abbrev pub lowest_above : {P : Type 0} → ℕ → ℕ → List (Entry P) → Option ℕ
+lowest_above after now entries = fold (lower_live after now) None entries
+
+-- a live context that isn't a child
+abbrev pub root_of : {P : Type 0} → ℕ → ℕ → List (Entry P) → Option (Entry P)
+root_of now number entries = find (λ e. (e.number == number) && is_live now e && is_none e.context.parent) entries
+
+abbrev pub is_number : Option ℕ → ℕ → Bool
+is_number None n = false
+is_number (Some m) n = m == n
+
+-- a sequence number is seen on a context
+abbrev pub noted_on : {P : Type 0} → ℕ → ℕ → Entry P → Entry P
+noted_on number seq e = if e.number == number then record e { window = noted seq e.window } else e
+
+-- a context is used now, and so is its parent
+abbrev pub used_on : {P : Type 0} → ℕ → Option ℕ → ℕ → Entry P → Entry P
+used_on number parent now e = if (e.number == number) || is_number parent e.number then record e { context = record e.context { used = now } } else e
+
+-- A new context: its number is the next one, and the dead contexts are taken out.
+abbrev pub new_entry : {P : Type 0} → ℕ → Context P → Entry P
+new_entry number context = record { number = number; context = context; window = none_seen }
+
+abbrev pub with_new : {P : Type 0} → ℕ → Context P → Table P → Table P
+with_new now context table = record table {
+  made = table.made + 1;
+  entries = filter (is_live now) table.entries ++ new_entry (table.made + 1) context ∷ [];
+}
+
+-- A context and its children are gone.
+abbrev pub is_kept : {P : Type 0} → ℕ → Entry P → Bool
+is_kept number e = not ((e.number == number) || is_number e.context.parent number)
+
+abbrev pub destroyed : {P : Type 0} → ℕ → Table P → Table P
+destroyed number table = record table { entries = filter (is_kept number) table.entries }

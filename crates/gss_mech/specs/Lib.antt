@@ -1,0 +1,7 @@
+pub mod Hmac
+pub mod Opening
+pub mod Realm
+pub mod RealmLaws
+pub mod Tokens
+pub mod Whole
+pub mod WholeLaws
