@@ -1,1 +1,8 @@
 pub mod Plain
+pub mod Cell
+pub mod Layout
+pub mod Lists
+pub mod Stored
+pub mod Blocks
+pub mod Held
+pub mod Opened

@@ -1,16 +1,35 @@
 //! The files of a server's volume.
 //!
-//! So far there is [`PlainVolume`], which keeps each file as a list of bytes and has no disk. Contracts
-//! see it as the volume that the promise speaks of (`specs/Volume.antt` of `copy_model`), with that
-//! file's definitions of a write, a commit and a read. The contract to read first is
-//! [`PlainVolume::write`]'s. The words are those of RFC 8881: WRITE (section 18.32), COMMIT (section
-//! 18.3), the change attribute (section 5.8.1.4).
+//! [`PlainVolume`] keeps each file as a list of bytes and has no disk. [`Volume`] is the volume on a disk:
+//! a crash at any moment leaves of each file what its last commit made safe, or what a commit under way
+//! was making safe. It is a layer of blocks in two homes, whose tables are each a [`GatedCell`], with the
+//! files' contents in memory. Contracts see both as the volume that the promise speaks of
+//! (`specs/Volume.antt` of `copy_model`). The contract to read first is [`Volume::commit`]'s, with
+//! `specs/Opened.antt`. The words are those of RFC 8881: WRITE (section 18.32), COMMIT (section 18.3),
+//! the change attribute (section 5.8.1.4).
 #![tactic(auto)]
 
+mod blocks;
 mod bytes;
+mod cell;
+#[cfg(test)]
+mod cell_tests;
+mod faults;
+mod format;
+#[cfg(test)]
+mod format_tests;
+mod head;
 mod info;
+mod memory;
 mod plain_file;
 mod plain_volume;
+mod shape;
+mod tables;
+mod volume;
+mod whole_file;
 
+pub use cell::GatedCell;
+pub use faults::{FormatFault, OpenFault, ReadFault, WriteFault};
 pub use info::{FileInfo, TooFar};
 pub use plain_volume::PlainVolume;
+pub use volume::Volume;

@@ -1,0 +1,32 @@
+use Rattle.std.proofs.Common.{◌≡◌, ℕ, ◌+◌, ◌*◌, ◌<◌, ◌≤◌, List, [], length, slice_index, slice_index_or, refl, sym, ◌∙◌, ap, subst, arith}
+use Rattle.std.proofs.lemmas.List.{get_or_read}
+use Rattle.copy_model.specs.Volume.{File, file_at, no_file}
+use Rattle.disk_model.specs.Elapsed.{present, contents}
+use Rattle.block_file.specs.declared.info.FileInfo.{FileInfo}
+use Rattle.block_file.specs.Held.{Held, no_held}
+use Rattle.block_file.specs.Opened.{Opened, volume_of, homes_by, live_file}
+use Rattle.block_file.specs.Stored.{blocks_by}
+use Rattle.block_file.proofs.Openings.{file_there, file_is}
+use Rattle.block_file.proofs.Numbered.{length-numbered}
+use Rattle.block_file.proofs.volume.Volume.home.Goals as goal
+
+pub index-requires : goal.index-requires
+index-requires g c =
+    let v = c.self.inside in
+    let file = c.args.file in
+    let held : ℕ → Held = λ j. slice_index_or v.held.items j no_held in
+    let tables : ℕ → List ℕ = λ j. slice_index_or v.tables.items j [] in
+    let image = contents (g.D.Disk.timeline v.disk) in
+    let there : file ≤ v.shape.files = file_there v.shape v.boot v.writes v.broken v.doubt held tables image file (rw (← c.self.view_is) at c.requires.there) in
+    omega (arith, there, c.self.invariant.0)
+
+pub returns : goal.returns
+returns g c =
+    let v = c.self.inside in
+    let file = c.args.file in
+    let held : ℕ → Held = λ j. slice_index_or v.held.items j no_held in
+    let tables : ℕ → List ℕ = λ j. slice_index_or v.tables.items j [] in
+    let image = contents (g.D.Disk.timeline v.disk) in
+    let there : file ≤ v.shape.files = file_there v.shape v.boot v.writes v.broken v.doubt held tables image file (rw (← c.self.view_is) at c.requires.there) in
+    let hlt : file < length v.homes.items = omega (arith, there, c.self.invariant.0) in
+    subst (λ (w : Opened g.row.D.Denot). c.index.result.now ≡ homes_by w.homes file) c.self.view_is (get_or_read v.homes.items _ _ hlt c.index.ensures 0)

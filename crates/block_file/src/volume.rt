@@ -1,0 +1,304 @@
+ghost use Rattle.std.specs.Prelude.{◌≡◌, ◌↔◌, ℕ, ◌+◌, ◌*◌, ◌<◌, ◌≤◌, ◌^◌, true, false, [], length, slice_index, slice_index_or, IsOk, IsErr, IsTrue, Some, None};
+ghost use Rattle.outcome.specs.Causes.{Rose};
+ghost use Rattle.copy_model.specs.Volume.{file_at, bytes_at, write, commit, fail_write, fail_commit, change_of};
+ghost use Rattle.disk_model.specs.Elapsed.{set_to, IsOut};
+ghost use Rattle.disk_model.specs.Passes.{Passes};
+ghost use Rattle.block_file.specs.declared.faults.WriteFault.{WriteFault};
+ghost use Rattle.block_file.specs.Held.{no_held};
+ghost use Rattle.block_file.specs.Opened.{homes_by, MayBeLeft, StandsFor, refusal_of};
+
+use crate::FileInfo;
+use crate::faults::{ReadFault, WriteFault};
+use crate::memory::Memory;
+use crate::shape::Shape;
+use crate::tables::next_table;
+use crate::whole_file::commit_file;
+use disk_model::{Block, CrashDisk, Disk, Io};
+use nfs_base::{BLOCK_SIZE, MOST_FILES};
+use std::marker::Model;
+
+/// A volume on a disk, open. A crash at any moment leaves of each file what its last commit made safe,
+/// or what a commit that was under way was making safe. Until a commit the bytes of a file are held in
+/// memory.
+#[derive(Drop)]
+pub struct Volume<D: Disk> {
+    disk: D,
+    shape: Shape,
+    tag: u64,
+    boot: u32,
+    writes: u32,
+    broken: bool,
+    doubt: u32,
+    homes: Vec<u8>,
+    tables: Vec<Block>,
+    held: Vec<Memory>,
+}
+
+impl<D: Disk> Model for Volume<D> {
+    ghost use Rattle.std.specs.Prelude.{◌≡◌, ◌+◌, [], length, slice_index, slice_index_or};
+    ghost use Rattle.disk_model.specs.Elapsed.{present, contents};
+    ghost use Rattle.block_file.specs.Held.{no_held};
+    ghost use Rattle.block_file.specs.Opened.{Opened, volume_of, IsOpen};
+
+    ghost Value = { Opened D };
+
+    ghost view = { λ v. record {
+      volume = volume_of v.shape v.boot v.writes v.broken v.doubt (λ j. slice_index_or v.held.items j no_held)
+          (λ j. slice_index_or v.tables.items j []) (contents (D.timeline v.disk));
+      tag = v.tag;
+      homes = v.homes.items;
+      disk = v.disk;
+    } };
+
+    ghost invariant = { λ v. (length v.homes.items ≡ v.shape.files + 1) × (length v.tables.items ≡ v.shape.files + 1)
+        × (length v.held.items ≡ v.shape.files + 1)
+        × IsOpen D.Told (D.size v.disk) (present (D.timeline v.disk)) v.shape v.tag v.boot v.writes v.broken v.doubt
+        (λ j. slice_index v.homes.items j) (λ j. slice_index_or v.held.items j no_held) (λ j. slice_index_or v.tables.items j []) };
+}
+
+impl<D: Disk> Volume<D> {
+    /// The number of this opening.
+    pub fn boot(&self) -> u32
+        ensures { result ≡ self.now.volume.boot }
+    {
+        self.boot
+    }
+
+    /// The tag that the volume was formatted with.
+    pub fn tag(&self) -> u64
+        ensures { result ≡ self.now.tag }
+    {
+        self.tag
+    }
+
+    /// How many files there are, but for the root directory.
+    pub fn files(&self) -> u32
+        ensures count { result + 1 ≡ length self.now.volume.files }
+        ensures bounds { (1 ≤ result) × (result ≤ MOST_FILES) }
+    {
+        self.shape.files
+    }
+
+    /// How many bytes a file may hold.
+    pub fn capacity(&self) -> u64
+        ensures { result ≡ self.now.volume.capacity }
+    {
+        u64::from(self.shape.blocks) * BLOCK_SIZE
+    }
+
+    /// The home in force of a file's table, 0 or 1. After a failed commit it is the one before it.
+    pub fn home(&self, file: u32) -> u8
+        requires no_root { 1 ≤ file }
+        requires there { file < length self.now.volume.files }
+        ensures { result ≡ homes_by self.now.homes file }
+    {
+        self.homes[file as usize]
+    }
+
+    /// A file's size and change attribute.
+    pub fn file(&self, file: u32) -> FileInfo
+        requires no_root { 1 ≤ file }
+        requires there { file < length self.now.volume.files }
+        ensures info { result ≡ record { size = length (file_at self.now.volume file).now; change = (file_at self.now.volume file).change } }
+        ensures within { result.size ≤ self.now.volume.capacity }
+    {
+        let held = held_at(&self.held, file as usize);
+        FileInfo {
+            size: held.size(),
+            change: held.change(),
+        }
+    }
+
+    /// Fills `out` with the file's bytes from `off` on, and with zeros past its end.
+    pub fn read(&mut self, file: u32, off: u64, out: &mut [u8]) -> Result<(), ReadFault>
+        requires no_root { 1 ≤ file }
+        requires there { file < length self.old.volume.files }
+        ensures broken { (result ≡ Err ReadFault.Broken) ↔ (self.old.volume.broken ≡ true) }
+        ensures bytes { D.Told → IsOk result → out.new ≡ bytes_at (file_at self.old.volume file).now off (length out.old) }
+        ensures refused { result ≡ Err ReadFault.Broken → out.new ≡ out.old }
+        ensures volume { D.Told → self.new.volume ≡ self.old.volume }
+        ensures tag { self.new.tag ≡ self.old.tag }
+        ensures homes { self.new.homes ≡ self.old.homes }
+        ensures timeline { D.Told → D.timeline self.new.disk ≡ D.timeline self.old.disk }
+        ensures fuse { D.fuse self.new.disk ≡ D.fuse self.old.disk }
+        ensures size { D.size self.new.disk ≡ D.size self.old.disk }
+        ensures faults { D.faults self.old.disk ≤ D.faults self.new.disk }
+        ensures cause { result ≡ Err ReadFault.DiskFailed → Rose (D.faults self.old.disk) (D.faults self.new.disk) }
+    {
+        if self.broken {
+            return Err(ReadFault::Broken);
+        }
+        held_at(&self.held, file as usize).read(off, out);
+        Ok(())
+    }
+
+    /// Writes `bytes` at `off` (RFC 8881 section 18.32); a gap before it reads as zeros. Tested in this
+    /// order: the volume isn't broken, the bytes end within the capacity, there is a further write
+    /// number. A write of no bytes changes nothing. What a crash leaves doesn't change.
+    pub fn write(&mut self, file: u32, off: u64, bytes: &[u8]) -> Result<(), WriteFault>
+        requires no_root { 1 ≤ file }
+        requires there { file < length self.old.volume.files }
+        ensures tested { (fault : WriteFault)
+            → refusal_of self.old.volume.broken self.old.volume.writes self.old.volume.capacity off (length bytes.now) ≡ Some fault → result ≡ Err fault }
+        ensures passed { refusal_of self.old.volume.broken self.old.volume.writes self.old.volume.capacity off (length bytes.now) ≡ None
+            → IsErr result → result ≡ Err WriteFault.DiskFailed }
+        ensures refused { IsErr result → (result ≡ Err WriteFault.DiskFailed → ⊥) → self.new ≡ self.old }
+        ensures written { D.Told → IsOk result → self.new.volume ≡ write self.old.volume file off bytes.now }
+        ensures failed { D.Told → result ≡ Err WriteFault.DiskFailed → self.new.volume ≡ fail_write self.old.volume }
+        ensures any_moment { D.Told → self.old.volume.broken ≡ false
+            → Passes (D.fuse self.old.disk) (D.fuse self.new.disk) (D.timeline self.old.disk) (D.timeline self.new.disk)
+            (MayBeLeft (D.size self.old.disk) self.old.tag (homes_by self.old.homes) self.old.volume) }
+        ensures stands { D.Told → StandsFor D.timeline D.size self.new }
+        ensures tag { self.new.tag ≡ self.old.tag }
+        ensures homes { self.new.homes ≡ self.old.homes }
+        ensures size { D.size self.new.disk ≡ D.size self.old.disk }
+        ensures faults { D.faults self.old.disk ≤ D.faults self.new.disk }
+        ensures cause { result ≡ Err WriteFault.DiskFailed → Rose (D.faults self.old.disk) (D.faults self.new.disk) }
+    {
+        let capacity = u64::from(self.shape.blocks) * BLOCK_SIZE;
+        match refusal(self.broken, self.writes, capacity, off, bytes.len() as u64) {
+            Some(fault) => return Err(fault),
+            None => {}
+        }
+        if bytes.is_empty() {
+            return Ok(());
+        }
+        let number = self.writes + 1;
+        let held = &mut self.held[file as usize];
+        held.write(off, bytes, change_after(self.boot, number));
+        self.writes = number;
+        Ok(())
+    }
+
+    /// Makes all of a file safe (RFC 8881 section 18.3): four calls of the disk, and one for each of its
+    /// blocks. A crash at any moment leaves the file's safe contents or those that the commit makes safe.
+    /// After a disk failure the volume is broken, and the contents are in doubt.
+    pub fn commit(&mut self, file: u32) -> Result<(), ReadFault>
+        requires no_root { 1 ≤ file }
+        requires there { file < length self.old.volume.files }
+        ensures broken { (result ≡ Err ReadFault.Broken) ↔ (self.old.volume.broken ≡ true) }
+        ensures refused { result ≡ Err ReadFault.Broken → self.new ≡ self.old }
+        ensures committed { D.Told → IsOk result → self.new.volume ≡ commit self.old.volume file }
+        ensures failed { D.Told → result ≡ Err ReadFault.DiskFailed → self.new.volume ≡ fail_commit self.old.volume file }
+        ensures any_moment { D.Told → self.old.volume.broken ≡ false
+            → Passes (D.fuse self.old.disk) (D.fuse self.new.disk) (D.timeline self.old.disk) (D.timeline self.new.disk)
+            (MayBeLeft (D.size self.old.disk) self.old.tag (homes_by self.old.homes) (fail_commit self.old.volume file)) }
+        ensures stands { D.Told → StandsFor D.timeline D.size self.new }
+        ensures tag { self.new.tag ≡ self.old.tag }
+        ensures size { D.size self.new.disk ≡ D.size self.old.disk }
+        ensures faults { D.faults self.old.disk ≤ D.faults self.new.disk }
+        ensures cause { result ≡ Err ReadFault.DiskFailed → Rose (D.faults self.old.disk) (D.faults self.new.disk) }
+    {
+        if self.broken {
+            return Err(ReadFault::Broken);
+        }
+        let number = file as usize;
+        let table = table_at(&self.tables, number);
+        let held = held_at(&self.held, number);
+        let next = next_table(&table, self.shape.blocks, held.size(), held.change());
+        let mut home = self.homes[number];
+        match commit_file(
+            &mut self.disk,
+            self.shape,
+            file,
+            &mut home,
+            &table,
+            &next,
+            held.all(),
+        ) {
+            Io::Failed => {
+                self.broken = true;
+                self.doubt = file;
+                Err(ReadFault::DiskFailed)
+            }
+            Io::Done => {
+                self.homes[number] = home;
+                self.tables[number] = next;
+                Ok(())
+            }
+        }
+    }
+}
+
+impl<D: Disk> Volume<D> {
+    /// Gives the disk back.
+    pub fn hand_back(self) -> D
+        ensures { result ≡ self.disk }
+    {
+        let Volume {
+            disk,
+            shape: _,
+            tag: _,
+            boot: _,
+            writes: _,
+            broken: _,
+            doubt: _,
+            homes: _,
+            tables: _,
+            held: _,
+        } = self;
+        disk
+    }
+}
+
+impl<D: CrashDisk> Volume<D> {
+    /// Lets this many more writes and syncs of the disk pass; the one after them stops the machine.
+    pub fn fuse(&mut self, calls: u64)
+        ensures fuse { D.fuse self.new.disk ≡ set_to (D.fuse self.old.disk) calls }
+        ensures volume { D.Told → self.new.volume ≡ self.old.volume }
+        ensures tag { self.new.tag ≡ self.old.tag }
+        ensures homes { self.new.homes ≡ self.old.homes }
+        ensures timeline { D.Told → D.timeline self.new.disk ≡ D.timeline self.old.disk }
+        ensures stands { D.Told → StandsFor D.timeline D.size self.new }
+        ensures size { D.size self.new.disk ≡ D.size self.old.disk }
+        ensures faults { D.faults self.new.disk ≡ D.faults self.old.disk }
+    {
+        self.disk.fuse(calls);
+    }
+
+    /// Whether the machine has stopped.
+    pub fn stopped(&self) -> bool
+        ensures { IsTrue result ↔ IsOut (D.fuse self.now.disk) }
+    {
+        self.disk.stopped()
+    }
+}
+
+// Why a write of so many bytes at `off` is refused.
+fn refusal(broken: bool, writes: u32, capacity: u64, off: u64, len: u64) -> Option<WriteFault>
+    ensures { result ≡ refusal_of broken writes capacity off len }
+{
+    if broken {
+        return Some(WriteFault::Broken);
+    }
+    if len > capacity || off > capacity - len {
+        return Some(WriteFault::TooFar);
+    }
+    if writes == u32::MAX {
+        return Some(WriteFault::Worn);
+    }
+    None
+}
+
+// The change attribute of the n-th write of an opening.
+fn change_after(boot: u32, n: u32) -> u64
+    ensures { result ≡ change_of boot n }
+{
+    (u64::from(boot) << 32) + u64::from(n)
+}
+
+// A file's safe table.
+fn table_at(tables: &Vec<Block>, number: usize) -> Block
+    requires { number < length tables.now.items }
+    ensures { result ≡ slice_index_or tables.now.items number [] }
+{
+    tables[number]
+}
+
+// A file in memory.
+fn held_at(held: &Vec<Memory>, number: usize) -> &Memory
+    requires { number < length held.now.items }
+    ensures { result.now ≡ slice_index_or held.now.items number no_held }
+{
+    &held[number]
+}
