@@ -4,7 +4,7 @@ use Rattle.nfs_base.specs.declared.side.Side.{Side}
 use Rattle.nfs_base.specs.declared.side.Side.TheVariants.{Source, Dest}
 use Rattle.nfs_base.specs.declared.job.JobName.{JobName}
 use Rattle.nfs_base.specs.declared.job.Stop.{Stop}
-use Rattle.nfs_base.specs.declared.job.Stop.TheVariants.{PastEnd, NoRoom}
+use Rattle.nfs_base.specs.declared.job.Stop.TheVariants.{PastEnd, NoRoom, DiskFault}
 use Rattle.nfs_base.specs.declared.note.Note.{Note}
 use Rattle.nfs_base.specs.declared.note.Note.TheVariants.{Accepted, Sized, Landed, Stopped, Committed, Written, Refused, Copied, Stable, Failed, Idle}
 
@@ -18,6 +18,7 @@ job_text job = decimal job.boot ++ codes "." ++ decimal job.number
 abbrev pub stop_text : Stop → List ℕ
 stop_text PastEnd = codes "pastend"
 stop_text NoRoom = codes "noroom"
+stop_text DiskFault = codes "disk"
 
 -- how much was asked for: a count of 0 goes to the end
 abbrev pub count_text : ℕ → List ℕ

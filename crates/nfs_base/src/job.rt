@@ -27,6 +27,9 @@ pub enum Stop {
 
     /// The destination file has no room for the range.
     NoRoom,
+
+    /// A call on a disk failed that the job rested on.
+    DiskFault,
 }
 
 impl fmt::Display for Stop {
@@ -36,6 +39,7 @@ impl fmt::Display for Stop {
         f.write_str(match self {
             Stop::PastEnd => "pastend",
             Stop::NoRoom => "noroom",
+            Stop::DiskFault => "disk",
         })
     }
 }

@@ -51,6 +51,13 @@ fn notes(rt: HostRuntime) -> Result<(), Fail> {
             },
             "stopped 3.12 noroom",
         ),
+        (
+            Note::Stopped {
+                job,
+                cause: Stop::DiskFault,
+            },
+            "stopped 3.12 disk",
+        ),
         (Note::Committed { job }, "committed 3.12"),
         (
             Note::Written {

@@ -10,7 +10,7 @@ use Rattle.nfs_base.specs.declared.side.Side.TheVariants.{Source, Dest}
 use Rattle.nfs_base.specs.declared.status.Status.{Status}
 use Rattle.nfs_base.specs.declared.job.JobName.{JobName}
 use Rattle.nfs_base.specs.declared.job.Stop.{Stop}
-use Rattle.nfs_base.specs.declared.job.Stop.TheVariants.{PastEnd, NoRoom}
+use Rattle.nfs_base.specs.declared.job.Stop.TheVariants.{PastEnd, NoRoom, DiskFault}
 use Rattle.nfs_base.specs.declared.note.Note.{Note}
 use Rattle.nfs_base.specs.declared.note.Note.TheVariants as note
 use Rattle.sched_text.specs.declared.event.CopySpec.{CopySpec}
@@ -52,7 +52,10 @@ abbrev pub with_volume : State → Side → Volume → State
 with_volume s Source v = record s { source = v }
 with_volume s Dest v = record s { dest = v }
 
--- NFS4ERR_INVAL and NFS4ERR_FBIG (RFC 8881 section 15.1)
+-- NFS4ERR_IO, NFS4ERR_INVAL and NFS4ERR_FBIG (RFC 8881 section 15.1)
+abbrev pub io : Status
+io = record { number = 5 }
+
 abbrev pub inval : Status
 inval = record { number = 22 }
 
@@ -63,6 +66,7 @@ fbig = record { number = 27 }
 abbrev pub stop_status : Stop → Status
 stop_status PastEnd = inval
 stop_status NoRoom = fbig
+stop_status DiskFault = io
 
 -- the name of the one job
 abbrev pub job_name : State → JobName

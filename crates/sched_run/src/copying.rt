@@ -39,6 +39,7 @@ fn stop_status(cause: Stop) -> Status
     match cause {
         Stop::PastEnd => Status::INVAL,
         Stop::NoRoom => Status::FBIG,
+        Stop::DiskFault => Status::IO,
     }
 }
 
