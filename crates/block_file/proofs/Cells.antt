@@ -1,13 +1,13 @@
 -- What a crash leaves of a cell, around each of the two blocks that a put lands.
-use Rattle.std.proofs.Common.{◌≡◌, ◌≢◌, ℕ, ◌+◌, ◌-◌, ◌<◌, ◌≤◌, ◌%◌, false, List, ◌⊎◌, inl, inr, refl, sym, ◌∙◌, ap, subst, arith, slice_index}
+use Rattle.std.proofs.Common.{◌≡◌, ◌≢◌, ℕ, ◌+◌, ◌-◌, ◌≤◌, List, ◌⊎◌, inl, inr, refl, sym, ◌∙◌, ap, subst, arith}
 use Rattle.std.proofs.lemmas.Bool.{cases_eq}
 use Rattle.disk_model.specs.declared.disk.Io.{Io}
 use Rattle.disk_model.specs.declared.disk.Io.TheVariants.{Done}
 use Rattle.disk_model.specs.declared.fuse.Fuse.{Fuse}
-use Rattle.disk_model.specs.Disk.{Image, DiskState, MayLeave, IsSettled, Writes, Syncs}
+use Rattle.disk_model.specs.Disk.{Image, DiskState, MayLeave, Writes, Syncs}
 use Rattle.disk_model.specs.Elapsed.{Timeline, present, contents, Elapses}
 use Rattle.disk_model.specs.Passes.{Passes, passes_one, passes_on, passes_only}
-use Rattle.block_file.specs.Cell.{gate_of, cell_of, IsCell, IsBefore, IsAfter, OldOrNew, Outside, Lands, Spares}
+use Rattle.block_file.specs.Cell.{gate_of, cell_of, IsCell, OldOrNew, Outside, Lands, Spares}
 
 -- after a write alone
 pub spares_write : (at : ℕ) (block : List ℕ) (result : Io) (old new : DiskState) → Writes at block result old new

@@ -1,20 +1,20 @@
 -- What an image holds, as the volume that a crash leaves.
-use Rattle.std.proofs.Common.{◌≡◌, ◌≢◌, ℕ, zero, suc, ◌+◌, ◌-◌, ◌*◌, ◌<◌, ◌≤◌, ◌^◌, ◌==◌, if◌then◌else◌, Bool, true, false, Option, None, Some, List, ◌++◌, length, map, get_or, set, take, drop, replicate, inl, inr, refl, sym, ◌∙◌, ap, subst, arith}
-use Rattle.std.proofs.lemmas.Bool.{cases_eq, eq-eqb, ne_eqb, le-ltb}
-use Rattle.std.proofs.Math.Seq.{take-append_seam, drop-append_seam}
+use Rattle.std.proofs.Common.{◌≡◌, ◌≢◌, ℕ, zero, suc, ◌+◌, ◌-◌, ◌*◌, ◌<◌, ◌≤◌, ◌^◌, ◌==◌, if◌then◌else◌, Bool, true, false, Option, None, Some, List, ◌++◌, length, map, set, take, drop, replicate, inl, inr, refl, sym, ◌∙◌, ap, arith}
+use Rattle.std.proofs.lemmas.Bool.{cases_eq, le-ltb}
+use Rattle.std.proofs.Math.Seq.{take-append_seam}
 use Rattle.std.specs.Option.{option_or, option_map}
-use Rattle.copy_model.specs.Volume.{File, Volume, Doubt, Kept, Old, New, no_file, file_at, settled, recovered, crash, committed, commit, fail_commit, written, change_of}
-use Rattle.disk_model.specs.Disk.{Image, DiskState, MayLeave}
+use Rattle.copy_model.specs.Volume.{File, Volume, Doubt, Kept, Old, New, no_file, settled, recovered, crash}
+use Rattle.disk_model.specs.Disk.{Image}
 use Rattle.block_file.specs.declared.shape.Shape.{Shape}
 use Rattle.block_file.specs.Cell.{gate_of}
 use Rattle.block_file.specs.Layout.{head_files, head_blocks, head_tag, cell_at, blocks_of, boot_in, size_in, change_in, table_of}
 use Rattle.block_file.specs.Lists.{numbered, joined}
 use Rattle.block_file.specs.Stored.{Place, blocks_by, opened_file, opened_by, reopened, tag_of, home_of, IsClean, flaw_of, head_flaw, first_oversized}
-use Rattle.block_file.specs.Blocks.{Safe, place_of, InShape, HasContent, Stands, Holds, with_table, piece_of, with_bytes}
+use Rattle.block_file.specs.Blocks.{Safe, place_of, HasContent, Holds, with_table, piece_of, with_bytes}
 use Rattle.block_file.specs.Held.{Held}
-use Rattle.block_file.specs.Opened.{left_home, Leaves, MayBeLeft, live_file, doubt_of, volume_of, HeadIs, IsOpen}
+use Rattle.block_file.specs.Opened.{left_home, Leaves, live_file, volume_of, HeadIs}
 use Rattle.block_file.proofs.Numbered.{numbered_same, map-numbered, get-numbered, set-numbered, joined_same, pieces_whole}
-use Rattle.block_file.proofs.Standing.{pick_same, pick_other, stands_holds}
+use Rattle.block_file.proofs.Standing.{pick_same, pick_other}
 
 -- the files of the volume in an image, the numbers of files and of blocks given
 abbrev files_in : ℕ → ℕ → Image → List File

@@ -1,18 +1,18 @@
 -- A new volume, as an image holds it.
-use Rattle.std.proofs.Common.{◌≡◌, ◌≢◌, ℕ, zero, suc, ◌+◌, ◌-◌, ◌*◌, ◌/◌, ◌%◌, ◌<◌, ◌≤◌, ◌^◌, ◌==◌, if◌then◌else◌, Bool, true, false, None, List, [], ◌∷◌, ◌++◌, length, get_or, take, drop, replicate, refl, sym, ◌∙◌, ap, subst, arith, inl, inr}
+use Rattle.std.proofs.Common.{◌≡◌, ℕ, zero, suc, ◌+◌, ◌-◌, ◌*◌, ◌/◌, ◌%◌, ◌<◌, ◌≤◌, ◌==◌, if◌then◌else◌, false, None, List, ◌∷◌, ◌++◌, get_or, replicate, refl, sym, ◌∙◌, ap, subst, arith, inl, inr}
 use Rattle.std.specs.Int.{bit_at}
 use Rattle.std.proofs.lemmas.Bool.{cases_eq}
 use Rattle.std.proofs.lemmas.Nat.{mul-add-lt}
 use Rattle.std.proofs.lemmas.Nat.Bits.{bit_at-zero}
 use Rattle.std.proofs.lemmas.List.{get_or-drop, replicate-append-replicate}
-use Rattle.copy_model.specs.Volume.{File, Volume, no_file, formatted}
+use Rattle.copy_model.specs.Volume.{File, Volume, no_file}
 use Rattle.disk_model.specs.Disk.{Image, DiskState, MayLeave, IsSettled}
 use Rattle.block_file.specs.declared.shape.Shape.{Shape}
 use Rattle.block_file.specs.Cell.{gate_of}
-use Rattle.block_file.specs.Layout.{cell_at, data_at, blocks_of, home_in, size_in, boot_in, head_tag, table_of}
+use Rattle.block_file.specs.Layout.{cell_at, data_at, blocks_of, home_in}
 use Rattle.block_file.specs.Lists.{numbered, joined}
 use Rattle.block_file.specs.Stored.{opened_file, IsFormatted, IsCleared, tag_of}
-use Rattle.block_file.specs.Blocks.{Safe, place_of, InShape, HasContent, Holds}
+use Rattle.block_file.specs.Blocks.{Safe, Holds}
 use Rattle.block_file.specs.Opened.{HeadIs}
 use Rattle.block_file.proofs.Numbered.{numbered_same}
 use Rattle.block_file.proofs.Standing.{pick_same, pick_other, table_is}

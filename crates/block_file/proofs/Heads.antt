@@ -1,12 +1,12 @@
 -- Block 0 of a volume.
-use Rattle.std.proofs.Common.{◌≡◌, ◌≢◌, ℕ, zero, suc, ◌+◌, ◌-◌, ◌*◌, ◌<◌, ◌≤◌, ◌^◌, ◌||◌, Bool, true, false, not, nat_lt, if◌then◌else◌, Option, None, Some, List, [], ◌∷◌, ◌++◌, length, take, drop, replicate, w32, w64, refl, sym, ◌∙◌, ap, arith}
+use Rattle.std.proofs.Common.{◌≡◌, ℕ, zero, suc, ◌+◌, ◌*◌, ◌<◌, ◌≤◌, ◌^◌, ◌||◌, Bool, true, false, not, nat_lt, if◌then◌else◌, Option, None, Some, List, length, take, drop, replicate, w32, w64, refl, ◌∙◌, ap, arith}
 use Rattle.std.specs.Int.{from_be_bytes, to_be_bytes}
 use Rattle.std.specs.Str.{bytes_eq}
 use Rattle.std.proofs.lemmas.Bool.{le-ltb}
 use Rattle.std.proofs.lemmas.Nat.{from_be_bytes-to_be_bytes_4, from_be_bytes-to_be_bytes_8}
 use Rattle.std.proofs.lemmas.List.{length-replicate, drop-replicate}
 use Rattle.block_file.specs.declared.shape.Shape.{Shape}
-use Rattle.block_file.specs.Layout.{letters, head_files, head_blocks, head_tag, blocks_of}
+use Rattle.block_file.specs.Layout.{letters, head_files, head_blocks, blocks_of}
 use Rattle.block_file.specs.Stored.{head_flaw, is_misfit, first_stain}
 use Rattle.block_file.specs.Opened.{HeadIs}
 use Rattle.block_file.proofs.Parts.{put_in, front_put, part_put, past_put, len_put, before_put, beyond_put}

@@ -1,19 +1,18 @@
 -- An open volume over its calls.
-use Rattle.std.proofs.Common.{◌≡◌, ◌≢◌, ℕ, zero, suc, ◌+◌, ◌-◌, ◌*◌, ◌<◌, ◌≤◌, ◌^◌, ◌==◌, if◌then◌else◌, nat_lt, Bool, true, false, Option, None, Some, List, [], ◌∷◌, ◌++◌, ◌⊎◌, length, map, get_or, set, take, drop, replicate, inl, inr, refl, sym, ◌∙◌, ap, subst, arith}
+use Rattle.std.proofs.Common.{◌≡◌, ◌≢◌, ℕ, ◌+◌, ◌-◌, ◌*◌, ◌<◌, ◌≤◌, ◌==◌, if◌then◌else◌, nat_lt, Bool, true, false, Option, None, Some, List, [], ◌∷◌, ◌++◌, ◌⊎◌, length, get_or, set, take, drop, replicate, inl, inr, refl, sym, ◌∙◌, ap, subst, arith}
 use Rattle.std.proofs.lemmas.Bool.{cases_eq, cases_lt, lt-ltb, le-ltb, eq-eqb}
-use Rattle.block_file.specs.declared.faults.WriteFault.{WriteFault}
-use Rattle.block_file.specs.declared.faults.WriteFault.TheVariants.{TooFar, Worn, Broken, DiskFailed}
+use Rattle.block_file.specs.declared.faults.WriteFault.TheVariants.{TooFar, Worn, DiskFailed}
 use Rattle.std.proofs.lemmas.List.{get_or-set_same, get_or-set_other}
 use Rattle.std.proofs.Math.Seq.{take-append_seam, drop-append_seam}
-use Rattle.copy_model.specs.Volume.{File, Volume, Doubt, Kept, Old, New, no_file, file_at, crash, committed, commit, fail_commit, written, write, change_of, with_bytes_at}
+use Rattle.copy_model.specs.Volume.{File, Volume, Doubt, Old, New, no_file, file_at, committed, commit, fail_commit, written, write, change_of, with_bytes_at}
 use Rattle.disk_model.specs.Disk.{Image, DiskState, MayLeave}
 use Rattle.block_file.specs.declared.shape.Shape.{Shape}
-use Rattle.block_file.specs.Layout.{blocks_of, boot_in, size_in, change_in, home_in}
+use Rattle.block_file.specs.Layout.{blocks_of, boot_in, size_in, change_in}
 use Rattle.block_file.specs.Lists.{numbered, joined}
-use Rattle.block_file.specs.Stored.{blocks_by, opened_by}
-use Rattle.block_file.specs.Blocks.{Safe, place_of, InShape, HasContent, Stands, Holds, with_table, piece_of, with_bytes}
+use Rattle.block_file.specs.Stored.{blocks_by}
+use Rattle.block_file.specs.Blocks.{Safe, place_of, HasContent, Stands, Holds, with_table, piece_of, with_bytes}
 use Rattle.block_file.specs.Held.{Held}
-use Rattle.block_file.specs.Opened.{left_home, Leaves, MayBeLeft, live_file, doubt_of, volume_of, HeadIs, IsOpen, refusal_of}
+use Rattle.block_file.specs.Opened.{left_home, Leaves, MayBeLeft, live_file, doubt_of, volume_of, HeadIs, IsOpen, SameOpening, refusal_of}
 use Rattle.block_file.proofs.Numbered.{numbered_same, get-numbered, set_of, set_by, length-numbered, joined_same, pieces_whole}
 use Rattle.block_file.proofs.Standing.{pick_same, pick_other, stands_holds}
 use Rattle.block_file.proofs.Filed.{content_joined, holds_leaves, crash_old, crash_new}
@@ -467,3 +466,12 @@ pub files_len : (shape : Shape) (boot writes : ℕ) (broken : Bool) (doubt : ℕ
     → length (volume_of shape boot writes broken doubt held tables image).files ≡ shape.files + 1
 files_len shape boot writes broken doubt held tables image =
     length-numbered (shape.files + 1) (λ j. if j == 0 then no_file else live_file (held j) (tables j) (blocks_by shape.files shape.blocks (tables j) image j))
+
+-- what is in memory and on the disk matters to none of these
+pub same_opening : (shape : Shape) (boot writes later : ℕ) (broken now : Bool) (doubt other : ℕ) (held here : ℕ → Held) (tables next : ℕ → List ℕ) (image after : Image)
+    → SameOpening (volume_of shape boot writes broken doubt held tables image) (volume_of shape boot later now other here next after)
+same_opening shape boot writes later broken now doubt other held here tables next image after = record {
+  files = files_len shape boot later now other here next after ∙ sym (files_len shape boot writes broken doubt held tables image);
+  capacity = refl;
+  boot = refl;
+}

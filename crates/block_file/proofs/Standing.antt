@@ -1,14 +1,13 @@
 -- What stays safe of a volume's blocks over a write of a block and a put of a table.
-use Rattle.std.proofs.Common.{◌≡◌, ◌≢◌, ℕ, ◌+◌, ◌-◌, ◌*◌, ◌%◌, ◌<◌, ◌≤◌, ◌==◌, Bool, true, false, if◌then◌else◌, List, ◌⊎◌, inl, inr, refl, sym, ◌∙◌, ap, subst, arith}
+use Rattle.std.proofs.Common.{◌≡◌, ◌≢◌, ℕ, ◌+◌, ◌-◌, ◌<◌, ◌≤◌, ◌==◌, Bool, if◌then◌else◌, List, ◌⊎◌, inl, inr, sym, ◌∙◌, ap, subst, arith}
 use Rattle.std.proofs.lemmas.Bool.{cases_eq, eq-eqb, ne_eqb}
 use Rattle.disk_model.specs.declared.disk.Io.{Io}
-use Rattle.disk_model.specs.declared.disk.Io.TheVariants.{Done}
 use Rattle.disk_model.specs.declared.fuse.Fuse.{Fuse}
 use Rattle.disk_model.specs.Disk.{Image, DiskState, MayLeave, IsSettled, Writes}
 use Rattle.disk_model.specs.Elapsed.{Timeline, present, contents, Elapses}
 use Rattle.disk_model.specs.Passes.{Passes, passes_one, passes_only}
 use Rattle.block_file.specs.declared.shape.Shape.{Shape}
-use Rattle.block_file.specs.Cell.{gate_of, cell_of, IsCell, IsBefore, IsAfter, OldOrNew, Outside, Keeps}
+use Rattle.block_file.specs.Cell.{gate_of, cell_of, IsCell, IsBefore, IsAfter, OldOrNew, Keeps}
 use Rattle.block_file.specs.Layout.{cell_at, data_at, home_in, table_of}
 use Rattle.block_file.specs.Blocks.{Safe, place_of, next_place, InShape, HasContent, Stands, Holds, with_table, piece_of, with_bytes}
 use Rattle.block_file.proofs.Places.{in_force_apart, data_apart, data_outside, home_outside, cell_outside}

@@ -1,6 +1,6 @@
 -- Where things stand in a volume of format 1, and what its first block and its tables say. Numbers are
 -- big-endian. Own format.
-use Rattle.std.specs.Prelude.{◌≡◌, ℕ, ◌+◌, ◌-◌, ◌*◌, ◌/◌, ◌%◌, List, [], ◌++◌, take, drop, length, slice_index, codes}
+use Rattle.std.specs.Prelude.{ℕ, ◌+◌, ◌-◌, ◌*◌, ◌/◌, ◌%◌, List, take, drop, slice_index, codes}
 use Rattle.std.specs.Int.{w32, w64, from_be_bytes, bit_at}
 use Rattle.disk_model.specs.Disk.{Image}
 use Rattle.block_file.specs.Cell.{cell_of}

@@ -1,4 +1,3 @@
-pub mod Plain
 pub mod Cell
 pub mod Layout
 pub mod Lists
@@ -6,3 +5,4 @@ pub mod Stored
 pub mod Blocks
 pub mod Held
 pub mod Opened
+pub mod Loaded

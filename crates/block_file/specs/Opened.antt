@@ -1,14 +1,16 @@
 -- A volume that is open: what it stands for, and what a crash may leave of it. Own definitions.
-use Rattle.std.specs.Prelude.{◌≡◌, ℕ, ◌+◌, ◌-◌, ◌*◌, ◌<◌, ◌≤◌, ◌^◌, Bool, true, false, ◌==◌, Option, None, Some, List, nat_lt, take, drop, replicate, slice_index, if◌then◌else◌}
+use Rattle.std.specs.Prelude.{◌≡◌, ℕ, ◌+◌, ◌-◌, ◌*◌, ◌%◌, ◌<◌, ◌≤◌, ◌^◌, Bool, false, ◌==◌, Option, None, Some, List, nat_lt, length, take, drop, replicate, slice_index, if◌then◌else◌, ◌⊎◌}
 use Rattle.copy_model.specs.Volume.{File, Volume, Doubt, Kept, Old, New, no_file, crash}
 use Rattle.disk_model.specs.Disk.{Image, DiskState, MayLeave}
 use Rattle.disk_model.specs.Elapsed.{Timeline, present}
 use Rattle.block_file.specs.declared.shape.Shape.{Shape}
 use Rattle.block_file.specs.declared.faults.WriteFault.{WriteFault}
 use Rattle.block_file.specs.declared.faults.WriteFault.TheVariants.{TooFar, Worn, Broken}
+use Rattle.block_file.specs.declared.faults.OpenFault.{OpenFault}
+use Rattle.block_file.specs.declared.faults.OpenFault.TheVariants.{NotVolume, DiskFailed}
 use Rattle.block_file.specs.Layout.{head_files, head_blocks, head_tag, blocks_of, boot_in, size_in, change_in}
 use Rattle.block_file.specs.Lists.{numbered}
-use Rattle.block_file.specs.Stored.{blocks_by, reopened, tag_of, home_of, IsClean, flaw_of, head_flaw}
+use Rattle.block_file.specs.Stored.{Place, blocks_by, reopened, tag_of, home_of, IsClean, flaw_of, head_flaw}
 use Rattle.block_file.specs.Blocks.{Stands}
 use Rattle.block_file.specs.Held.{Held}
 
@@ -47,6 +49,50 @@ homes_by homes j = slice_index homes j
 abbrev pub StandsFor : {D : Type 0} → (D → Timeline) → (D → ℕ) → Opened D → Type 0
 StandsFor timeline size v =
     (image : Image) → MayLeave (present (timeline v.disk)) image → MayBeLeft (size v.disk) v.tag (homes_by v.homes) v.volume image
+
+-- A disk of this size may be opened where an image is clean, or has a field that is off.
+abbrev pub CanBeOpened : ℕ → Image → Type 0
+CanBeOpened size image = IsClean image ⊎ ((place : Place) × (flaw_of size image ≡ Some place))
+
+-- An opening is refused for the first field that is off, or because the disk failed.
+abbrev pub RefusedFor : Option Place → OpenFault → Type 0
+RefusedFor flaw (NotVolume block at) = flaw ≡ Some (record { block = block; at = at })
+RefusedFor flaw DiskFailed = Unit {0}
+
+-- An image of the volume in another one, where the boot number is higher by so many. It is clean, and it
+-- opens while there is a next boot number.
+pub record Reopens (size more : ℕ) (old image : Image) : Type 0 where
+  pub opened : reopened image ≡ (let v = reopened old in record v { boot = v.boot + more })
+  pub tag_is : tag_of image ≡ tag_of old
+  pub homes_are : (j : ℕ) → 1 ≤ j → j ≤ head_files (old 0) → home_of image j ≡ home_of old j
+  pub clean : IsClean image
+  pub sound : (reopened old).boot + more < 2 ^ 32 → flaw_of size image ≡ None
+
+-- What a crash during an opening may leave: what a crash before it could have left, or the volume that a
+-- read gave, with the same boot number or the next one.
+abbrev pub LeftByOpening : ℕ → DiskState → Image → Type 0
+LeftByOpening size s image = MayLeave s image ⊎ Reopens size 0 s.reads image ⊎ Reopens size 1 s.reads image
+
+-- What holds of a volume that was just opened, on whatever disk: nothing is written or in doubt, there are
+-- 1 to 64 files besides the root, and these have whole blocks, 16,384 at most together.
+pub record IsFresh (v : Volume) : Type 0 where
+  pub whole : v.broken ≡ false
+  pub certain : v.doubt ≡ None
+  pub unwritten : v.writes ≡ 0
+  pub boot_raised : 1 ≤ v.boot
+  pub boot_fits : v.boot < 2 ^ 32
+  pub some_files : 2 ≤ length v.files
+  pub few_files : length v.files ≤ 65
+  pub some_blocks : 4096 ≤ v.capacity
+  pub whole_blocks : v.capacity % 4096 ≡ 0
+  pub few_blocks : (length v.files - 1) * v.capacity ≤ 2 ^ 26
+
+-- What no call changes of an open volume: how many files it has, how long they may be, and the number of
+-- the opening.
+pub record SameOpening (old new : Volume) : Type 0 where
+  pub files : length new.files ≡ length old.files
+  pub capacity : new.capacity ≡ old.capacity
+  pub boot : new.boot ≡ old.boot
 
 -- a file held in memory, with its safe table and blocks
 abbrev pub live_file : Held → List ℕ → List ℕ → File

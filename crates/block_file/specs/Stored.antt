@@ -1,6 +1,6 @@
 -- What an image of a disk holds, read as a volume of format 1: plain bytes, and no state of a program.
 -- Own definitions.
-use Rattle.std.specs.Prelude.{◌≡◌, ℕ, ◌+◌, ◌-◌, ◌*◌, ◌<◌, ◌≤◌, ◌^◌, Bool, false, not, nat_lt, ◌==◌, ◌||◌, Option, None, Some, List, [], ◌∷◌, zero, suc, take, drop, replicate, if◌then◌else◌}
+use Rattle.std.specs.Prelude.{◌≡◌, ℕ, ◌+◌, ◌-◌, ◌*◌, ◌<◌, ◌≤◌, Bool, false, not, nat_lt, ◌==◌, ◌||◌, Option, None, Some, List, [], ◌∷◌, zero, suc, take, drop, replicate, if◌then◌else◌}
 use Rattle.std.specs.Str.{bytes_eq}
 use Rattle.std.specs.Option.{option_or, option_map}
 use Rattle.copy_model.specs.Volume.{File, Volume, no_file, formatted}
@@ -88,16 +88,21 @@ first_oversized capacity tables j zero = None
 first_oversized capacity tables j (suc n) =
     if nat_lt capacity (size_in (tables j)) then Some j else first_oversized capacity tables (j + 1) n
 
+-- The first cell that is off, of cells with these homes in force and these blocks there: that of a boot
+-- number that has no next one, or of a safe size above the capacity.
+abbrev pub cell_flaw : (files capacity : ℕ) → (homes : ℕ → ℕ) → (tables : ℕ → List ℕ) → Option Place
+cell_flaw files capacity homes tables =
+    option_or
+    (if boot_in (tables 0) == 4294967295 then Some (record { block = cell_at 0 + 1 + homes 0; at = 0 }) else None)
+    (option_map (λ j. record { block = cell_at j + 1 + homes j; at = 0 }) (first_oversized capacity tables 1 files))
+
 -- The first field that is off, so that the image of a disk of this size is no volume: in block 0, a boot
 -- number that has no next one, or a file's safe size.
 unfoldable pub flaw_of : ℕ → Image → Option Place
 flaw_of size image =
     if size == 0 then Some (record { block = 0; at = 0 })
     else option_or (option_map (λ at. record { block = 0; at = at }) (head_flaw size (image 0)))
-    (option_or
-    (if boot_in (table_of image 0) == 4294967295 then Some (record { block = cell_at 0 + 1 + gate_of (image (cell_at 0)); at = 0 }) else None)
-    (option_map (λ j. record { block = cell_at j + 1 + gate_of (image (cell_at j)); at = 0 })
-    (first_oversized (head_blocks (image 0) * 4096) (table_of image) 1 (head_files (image 0)))))
+    (cell_flaw (head_files (image 0)) (head_blocks (image 0) * 4096) (λ j. gate_of (image (cell_at j))) (table_of image))
 
 -- An image that a new volume leaves: it is clean, and opens as files that were never written.
 pub record IsFormatted (size files blocks tag : ℕ) (image : Image) : Type 0 where

@@ -31,3 +31,13 @@ pub fn put(bytes: &mut Vec<u8>, off: usize, part: &[u8])
 {
     bytes[off..off + part.len()].copy_from_slice(part);
 }
+
+/// Makes the bytes from `from` on zeros.
+pub fn clear_from(bytes: &mut Vec<u8>, from: usize)
+    requires { from ≤ vec_len bytes.old }
+    ensures front { take from bytes.new.items ≡ take from bytes.old.items }
+    ensures zeros { drop from bytes.new.items ≡ replicate (length bytes.old.items - from) 0 }
+    ensures len { length bytes.new.items ≡ length bytes.old.items }
+{
+    bytes[from..].fill(0);
+}

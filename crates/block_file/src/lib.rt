@@ -1,28 +1,35 @@
 //! The files of a server's volume.
 //!
-//! [`PlainVolume`] keeps each file as a list of bytes and has no disk. [`Volume`] is the volume on a disk:
-//! a crash at any moment leaves of each file what its last commit made safe, or what a commit under way
-//! was making safe. It is a layer of blocks in two homes, whose tables are each a [`GatedCell`], with the
-//! files' contents in memory. Contracts see both as the volume that the promise speaks of
+//! [`Volume`] is the volume on a disk: a crash at any moment leaves of each file what its last commit made
+//! safe, or what a commit under way was making safe. It is a layer of blocks in two homes, whose tables are
+//! each a [`GatedCell`], with the files' contents in memory. Contracts see the volume that the promise speaks of
 //! (`specs/Volume.antt` of `copy_model`). The contract to read first is [`Volume::commit`]'s, with
 //! `specs/Opened.antt`. The words are those of RFC 8881: WRITE (section 18.32), COMMIT (section 18.3),
 //! the change attribute (section 5.8.1.4).
 #![tactic(auto)]
 
+#[cfg(test)]
+mod blind_disk;
 mod blocks;
 mod bytes;
 mod cell;
 #[cfg(test)]
 mod cell_tests;
+#[cfg(test)]
+mod crash_tests;
 mod faults;
+mod flaws;
 mod format;
 #[cfg(test)]
 mod format_tests;
 mod head;
 mod info;
+mod laws;
+mod load;
 mod memory;
-mod plain_file;
-mod plain_volume;
+#[cfg(test)]
+mod open_tests;
+mod opening;
 mod shape;
 mod tables;
 mod volume;
@@ -30,6 +37,6 @@ mod whole_file;
 
 pub use cell::GatedCell;
 pub use faults::{FormatFault, OpenFault, ReadFault, WriteFault};
-pub use info::{FileInfo, TooFar};
-pub use plain_volume::PlainVolume;
+pub use info::FileInfo;
+pub use laws::may_be_opened;
 pub use volume::Volume;

@@ -1,5 +1,6 @@
-ghost use Rattle.std.specs.Prelude.{◌≡◌, ℕ, ◌+◌, ◌-◌, ◌<◌, ◌≤◌, ◌++◌, length, take, drop, slice_index};
-ghost use Rattle.block_file.specs.Layout.{size_in, change_in, home_in};
+ghost use Rattle.std.specs.Prelude.{◌≡◌, ℕ, ◌+◌, ◌-◌, ◌<◌, ◌≤◌, ◌++◌, length, [], take, drop, slice_index, slice_index_or};
+ghost use Rattle.std.specs.Int.{w32, from_be_bytes};
+ghost use Rattle.block_file.specs.Layout.{boot_in, head_tag, size_in, change_in, home_in};
 
 use disk_model::Block;
 
@@ -19,6 +20,49 @@ pub fn change_in(table: &Block) -> u64
     let mut word = [0; 8];
     word.copy_from_slice(&table[8..16]);
     u64::from_be_bytes(word)
+}
+
+/// The boot number in the boot cell's block.
+pub fn boot_in(block: &Block) -> u32
+    ensures { result ≡ boot_in block.now }
+{
+    word_in(block, 0)
+}
+
+/// The tag in block 0.
+pub fn tag_in(head: &Block) -> u64
+    ensures { result ≡ head_tag head.now }
+{
+    let mut word = [0; 8];
+    word.copy_from_slice(&head[16..24]);
+    u64::from_be_bytes(word)
+}
+
+/// The boot cell's block of a boot number.
+pub fn boot_block(boot: u32) -> Block
+    ensures { boot_in result ≡ boot }
+{
+    let mut block = [0; 4096];
+    put_part(&mut block, 0, &boot.to_be_bytes());
+    block
+}
+
+/// The number of 32 bits at a place of a block.
+pub fn word_in(block: &Block, at: usize) -> u32
+    requires { at + 4 ≤ 4096 }
+    ensures { result ≡ from_be_bytes w32 (take 4 (drop at block.now)) }
+{
+    let mut word = [0; 4];
+    word.copy_from_slice(&block[at..at + 4]);
+    u32::from_be_bytes(word)
+}
+
+/// A cell's block.
+pub fn table_at(tables: &Vec<Block>, number: usize) -> Block
+    requires { number < length tables.now.items }
+    ensures { result ≡ slice_index_or tables.now.items number [] }
+{
+    tables[number]
 }
 
 /// The table after a commit of all blocks of a file: each is in its other home.

@@ -1,20 +1,27 @@
-ghost use Rattle.std.specs.Prelude.{◌≡◌, ◌↔◌, ℕ, ◌+◌, ◌*◌, ◌<◌, ◌≤◌, ◌^◌, true, false, [], length, slice_index, slice_index_or, IsOk, IsErr, IsTrue, Some, None};
+ghost use Rattle.std.specs.Prelude.{◌≡◌, ◌↔◌, ℕ, ◌+◌, ◌*◌, ◌<◌, ◌≤◌, ◌^◌, true, false, [], length, slice_index, slice_index_or, IsOk, IsErr, IsTrue, IfOk, MatchResult, Some, None, ◌==◌, if◌then◌else◌};
 ghost use Rattle.outcome.specs.Causes.{Rose};
 ghost use Rattle.copy_model.specs.Volume.{file_at, bytes_at, write, commit, fail_write, fail_commit, change_of};
-ghost use Rattle.disk_model.specs.Elapsed.{set_to, IsOut};
+ghost use Rattle.disk_model.specs.Disk.{Image, MayLeave};
+ghost use Rattle.disk_model.specs.Elapsed.{present, contents, set_to, IsOut};
 ghost use Rattle.disk_model.specs.Passes.{Passes};
 ghost use Rattle.block_file.specs.declared.faults.WriteFault.{WriteFault};
 ghost use Rattle.block_file.specs.Held.{no_held};
-ghost use Rattle.block_file.specs.Opened.{homes_by, MayBeLeft, StandsFor, refusal_of};
+ghost use Rattle.block_file.specs.Layout.{boot_in, table_of};
+ghost use Rattle.block_file.specs.Stored.{reopened, tag_of, home_of, flaw_of};
+ghost use Rattle.block_file.specs.Opened.{homes_by, MayBeLeft, StandsFor, SameOpening, CanBeOpened, LeftByOpening, RefusedFor, IsFresh, refusal_of};
 
 use crate::FileInfo;
-use crate::faults::{ReadFault, WriteFault};
+use crate::faults::{OpenFault, ReadFault, WriteFault};
+use crate::load::Cells;
 use crate::memory::Memory;
+use crate::opening::{Loaded, start};
 use crate::shape::Shape;
-use crate::tables::next_table;
+use crate::tables::{next_table, table_at};
 use crate::whole_file::commit_file;
 use disk_model::{Block, CrashDisk, Disk, Io};
 use nfs_base::{BLOCK_SIZE, MOST_FILES};
+use outcome::Mem;
+use std::alloc::Global;
 use std::marker::Model;
 
 /// A volume on a disk, open. A crash at any moment leaves of each file what its last commit made safe,
@@ -56,6 +63,67 @@ impl<D: Disk> Model for Volume<D> {
         (λ j. slice_index v.homes.items j) (λ j. slice_index_or v.held.items j no_held) (λ j. slice_index_or v.tables.items j []) };
 }
 
+impl<D: Disk + Drop> Volume<D> {
+    /// Opens the volume on a disk: each file holds its safe bytes, and the boot number is raised by one. A
+    /// crash at any moment leaves the volume with its old boot number or the next one. A disk that holds
+    /// no volume is refused, once it is synced, at the first field that is off: in block 0, in the boot
+    /// cell, or in the files' cells by number. All memory is taken here; where that is refused, the disk is
+    /// let go.
+    pub fn open(alloc: Global, disk: D) -> Mem<Result<Volume<D>, (D, OpenFault)>>
+        requires { D.Told → (image : Image) → MayLeave (present (D.timeline disk)) image → CanBeOpened (D.size disk) image }
+        ensures refused { D.Told → IfOk result (λ answer. MatchResult answer
+            (λ _. flaw_of (D.size disk) (contents (D.timeline disk)) ≡ None)
+            (λ fault. RefusedFor (flaw_of (D.size disk) (contents (D.timeline disk))) fault.1)) }
+        ensures volume { D.Told → IfOk result (λ answer. IfOk answer (λ opened. opened.volume ≡ reopened (contents (D.timeline disk)))) }
+        ensures boot { D.Told → IfOk result (λ answer. IfOk answer (λ opened.
+            opened.volume.boot ≡ boot_in (table_of (contents (D.timeline disk)) 0) + 1)) }
+        ensures tag { D.Told → IfOk result (λ answer. IfOk answer (λ opened. opened.tag ≡ tag_of (contents (D.timeline disk)))) }
+        ensures homes { D.Told → IfOk result (λ answer. IfOk answer (λ opened. (j : ℕ) → 1 ≤ j → j < length opened.volume.files
+            → homes_by opened.homes j ≡ home_of (contents (D.timeline disk)) j)) }
+        ensures stands { D.Told → IfOk result (λ answer. IfOk answer (λ opened. StandsFor D.timeline D.size opened)) }
+        ensures any_moment { D.Told → IfOk result (λ answer. MatchResult answer
+            (λ opened. Passes (D.fuse disk) (D.fuse opened.disk) (D.timeline disk) (D.timeline opened.disk)
+            (LeftByOpening (D.size disk) (present (D.timeline disk))))
+            (λ fault. Passes (D.fuse disk) (D.fuse fault.0) (D.timeline disk) (D.timeline fault.0)
+            (LeftByOpening (D.size disk) (present (D.timeline disk))))) }
+        ensures untouched { D.Told → IfOk result (λ answer. MatchResult answer (λ _. Unit {0})
+            (λ fault. (fault.1 ≡ OpenFault.DiskFailed → ⊥) → contents (D.timeline fault.0) ≡ contents (D.timeline disk))) }
+        ensures again { D.Told → IfOk result (λ answer. MatchResult answer (λ _. Unit {0})
+            (λ fault. (image : Image) → MayLeave (present (D.timeline fault.0)) image → CanBeOpened (D.size fault.0) image)) }
+        ensures fresh { IfOk result (λ answer. IfOk answer (λ opened. IsFresh opened.volume)) }
+        ensures size { IfOk result (λ answer. MatchResult answer (λ opened. D.size opened.disk ≡ D.size disk) (λ fault. D.size fault.0 ≡ D.size disk)) }
+        ensures faults { IfOk result (λ answer. MatchResult answer (λ opened. D.faults disk ≤ D.faults opened.disk) (λ fault. D.faults disk ≤ D.faults fault.0)) }
+        ensures cause { IfOk result (λ answer. MatchResult answer (λ _. Unit {0})
+            (λ fault. fault.1 ≡ OpenFault.DiskFailed → Rose (D.faults disk) (D.faults fault.0))) }
+    {
+        let mut disk = disk;
+        match start(alloc, &mut disk)? {
+            Err(fault) => Ok(Err((disk, fault))),
+            Ok(started) => {
+                let Loaded {
+                    shape,
+                    tag,
+                    boot,
+                    cells: Cells { homes, tables },
+                    held,
+                } = started;
+                Ok(Ok(Volume {
+                    disk,
+                    shape,
+                    tag,
+                    boot,
+                    writes: 0,
+                    broken: false,
+                    doubt: 0,
+                    homes,
+                    tables,
+                    held,
+                }))
+            }
+        }
+    }
+}
+
 impl<D: Disk> Volume<D> {
     /// The number of this opening.
     pub fn boot(&self) -> u32
@@ -69,6 +137,13 @@ impl<D: Disk> Volume<D> {
         ensures { result ≡ self.now.tag }
     {
         self.tag
+    }
+
+    /// Whether a write or commit of this opening failed.
+    pub fn is_broken(&self) -> bool
+        ensures { result ≡ self.now.volume.broken }
+    {
+        self.broken
     }
 
     /// How many files there are, but for the root directory.
@@ -117,6 +192,9 @@ impl<D: Disk> Volume<D> {
         ensures bytes { D.Told → IsOk result → out.new ≡ bytes_at (file_at self.old.volume file).now off (length out.old) }
         ensures refused { result ≡ Err ReadFault.Broken → out.new ≡ out.old }
         ensures volume { D.Told → self.new.volume ≡ self.old.volume }
+        ensures opening { SameOpening self.old.volume self.new.volume }
+        ensures unbroken { self.new.volume.broken ≡ self.old.volume.broken }
+        ensures writes { self.new.volume.writes ≡ self.old.volume.writes }
         ensures tag { self.new.tag ≡ self.old.tag }
         ensures homes { self.new.homes ≡ self.old.homes }
         ensures timeline { D.Told → D.timeline self.new.disk ≡ D.timeline self.old.disk }
@@ -125,7 +203,7 @@ impl<D: Disk> Volume<D> {
         ensures faults { D.faults self.old.disk ≤ D.faults self.new.disk }
         ensures cause { result ≡ Err ReadFault.DiskFailed → Rose (D.faults self.old.disk) (D.faults self.new.disk) }
     {
-        if self.broken {
+        if self.is_broken() {
             return Err(ReadFault::Broken);
         }
         held_at(&self.held, file as usize).read(off, out);
@@ -149,6 +227,11 @@ impl<D: Disk> Volume<D> {
             → Passes (D.fuse self.old.disk) (D.fuse self.new.disk) (D.timeline self.old.disk) (D.timeline self.new.disk)
             (MayBeLeft (D.size self.old.disk) self.old.tag (homes_by self.old.homes) self.old.volume) }
         ensures stands { D.Told → StandsFor D.timeline D.size self.new }
+        ensures opening { SameOpening self.old.volume self.new.volume }
+        ensures unbroken { (result ≡ Err WriteFault.DiskFailed → ⊥) → self.new.volume.broken ≡ self.old.volume.broken }
+        ensures breaks { result ≡ Err WriteFault.DiskFailed → self.new.volume.broken ≡ true }
+        ensures counted { IsOk result → self.new.volume.writes ≡ (if length bytes.now == 0 then self.old.volume.writes else self.old.volume.writes + 1) }
+        ensures uncounted { IsErr result → self.new.volume.writes ≡ self.old.volume.writes }
         ensures tag { self.new.tag ≡ self.old.tag }
         ensures homes { self.new.homes ≡ self.old.homes }
         ensures size { D.size self.new.disk ≡ D.size self.old.disk }
@@ -184,6 +267,10 @@ impl<D: Disk> Volume<D> {
             → Passes (D.fuse self.old.disk) (D.fuse self.new.disk) (D.timeline self.old.disk) (D.timeline self.new.disk)
             (MayBeLeft (D.size self.old.disk) self.old.tag (homes_by self.old.homes) (fail_commit self.old.volume file)) }
         ensures stands { D.Told → StandsFor D.timeline D.size self.new }
+        ensures opening { SameOpening self.old.volume self.new.volume }
+        ensures unbroken { (result ≡ Err ReadFault.DiskFailed → ⊥) → self.new.volume.broken ≡ self.old.volume.broken }
+        ensures breaks { result ≡ Err ReadFault.DiskFailed → self.new.volume.broken ≡ true }
+        ensures writes { self.new.volume.writes ≡ self.old.volume.writes }
         ensures tag { self.new.tag ≡ self.old.tag }
         ensures size { D.size self.new.disk ≡ D.size self.old.disk }
         ensures faults { D.faults self.old.disk ≤ D.faults self.new.disk }
@@ -221,9 +308,11 @@ impl<D: Disk> Volume<D> {
 }
 
 impl<D: Disk> Volume<D> {
-    /// Gives the disk back.
+    /// Gives the disk back. It may be opened again, and so it may after a crash.
     pub fn hand_back(self) -> D
-        ensures { result ≡ self.disk }
+        ensures disk { result ≡ self.disk }
+        ensures stands { D.Told → StandsFor D.timeline D.size self }
+        ensures again { D.Told → (image : Image) → MayLeave (present (D.timeline result)) image → CanBeOpened (D.size result) image }
     {
         let Volume {
             disk,
@@ -246,6 +335,9 @@ impl<D: CrashDisk> Volume<D> {
     pub fn fuse(&mut self, calls: u64)
         ensures fuse { D.fuse self.new.disk ≡ set_to (D.fuse self.old.disk) calls }
         ensures volume { D.Told → self.new.volume ≡ self.old.volume }
+        ensures opening { SameOpening self.old.volume self.new.volume }
+        ensures unbroken { self.new.volume.broken ≡ self.old.volume.broken }
+        ensures writes { self.new.volume.writes ≡ self.old.volume.writes }
         ensures tag { self.new.tag ≡ self.old.tag }
         ensures homes { self.new.homes ≡ self.old.homes }
         ensures timeline { D.Told → D.timeline self.new.disk ≡ D.timeline self.old.disk }
@@ -285,14 +377,6 @@ fn change_after(boot: u32, n: u32) -> u64
     ensures { result ≡ change_of boot n }
 {
     (u64::from(boot) << 32) + u64::from(n)
-}
-
-// A file's safe table.
-fn table_at(tables: &Vec<Block>, number: usize) -> Block
-    requires { number < length tables.now.items }
-    ensures { result ≡ slice_index_or tables.now.items number [] }
-{
-    tables[number]
 }
 
 // A file in memory.

@@ -1,4 +1,4 @@
-use Rattle.std.proofs.Common.{◌≡◌, ℕ, ◌+◌, ◌*◌, arith}
+use Rattle.std.proofs.Common.{◌≡◌, ◌+◌, ◌*◌, arith}
 use Rattle.disk_model.specs.Elapsed.{present}
 use Rattle.block_file.specs.Layout.{cell_at}
 use Rattle.block_file.proofs.Standing.{put_passes_at, stands_put_at, is_cell_at}

@@ -1,4 +1,4 @@
-use Rattle.std.proofs.Common.{◌≡◌, ◌≢◌, ℕ, ◌+◌, ◌*◌, ◌<◌, ◌≤◌, replicate, refl, sym, ◌∙◌, ap, arith, below_more}
+use Rattle.std.proofs.Common.{◌≡◌, ◌≢◌, ℕ, ◌+◌, ◌*◌, ◌<◌, replicate, refl, sym, ◌∙◌, ap, arith, below_more}
 use Rattle.disk_model.specs.Elapsed.{contents}
 use Rattle.block_file.proofs.format.clear.Goals as goal
 

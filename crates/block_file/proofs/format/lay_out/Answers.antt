@@ -1,4 +1,4 @@
-use Rattle.std.proofs.Common.{◌≡◌, ◌≢◌, ℕ, ◌+◌, ◌*◌, List, refl, sym, ◌∙◌, subst, arith}
+use Rattle.std.proofs.Common.{◌≢◌, ℕ, ◌+◌, ◌*◌, List, refl, sym, ◌∙◌, subst, arith}
 use Rattle.block_file.specs.Opened.{HeadIs}
 use Rattle.block_file.proofs.format.lay_out.Goals as goal
 

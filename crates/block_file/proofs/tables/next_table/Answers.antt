@@ -1,8 +1,7 @@
-use Rattle.std.proofs.Common.{◌≡◌, ℕ, ◌+◌, ◌-◌, ◌/◌, ◌%◌, ◌<◌, List, length, take, drop, slice_index, w64, refl, sym, ◌∙◌, ap, arith}
+use Rattle.std.proofs.Common.{◌≡◌, ℕ, ◌/◌, ◌%◌, List, length, take, drop, slice_index, w64, refl, sym, ◌∙◌, ap, arith}
 use Rattle.std.specs.Int.{bit_at, from_be_bytes, to_be_bytes}
 use Rattle.std.proofs.lemmas.Nat.{from_be_bytes-to_be_bytes_8}
 use Rattle.std.proofs.lemmas.List.{drop-drop}
-use Rattle.block_file.specs.Layout.{size_in, change_in, home_in}
 use Rattle.block_file.proofs.Parts.{put_in, front_put, part_put, past_put, len_put}
 use Rattle.block_file.proofs.tables.next_table.Goals as goal
 

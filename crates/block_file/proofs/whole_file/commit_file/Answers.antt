@@ -1,5 +1,4 @@
-use Rattle.std.proofs.Common.{◌≡◌, ℕ, List, ◌⊎◌, inl, inr, refl}
-use Rattle.disk_model.specs.Disk.{Image}
+use Rattle.std.proofs.Common.{◌≡◌, ℕ, List, ◌⊎◌, inl, refl}
 use Rattle.disk_model.specs.Elapsed.{contents}
 use Rattle.disk_model.specs.Passes.{passes_on, passes_only}
 use Rattle.block_file.specs.Blocks.{Safe, HasContent, Holds, with_table, with_bytes}

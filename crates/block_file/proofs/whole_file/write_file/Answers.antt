@@ -1,4 +1,4 @@
-use Rattle.std.proofs.Common.{◌≡◌, ◌≢◌, ℕ, ◌+◌, ◌-◌, ◌*◌, ◌<◌, ◌≤◌, List, take, drop, refl, ◌∙◌, ap, arith, below_more}
+use Rattle.std.proofs.Common.{◌≡◌, ◌≢◌, ℕ, ◌+◌, ◌-◌, ◌*◌, take, drop, refl, ◌∙◌, ap, arith, below_more}
 use Rattle.disk_model.specs.Elapsed.{present, contents}
 use Rattle.disk_model.specs.Passes.{passes_none, passes_on}
 use Rattle.block_file.specs.Blocks.{Holds, InShape, next_place, piece_of}

@@ -1,4 +1,4 @@
-use Rattle.std.proofs.Common.{◌≡◌, ◌+◌, ◌-◌, arith, refl}
+use Rattle.std.proofs.Common.{◌≡◌, ◌+◌, ◌-◌, arith}
 use Rattle.block_file.proofs.Cells.{put_first, put_both}
 use Rattle.block_file.proofs.cell.GatedCell.put.Goals as goal
 

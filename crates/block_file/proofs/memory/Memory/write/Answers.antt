@@ -1,4 +1,4 @@
-use Rattle.std.proofs.Common.{◌≡◌, ℕ, ◌+◌, ◌-◌, ◌≤◌, ◌++◌, max, List, length, take, drop, replicate, refl, sym, ◌∙◌, ap, arith}
+use Rattle.std.proofs.Common.{◌≡◌, ℕ, ◌+◌, ◌-◌, ◌≤◌, ◌++◌, max, List, length, take, drop, replicate, sym, ◌∙◌, ap, arith}
 use Rattle.copy_model.specs.Volume.{with_bytes_at}
 use Rattle.block_file.specs.Held.{Held}
 use Rattle.block_file.proofs.Held.{write_now, write_len, write_zeros}

@@ -1,14 +1,13 @@
-use Rattle.std.proofs.Common.{◌≡◌, ℕ, ◌+◌, ◌-◌, ◌*◌, ◌<◌, ◌≤◌, true, false, List, [], ◌++◌, ◌⊎◌, length, set, replicate, slice_index, slice_index_or, refl, sym, ◌∙◌, ap, subst, arith}
+use Rattle.std.proofs.Common.{◌≡◌, ℕ, ◌-◌, ◌*◌, ◌<◌, ◌≤◌, true, List, [], ◌++◌, ◌⊎◌, length, set, replicate, slice_index, slice_index_or, refl, sym, ◌∙◌, ap, subst, arith}
 use Rattle.std.proofs.lemmas.List.{get_or_read, length-set}
 use Rattle.copy_model.specs.Volume.{Volume, fail_commit, commit}
-use Rattle.disk_model.specs.Disk.{Image}
 use Rattle.disk_model.specs.Elapsed.{present, contents}
 use Rattle.disk_model.specs.Passes.{Passes, passes_only}
 use Rattle.block_file.specs.Layout.{size_in, change_in}
 use Rattle.block_file.specs.Blocks.{Safe, Holds, with_table, with_bytes}
 use Rattle.block_file.specs.Held.{Held, no_held}
-use Rattle.block_file.specs.Opened.{Opened, MayBeLeft, homes_by, StandsFor, volume_of, IsOpen}
-use Rattle.block_file.proofs.Openings.{content_of, safe_of, file_there, open_committed, open_failed, open_set, volume_set, leaves_either, commit_is, fail_commit_is, failed_is}
+use Rattle.block_file.specs.Opened.{Opened, MayBeLeft, homes_by, StandsFor, SameOpening, volume_of, IsOpen}
+use Rattle.block_file.proofs.Openings.{content_of, safe_of, file_there, open_committed, open_failed, open_set, volume_set, leaves_either, commit_is, fail_commit_is, failed_is, same_opening}
 use Rattle.block_file.proofs.volume.Volume.commit.Goals as goal
 
 pub returns-then-self-clause-stands : goal.returns-then-self-clause-stands
@@ -346,3 +345,24 @@ returns-in-Done-clause-stands g c = λ told image may.
     (λ told. c.in-Done.ensures.stands told refl safe (sym c.table_at-table.ensures) (sym home_is) (opened.stands told c.if-self.false))
     (λ told. c.in-Done.ensures.content told refl safe content (sym c.table_at-table.ensures) (λ j b at. refl)))) in
     now.left told image may
+
+pub returns-in-Failed-clause-opening : goal.returns-in-Failed-clause-opening
+returns-in-Failed-clause-opening g c =
+    let v = c.self.inside in
+    let s = present (g.D.Disk.timeline v.disk) in
+    let held : ℕ → Held = λ j. slice_index_or v.held.items j no_held in
+    let tables : ℕ → List ℕ = λ j. slice_index_or v.tables.items j [] in
+    let later = contents (g.D.Disk.timeline c.commit_file.new.disk) in
+    subst (λ (w : Opened g.row.D.Denot). SameOpening w.volume (volume_of v.shape v.boot v.writes true c.args.file held tables later)) c.self.view_is
+    (same_opening v.shape v.boot v.writes v.writes v.broken true v.doubt c.args.file held held tables tables s.reads later)
+
+pub returns-in-Done-clause-opening : goal.returns-in-Done-clause-opening
+returns-in-Done-clause-opening g c =
+    let v = c.self.inside in
+    let s = present (g.D.Disk.timeline v.disk) in
+    let held : ℕ → Held = λ j. slice_index_or v.held.items j no_held in
+    let tables : ℕ → List ℕ = λ j. slice_index_or v.tables.items j [] in
+    let after : ℕ → List ℕ = λ j. slice_index_or (set v.tables.items c.args.file c.next_table-next.result) j [] in
+    let later = contents (g.D.Disk.timeline c.commit_file.new.disk) in
+    subst (λ (w : Opened g.row.D.Denot). SameOpening w.volume (volume_of v.shape v.boot v.writes v.broken v.doubt held after later)) c.self.view_is
+    (same_opening v.shape v.boot v.writes v.writes v.broken v.broken v.doubt v.doubt held held tables after s.reads later)

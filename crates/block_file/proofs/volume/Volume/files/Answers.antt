@@ -1,13 +1,8 @@
-use Rattle.std.proofs.Common.{◌≡◌, ℕ, ◌+◌, ◌*◌, ◌<◌, ◌≤◌, List, [], length, slice_index, slice_index_or, refl, sym, ◌∙◌, ap, subst, arith}
-use Rattle.std.proofs.lemmas.List.{get_or_read}
-use Rattle.copy_model.specs.Volume.{File, file_at, no_file}
-use Rattle.disk_model.specs.Elapsed.{present, contents}
-use Rattle.block_file.specs.declared.info.FileInfo.{FileInfo}
+use Rattle.std.proofs.Common.{◌≡◌, ℕ, ◌+◌, List, [], length, slice_index_or, sym, subst}
+use Rattle.disk_model.specs.Elapsed.{contents}
 use Rattle.block_file.specs.Held.{Held, no_held}
-use Rattle.block_file.specs.Opened.{Opened, volume_of, homes_by, live_file}
-use Rattle.block_file.specs.Stored.{blocks_by}
-use Rattle.block_file.proofs.Openings.{file_there, file_is, files_len}
-use Rattle.block_file.proofs.Numbered.{length-numbered}
+use Rattle.block_file.specs.Opened.{Opened}
+use Rattle.block_file.proofs.Openings.{files_len}
 use Rattle.block_file.proofs.volume.Volume.files.Goals as goal
 
 pub returns-clause-count : goal.returns-clause-count

@@ -1,8 +1,8 @@
-use Rattle.std.proofs.Common.{◌≡◌, ℕ, ◌+◌, ◌<◌, ◌≤◌, List, [], length, slice_index_or, refl, sym, ◌∙◌, ap, subst, arith}
+use Rattle.std.proofs.Common.{ℕ, ◌≤◌, List, [], length, slice_index_or, sym, ◌∙◌, ap, arith}
 use Rattle.copy_model.specs.Volume.{File, bytes_at, file_at}
-use Rattle.disk_model.specs.Elapsed.{present, contents}
+use Rattle.disk_model.specs.Elapsed.{contents}
 use Rattle.block_file.specs.Held.{Held, no_held}
-use Rattle.block_file.specs.Opened.{Opened, volume_of}
+use Rattle.block_file.specs.Opened.{Opened}
 use Rattle.block_file.proofs.Openings.{file_there, file_is}
 use Rattle.block_file.proofs.volume.Volume.read.Goals as goal
 

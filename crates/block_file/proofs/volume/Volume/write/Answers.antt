@@ -1,12 +1,12 @@
-use Rattle.std.proofs.Common.{◌≡◌, ◌≢◌, ℕ, ◌+◌, ◌*◌, ◌<◌, ◌≤◌, true, false, List, [], length, set, slice_index, slice_index_or, Option, Some, None, Result, Ok, Err, refl, sym, ◌∙◌, ap, subst, arith}
+use Rattle.std.proofs.Common.{◌≡◌, ◌≢◌, ℕ, ◌+◌, ◌*◌, ◌<◌, ◌≤◌, List, [], length, set, slice_index, slice_index_or, Some, None, sym, ◌∙◌, ap, subst, arith}
 use Rattle.std.proofs.lemmas.Bool.{eqb-false, eqb-true}
 use Rattle.std.proofs.lemmas.List.{get_or_read, length-set}
-use Rattle.copy_model.specs.Volume.{Volume, write, fail_write, with_bytes_at}
-use Rattle.disk_model.specs.Elapsed.{present, contents}
+use Rattle.copy_model.specs.Volume.{write, with_bytes_at}
+use Rattle.disk_model.specs.Elapsed.{present}
 use Rattle.disk_model.specs.Passes.{Passes, passes_none}
 use Rattle.block_file.specs.Held.{Held, no_held}
-use Rattle.block_file.specs.Opened.{Opened, MayBeLeft, homes_by, StandsFor, volume_of, IsOpen, refusal_of}
-use Rattle.block_file.proofs.Openings.{file_there, passed_test, no_failure, write_empty, write_is, rooms_set, still_open}
+use Rattle.block_file.specs.Opened.{Opened, MayBeLeft, homes_by, StandsFor, SameOpening, volume_of, IsOpen, refusal_of}
+use Rattle.block_file.proofs.Openings.{file_there, passed_test, no_failure, write_empty, write_is, rooms_set, still_open, same_opening}
 use Rattle.block_file.proofs.volume.Volume.write.Goals as goal
 
 pub returns-in-Some-clause-tested : goal.returns-in-Some-clause-tested
@@ -198,3 +198,13 @@ returns-clause-stands g c = λ told image may.
     still_open g.D.Disk.Told (g.D.Disk.size v.disk) s v.shape v.tag v.boot v.writes (v.writes + 1) v.broken v.doubt homes held (λ j. slice_index_or (set v.held.items file c.write.new.self) j no_held) tables
     opened passed.0 (rooms_set v.shape v.held.items no_held c.write.new.self file hlt (ap (λ (h : Held). h.room) c.write.ensures ∙ ap (λ (h : Held). h.room) mine) opened.rooms) in
     now.left told image may
+
+pub returns-clause-opening : goal.returns-clause-opening
+returns-clause-opening g c =
+    let v = c.self.inside in
+    let s = present (g.D.Disk.timeline v.disk) in
+    let held : ℕ → Held = λ j. slice_index_or v.held.items j no_held in
+    let tables : ℕ → List ℕ = λ j. slice_index_or v.tables.items j [] in
+    let after : ℕ → Held = λ j. slice_index_or (set v.held.items c.args.file c.write.new.self) j no_held in
+    subst (λ (w : Opened g.row.D.Denot). SameOpening w.volume (volume_of v.shape v.boot (v.writes + 1) v.broken v.doubt after tables s.reads)) c.self.view_is
+    (same_opening v.shape v.boot v.writes (v.writes + 1) v.broken v.broken v.doubt v.doubt held after tables tables s.reads s.reads)
