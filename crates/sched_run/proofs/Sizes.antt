@@ -18,22 +18,20 @@ size_of-more (Stopped ∷ es) e total is = size_of-more es e total is
 size_of-more (Committed ∷ es) e total is = size_of-more es e total is
 size_of-more (Reported ∷ es) e total is = size_of-more es e total is
 
-pub size_of-stopped : (es : List Entry) → size_of es ≡ None → size_of (es ++ Stopped ∷ []) ≡ None
-size_of-stopped [] none = refl
-size_of-stopped (Sized n ∷ es) none = absurd (cc)
-size_of-stopped (Landed off n ∷ es) none = size_of-stopped es none
-size_of-stopped (Stopped ∷ es) none = size_of-stopped es none
-size_of-stopped (Committed ∷ es) none = size_of-stopped es none
-size_of-stopped (Reported ∷ es) none = size_of-stopped es none
+pub size_of-stopped : (es : List Entry) → size_of (es ++ Stopped ∷ []) ≡ size_of es
+size_of-stopped [] = refl
+size_of-stopped (Sized n ∷ es) = refl
+size_of-stopped (Landed off n ∷ es) = size_of-stopped es
+size_of-stopped (Stopped ∷ es) = size_of-stopped es
+size_of-stopped (Committed ∷ es) = size_of-stopped es
+size_of-stopped (Reported ∷ es) = size_of-stopped es
 
 -- a range that fits goes on to fit
-pub fits_more : (es : List Entry) (e : Entry) (total to capacity : ℕ) → size_of es ≡ Some total
-    → ((t : ℕ) → size_of es ≡ Some t → to + t ≤ capacity)
+pub fits_more : (es : List Entry) (e : Entry) (total to capacity : ℕ) → size_of es ≡ Some total → to + total ≤ capacity
     → (t : ℕ) → size_of (es ++ e ∷ []) ≡ Some t → to + t ≤ capacity
 fits_more es e total to capacity is fits t sized =
     let more = size_of-more es e total is in
     let same : total ≡ t = cc in
-    let at = fits total is in
     omega arith
 
 pub fits_sized : (es : List Entry) (len to capacity : ℕ) → size_of es ≡ None → to + len ≤ capacity
@@ -42,7 +40,3 @@ fits_sized es len to capacity none fits t sized =
     let now = size_of-sized es len none in
     let same : len ≡ t = cc in
     omega arith
-
-pub fits_stopped : (es : List Entry) (to capacity : ℕ) → size_of es ≡ None
-    → (t : ℕ) → size_of (es ++ Stopped ∷ []) ≡ Some t → to + t ≤ capacity
-fits_stopped es to capacity none t sized = let now = size_of-stopped es none in absurd (cc)

@@ -6,8 +6,8 @@ use Rattle.copy_model.specs.Job.{Plan, size_of}
 use Rattle.copy_job.specs.declared.plan.Plan.{Plan as JobPlan}
 use Rattle.sched_text.specs.declared.event.CopySpec.{CopySpec}
 use Rattle.sched_run.specs.declared.copying.Copying.{Copying}
-use Rattle.plain_machine.specs.Machine.{State}
-use Rattle.plain_machine.specs.Machine as machine
+use Rattle.run_machine.specs.Machine.{State}
+use Rattle.run_machine.specs.Machine as machine
 
 -- the plan of a copy: the job's, with the file that it reads
 abbrev pub whole_plan : ℕ → JobPlan → Plan
@@ -54,8 +54,10 @@ pub record CanWork (source dest : Volume) (c : Copying) : Type 0 where
   pub lands : c.job.plan.file < length dest.files
   pub fits : (total : ℕ) → size_of c.job.entries ≡ Some total → c.job.plan.to + total ≤ dest.capacity
 
--- The step left a copy that can go on, at a volume of as many files that was written to once at most.
-pub record StillWorks (source old new : Volume) (c : Copying) : Type 0 where
-  pub can : CanWork source new c
-  pub files : length new.files ≡ length old.files
-  pub written : new.writes ≤ old.writes + 1
+-- The step left a copy that can go on, at volumes of as many files that were written to once at most.
+pub record StillWorks (source now_source dest now_dest : Volume) (c : Copying) : Type 0 where
+  pub can : CanWork now_source now_dest c
+  pub source_files : length now_source.files ≡ length source.files
+  pub dest_files : length now_dest.files ≡ length dest.files
+  pub source_written : now_source.writes ≡ source.writes
+  pub dest_written : now_dest.writes ≤ dest.writes + 1

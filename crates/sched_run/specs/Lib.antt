@@ -1,5 +1,9 @@
+pub mod Blame
+pub mod Fresh
 pub mod Running
 pub mod Copy
 pub mod System
+pub mod Making
 pub mod Run
 pub mod Client
+pub mod Calls

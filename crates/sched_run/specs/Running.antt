@@ -1,33 +1,82 @@
--- What contracts see of a system that runs a schedule: what its lines so far leave open, and the
--- machine's state.
-use Rattle.std.specs.Prelude.{◌≡◌, ℕ, List}
+-- What contracts see of a system that runs a schedule: what its lines so far leave open, the machine's
+-- state, and the two disks.
+use Rattle.std.specs.Prelude.{◌≡◌, ℕ, true, false, Option, None, Some, is_some, ◌⊎◌, List, []}
+use Rattle.std.specs.String.{string_bytes}
+use Rattle.outcome.specs.Causes.{Rose}
+use Rattle.nfs_base.specs.declared.side.Side.TheVariants.{Source, Dest}
 use Rattle.sched_text.specs.declared.context.Context.{Context}
 use Rattle.sched_text.specs.declared.event.Event.{Event}
 use Rattle.sched_text.specs.declared.line.Line.{Line}
-use Rattle.sched_text.specs.Admission.{at_start, after}
+use Rattle.sched_text.specs.Admission.{at_start, after, is_ready}
 use Rattle.sched_text.specs.LineText.{lines_text}
-use Rattle.plain_machine.specs.Machine.{State, Step, at_boot, happens}
+use Rattle.run_machine.specs.declared.choice.Choice.{Choice}
+use Rattle.run_machine.specs.Machine.{State, Step, at_boot, happens}
+use Rattle.sched_run.specs.declared.fresh.Unmade.{Unmade}
+use Rattle.sched_run.specs.declared.fresh.Unmade.TheVariants.{DiskFailed, TooSmall, NotVolume}
+use Rattle.sched_run.specs.declared.system.Stepped.{Stepped}
+use Rattle.sched_run.specs.declared.system.Stepped.TheVariants as stepped
+use Rattle.sched_run.specs.Blame.{failed, size_in, faults_in, Later}
+use Rattle.sched_run.specs.Fresh.{event_small}
 
-pub record Running : Type 0 where
+pub record Running (D : Type 0) : Type 0 where
   pub context : Context
   pub state : State
+  pub source : Option D
+  pub dest : Option D
 
--- before the first event
-abbrev pub at_rest : Running
-at_rest = record { context = at_start; state = at_boot }
+-- before the first event, with these disks
+abbrev pub at_rest : {D : Type 0} → Option D → Option D → Running D
+at_rest source dest = record { context = at_start; state = at_boot; source = source; dest = dest }
+
+-- both disks are there, on their own or under a volume
+pub record HasDisks {D : Type 0} (r : Running D) : Type 0 where
+  pub source : is_some r.source ≡ true
+  pub dest : is_some r.dest ≡ true
 
 -- the machine's step was made: this is its state, and these are its lines
 pub record IsStep (step : Step) (state : State) (lines : List Line) : Type 0 where
   pub state_is : state ≡ step.state
   pub lines_is : lines ≡ step.lines
 
--- the event was carried out, and these are its lines
-pub record IsDone (old new : Running) (event : Event) (lines : List Line) : Type 0 where
+-- What each event leaves of the disks, by what they did in it. Where both volumes aren't there yet, it
+-- prints nothing.
+pub record IsBorne {D : Type 0} (faults size : D → ℕ) (old new : Running D) (event : Event) (choice : Choice) : Type 0 where
   pub context : new.context ≡ after old.context event
-  pub step : IsStep (happens old.state event) new.state lines
+  pub fits : event_small (size_in size old.source) (size_in size old.dest) event ≡ None
+  pub source : Later faults size (failed choice Source) old.source new.source
+  pub dest : Later faults size (failed choice Dest) old.dest new.dest
+
+-- the event was carried out, and these are its lines
+pub record IsDone {D : Type 0} (told : Type 0) (faults size : D → ℕ) (old new : Running D) (event : Event) (choice : Choice)
+    (lines : List Line) : Type 0 where
+  pub borne : IsBorne faults size old new event choice
+  pub quiet : is_ready old.context ≡ false → lines ≡ []
+  pub step : told → IsStep (happens old.state choice event) new.state lines
 
 -- the event was carried out, and this is the text of its lines
-pub record IsCarriedOut (old new : Running) (event : Event) (text : List ℕ) : Type 0 where
-  pub context : new.context ≡ after old.context event
-  pub state : new.state ≡ (happens old.state event).state
-  pub text_is : text ≡ lines_text (happens old.state event).lines
+pub record IsCarriedOut {D : Type 0} (told : Type 0) (faults size : D → ℕ) (old new : Running D) (event : Event) (choice : Choice)
+    (text : List ℕ) : Type 0 where
+  pub borne : IsBorne faults size old new event choice
+  pub quiet : is_ready old.context ≡ false → text ≡ []
+  pub state : told → new.state ≡ (happens old.state choice event).state
+  pub text_is : told → text ≡ lines_text (happens old.state choice event).lines
+
+-- why a volume wasn't made, by the two disks before and after
+abbrev pub UnmadeFor : {D : Type 0} → (told : Type 0) → (faults size : D → ℕ) → Running D → Running D → Event → Unmade → Type 0
+UnmadeFor told faults size old new event DiskFailed =
+    Rose (faults_in faults old.source) (faults_in faults new.source) ⊎ Rose (faults_in faults old.dest) (faults_in faults new.dest)
+UnmadeFor told faults size old new event (TooSmall need have) =
+    event_small (size_in size old.source) (size_in size old.dest) event ≡ Some (record { need = need; have = have })
+UnmadeFor told faults size old new event (NotVolume block at) = told → ⊥
+
+-- the event's volume wasn't made
+pub record IsRefused {D : Type 0} (told : Type 0) (faults size : D → ℕ) (old new : Running D) (event : Event) (cause : Unmade) : Type 0 where
+  pub early : is_ready old.context ≡ false
+  pub why : UnmadeFor told faults size old new event cause
+  pub source : Later faults size 0 old.source new.source
+  pub dest : Later faults size 0 old.dest new.dest
+
+-- what a step left, by its answer
+abbrev pub StepIs : {D : Type 0} → (told : Type 0) → (faults size : D → ℕ) → Running D → Running D → Event → Stepped → Type 0
+StepIs told faults size old new event (stepped.Went choice text) = IsCarriedOut told faults size old new event choice (string_bytes text)
+StepIs told faults size old new event (stepped.Unmade cause) = IsRefused told faults size old new event cause

@@ -1,58 +1,87 @@
-ghost use Rattle.std.specs.Prelude.{◌≡◌, ◌+◌, ◌-◌, ◌<◌, ◌≤◌, ◌^◌, length, IfOk, OnOk, OnErr, [], ◌∷◌};
-ghost use Rattle.copy_model.specs.Volume.{file_at, bytes_at};
-ghost use Rattle.sched_run.specs.Client.{volume_written, write_note, refusal_of, progress_note};
+ghost use Rattle.std.specs.Prelude.{◌≡◌, ℕ, ◌+◌, ◌-◌, ◌<◌, ◌≤◌, ◌^◌, length, IfOk, OnErr, [], ◌∷◌};
+ghost use Rattle.block_file.specs.Opened.{SameOpening};
+ghost use Rattle.sched_run.specs.Blame.{Blamed};
+ghost use Rattle.sched_run.specs.Client.{volume_written, write_note, refusal_of, progress_note, peek_lines};
+ghost use Rattle.sched_run.specs.Calls.{PeekBlamed};
 
 use crate::copying::Copying;
-use block_file::{PlainVolume, TooFar};
+use crate::turn::Turn;
+use block_file::{ReadFault, Volume, WriteFault};
+use disk_model::Disk;
 use nfs_base::{Note, Side, Status};
 use outcome::Mem;
+use run_machine::Choice;
 use sched_text::{CopySpec, Line};
 use std::alloc::Global;
 use wire_xdr::Octets;
 
 /// The client writes to a file of the source's volume, or is refused. Want of memory changes nothing.
-pub fn client_writes(
+pub fn client_writes<D: Disk>(
     alloc: Global,
-    source: &mut PlainVolume,
+    source: &mut Volume<D>,
     file: u32,
     off: u64,
     bytes: &[u8],
-) -> Mem<Vec<Line>>
+) -> Mem<Turn>
     requires no_root { 1 ≤ file }
-    requires there { file < length source.old.files }
-    requires not_worn { source.old.writes < 2 ^ 32 - 1 }
+    requires there { file < length source.old.volume.files }
+    requires not_worn { source.old.volume.writes < 2 ^ 32 - 1 }
     requires short { length bytes.now < 2 ^ 32 }
-    ensures volume { OnOk result (source.new ≡ volume_written source.old file off bytes.now) }
-    ensures lines { IfOk result (λ lines. lines.items ≡ Line.Note (write_note source.old file off bytes.now) ∷ []) }
+    ensures volume { D.Told → IfOk result (λ turn. source.new.volume ≡ volume_written source.old.volume turn.choice file off bytes.now) }
+    ensures lines { IfOk result (λ turn. turn.lines.items ≡ Line.Note (write_note source.old.volume turn.choice file off bytes.now) ∷ []) }
+    ensures blamed { IfOk result (λ turn. (n : ℕ) → Blamed turn.choice (D.faults source.old.disk) (D.faults source.new.disk) n n) }
+    ensures opening { SameOpening source.old.volume source.new.volume }
+    ensures written { source.new.volume.writes ≤ source.old.volume.writes + 1 }
+    ensures size { D.size source.new.disk ≡ D.size source.old.disk }
     ensures err { OnErr result (source.new ≡ source.old) }
 {
     let mut lines = Vec::with_capacity(alloc, 1)?;
-    let note = client_write(source, file, off, bytes)?;
+    let (choice, note) = client_write(source, file, off, bytes);
     lines.push_reserved(Line::Note(note));
-    Ok(lines)
+    Ok(Turn { choice, lines })
 }
 
-/// The client's write, and what it learns of it.
-fn client_write(source: &mut PlainVolume, file: u32, off: u64, bytes: &[u8]) -> Mem<Note>
+/// The client's write: what the disk did, and what the client learns.
+fn client_write<D: Disk>(
+    source: &mut Volume<D>,
+    file: u32,
+    off: u64,
+    bytes: &[u8],
+) -> (Choice, Note)
     requires no_root { 1 ≤ file }
-    requires there { file < length source.old.files }
-    requires not_worn { source.old.writes < 2 ^ 32 - 1 }
+    requires there { file < length source.old.volume.files }
+    requires not_worn { source.old.volume.writes < 2 ^ 32 - 1 }
     requires short { length bytes.now < 2 ^ 32 }
-    ensures volume { OnOk result (source.new ≡ volume_written source.old file off bytes.now) }
-    ensures note { IfOk result (λ note. note ≡ write_note source.old file off bytes.now) }
-    ensures err { OnErr result (source.new ≡ source.old) }
+    ensures volume { D.Told → source.new.volume ≡ volume_written source.old.volume result.0 file off bytes.now }
+    ensures note { result.1 ≡ write_note source.old.volume result.0 file off bytes.now }
+    ensures blamed { (n : ℕ) → Blamed result.0 (D.faults source.old.disk) (D.faults source.new.disk) n n }
+    ensures opening { SameOpening source.old.volume source.new.volume }
+    ensures written { source.new.volume.writes ≤ source.old.volume.writes + 1 }
+    ensures size { D.size source.new.disk ≡ D.size source.old.disk }
 {
-    match source.write(file, off, bytes)? {
-        Ok(()) => Ok(Note::Written {
-            side: Side::Source,
-            file,
-            count: bytes.len() as u32,
-        }),
-        Err(TooFar) => Ok(Note::Refused {
-            side: Side::Source,
-            file,
-            status: Status::FBIG,
-        }),
+    match source.write(file, off, bytes) {
+        Ok(()) => {
+            let side = Side::Source;
+            let count = bytes.len() as u32;
+            (Choice::Went, Note::Written { side, file, count })
+        }
+        Err(WriteFault::Broken) => (Choice::Went, refused(file, Status::IO)),
+        Err(WriteFault::TooFar) => (Choice::Went, refused(file, Status::FBIG)),
+        Err(WriteFault::DiskFailed) => {
+            (Choice::FailedAt(Side::Source), refused(file, Status::IO))
+        }
+        Err(WriteFault::Worn) => unreachable!(),
+    }
+}
+
+/// What the client learns of a write that is refused.
+fn refused(file: u32, status: Status) -> Note
+    ensures { result ≡ Note.Refused Side.Source file status }
+{
+    Note::Refused {
+        side: Side::Source,
+        file,
+        status,
     }
 }
 
@@ -84,30 +113,43 @@ pub fn progress(number: u8, copy: &Option<Copying>) -> Note
     }
 }
 
-/// Bytes of a file as they are now, as a line.
-pub fn peek(
+/// Bytes of a file as they are now, as a line, or nothing where they can't be read.
+pub fn peek<D: Disk>(
     alloc: Global,
     side: Side,
-    volume: &PlainVolume,
+    volume: &mut Volume<D>,
     file: u32,
     off: u64,
     len: u8,
-) -> Mem<Vec<Line>>
+) -> Mem<Turn>
     requires no_root { 1 ≤ file }
-    requires there { file < length volume.now.files }
+    requires there { file < length volume.old.volume.files }
     requires short { len ≤ 64 }
-    ensures { IfOk result (λ lines. lines.items ≡ Line.Bytes side file off (bytes_at (file_at volume.now file).now off len) ∷ []) }
+    ensures volume { D.Told → volume.new.volume ≡ volume.old.volume }
+    ensures lines { D.Told → IfOk result (λ turn. turn.lines.items ≡ peek_lines volume.old.volume turn.choice side file off len) }
+    ensures blamed { IfOk result (λ turn. PeekBlamed side turn.choice (D.faults volume.old.disk) (D.faults volume.new.disk)) }
+    ensures opening { SameOpening volume.old.volume volume.new.volume }
+    ensures written { volume.new.volume.writes ≡ volume.old.volume.writes }
+    ensures size { D.size volume.new.disk ≡ D.size volume.old.disk }
 {
     let mut room = [0; 64];
     let shown = &mut room[..len as usize];
-    volume.read(file, off, shown);
-    let bytes = Octets::from_slice(alloc, shown)?;
-    let mut lines = Vec::new(alloc);
-    lines.push(Line::Bytes {
-        side,
-        file,
-        off,
-        bytes,
-    })?;
-    Ok(lines)
+    match volume.read(file, off, shown) {
+        Ok(()) => {
+            let bytes = Octets::from_slice(alloc, shown)?;
+            let mut turn = Turn::rest(alloc);
+            turn.lines.push(Line::Bytes {
+                side,
+                file,
+                off,
+                bytes,
+            })?;
+            Ok(turn)
+        }
+        Err(ReadFault::Broken) => Ok(Turn::rest(alloc)),
+        Err(ReadFault::DiskFailed) => Ok(Turn {
+            choice: Choice::FailedAt(side),
+            lines: Vec::new(alloc),
+        }),
+    }
 }

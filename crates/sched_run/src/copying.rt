@@ -1,15 +1,19 @@
-ghost use Rattle.std.specs.Prelude.{◌≡◌, ◌+◌, ◌-◌, ◌<◌, ◌≤◌, ◌^◌, IfOk, Some, None, false, length, [], ◌∷◌};
-ghost use Rattle.copy_model.specs.Volume.{file_at};
+ghost use Rattle.std.specs.Prelude.{◌≡◌, ℕ, ◌+◌, ◌-◌, ◌<◌, ◌≤◌, ◌^◌, IfOk, Some, None, false, length, [], ◌∷◌};
+ghost use Rattle.copy_model.specs.Volume.{Volume as Files, file_at};
 ghost use Rattle.copy_model.specs.Job.{size_of, has_ended, unlanded};
 ghost use Rattle.copy_job.specs.Log.{next_chunk, IsInside};
-ghost use Rattle.plain_machine.specs.Machine as machine;
+ghost use Rattle.run_machine.specs.Machine as machine;
+ghost use Rattle.sched_run.specs.Blame.{Blamed};
 ghost use Rattle.sched_run.specs.Copy.{copying_of, state_of, whole_plan, new_copying, CanWork, StillWorks};
 ghost use Rattle.sched_run.specs.Running.{IsStep};
 
-use block_file::{PlainVolume, TooFar};
+use crate::turn::Turn;
+use block_file::{ReadFault, Volume, WriteFault};
 use copy_job::{Chunk, Job, Plan};
-use nfs_base::{JobName, Note, Status, Stop};
+use disk_model::Disk;
+use nfs_base::{JobName, Note, Side, Status, Stop};
 use outcome::Mem;
+use run_machine::Choice;
 use sched_text::{CopySpec, Line};
 use std::alloc::Global;
 
@@ -23,8 +27,8 @@ pub struct Copying {
 }
 
 /// The name of the destination's one job.
-pub fn job_name(dest: &PlainVolume) -> JobName
-    ensures { result ≡ record { boot = dest.now.boot; number = 1 } }
+pub fn job_name<D: Disk>(dest: &Volume<D>) -> JobName
+    ensures { result ≡ record { boot = dest.now.volume.boot; number = 1 } }
 {
     JobName {
         boot: dest.boot(),
@@ -66,25 +70,6 @@ fn sizing(source_file: u32, plan: Plan, size: u64, capacity: u64) -> Result<u64,
     }
 }
 
-/// A list of one line.
-pub fn one_line(alloc: Global, note: Note) -> Mem<Vec<Line>>
-    ensures { IfOk result (λ lines. lines.items ≡ Line.Note note ∷ []) }
-{
-    let mut lines = Vec::new(alloc);
-    lines.push(Line::Note(note))?;
-    Ok(lines)
-}
-
-/// A list of two lines.
-fn two_lines(alloc: Global, first: Note, second: Note) -> Mem<Vec<Line>>
-    ensures { IfOk result (λ lines. lines.items ≡ Line.Note first ∷ Line.Note second ∷ []) }
-{
-    let mut lines = Vec::new(alloc);
-    lines.push(Line::Note(first))?;
-    lines.push(Line::Note(second))?;
-    Ok(lines)
-}
-
 impl Copying {
     /// A copy that was just accepted.
     pub fn new(number: u8, spec: CopySpec) -> Copying
@@ -105,22 +90,25 @@ impl Copying {
     }
 
     /// One step of the destination's worker at this copy.
-    pub fn work(
+    pub fn work<D: Disk>(
         &mut self,
         alloc: Global,
-        source: &PlainVolume,
-        dest: &mut PlainVolume,
-    ) -> Mem<Vec<Line>>
-        requires can { CanWork source.now dest.old self.old }
-        requires worn { dest.old.writes < 2 ^ 32 - 1 }
-        ensures step { IfOk result (λ lines. IsStep
-            (machine.works (state_of source.now dest.old self.old) (Some (copying_of self.old)))
-            (state_of source.now dest.new self.new)
-            lines.items) }
-        ensures still { StillWorks source.now dest.old dest.new self.new }
+        source: &mut Volume<D>,
+        dest: &mut Volume<D>,
+    ) -> Mem<Turn>
+        requires can { CanWork source.old.volume dest.old.volume self.old }
+        requires worn { dest.old.volume.writes < 2 ^ 32 - 1 }
+        ensures step { D.Told → IfOk result (λ turn. IsStep
+            (machine.works (state_of source.old.volume dest.old.volume self.old) turn.choice (Some (copying_of self.old)))
+            (state_of source.new.volume dest.new.volume self.new)
+            turn.lines.items) }
+        ensures still { StillWorks source.old.volume source.new.volume dest.old.volume dest.new.volume self.new }
+        ensures source_size { D.size source.new.disk ≡ D.size source.old.disk }
+        ensures dest_size { D.size dest.new.disk ≡ D.size dest.old.disk }
+        ensures blamed { IfOk result (λ turn. Blamed turn.choice (D.faults source.old.disk) (D.faults source.new.disk) (D.faults dest.old.disk) (D.faults dest.new.disk)) }
     {
         if self.job.is_ended() {
-            return Ok(Vec::new(alloc));
+            return Ok(Turn::rest(alloc));
         }
         match self.job.len() {
             Some(total) => self.go_on(alloc, source, dest, total),
@@ -129,165 +117,251 @@ impl Copying {
     }
 
     /// The first step: sizes the copy by the source file's size and goes on, or stops it.
-    fn begin(
+    fn begin<D: Disk>(
         &mut self,
         alloc: Global,
-        source: &PlainVolume,
-        dest: &mut PlainVolume,
-    ) -> Mem<Vec<Line>>
-        requires can { CanWork source.now dest.old self.old }
-        requires worn { dest.old.writes < 2 ^ 32 - 1 }
+        source: &mut Volume<D>,
+        dest: &mut Volume<D>,
+    ) -> Mem<Turn>
+        requires can { CanWork source.old.volume dest.old.volume self.old }
+        requires worn { dest.old.volume.writes < 2 ^ 32 - 1 }
         requires not_sized { size_of self.old.job.entries ≡ None }
         requires running { has_ended self.old.job.entries ≡ false }
-        ensures step { IfOk result (λ lines. IsStep
-            (machine.sizes (state_of source.now dest.old self.old) (copying_of self.old)
-            (machine.sizing (copying_of self.old).plan (length (file_at source.now self.old.source_file).now) dest.old.capacity))
-            (state_of source.now dest.new self.new)
-            lines.items) }
-        ensures still { StillWorks source.now dest.old dest.new self.new }
+        ensures step { D.Told → IfOk result (λ turn. IsStep
+            (machine.starts (state_of source.old.volume dest.old.volume self.old) turn.choice (copying_of self.old))
+            (state_of source.new.volume dest.new.volume self.new)
+            turn.lines.items) }
+        ensures still { StillWorks source.old.volume source.new.volume dest.old.volume dest.new.volume self.new }
+        ensures source_size { D.size source.new.disk ≡ D.size source.old.disk }
+        ensures dest_size { D.size dest.new.disk ≡ D.size dest.old.disk }
+        ensures blamed { IfOk result (λ turn. Blamed turn.choice (D.faults source.old.disk) (D.faults source.new.disk) (D.faults dest.old.disk) (D.faults dest.new.disk)) }
     {
+        if source.is_broken() {
+            return self.stop(alloc, dest, Choice::Went, Stop::DiskFault);
+        }
         let size = source.file(self.source_file).size;
         match sizing(self.source_file, self.job.plan(), size, dest.capacity()) {
             Ok(len) => self.begin_sized(alloc, source, dest, len),
-            Err(cause) => {
-                let stopped = Note::Stopped {
-                    job: job_name(dest),
-                    cause,
-                };
-                let failed = Note::Failed {
-                    copy: self.number,
-                    status: stop_status(cause),
-                };
-                let lines = two_lines(alloc, stopped, failed)?;
-                self.job.stop(cause);
-                Ok(lines)
-            }
+            Err(cause) => self.stop(alloc, dest, Choice::Went, cause),
         }
     }
 
     /// Sizes the copy and goes on in the same step.
-    fn begin_sized(
+    fn begin_sized<D: Disk>(
         &mut self,
         alloc: Global,
-        source: &PlainVolume,
-        dest: &mut PlainVolume,
+        source: &mut Volume<D>,
+        dest: &mut Volume<D>,
         len: u64,
-    ) -> Mem<Vec<Line>>
-        requires can { CanWork source.now dest.old self.old }
-        requires worn { dest.old.writes < 2 ^ 32 - 1 }
+    ) -> Mem<Turn>
+        requires can { CanWork source.old.volume dest.old.volume self.old }
+        requires worn { dest.old.volume.writes < 2 ^ 32 - 1 }
         requires not_sized { size_of self.old.job.entries ≡ None }
         requires running { has_ended self.old.job.entries ≡ false }
         requires reads { self.old.job.plan.from + len < 2 ^ 64 }
-        requires fits { self.old.job.plan.to + len ≤ dest.old.capacity }
+        requires fits { self.old.job.plan.to + len ≤ dest.old.volume.capacity }
         requires lands { self.old.job.plan.to + len < 2 ^ 64 }
-        ensures step { IfOk result (λ lines. IsStep
-            (machine.moves_sized (state_of source.now dest.old self.old) (copying_of self.old) len)
-            (state_of source.now dest.new self.new)
-            lines.items) }
-        ensures still { StillWorks source.now dest.old dest.new self.new }
+        ensures step { D.Told → IfOk result (λ turn. IsStep
+            (machine.moves_sized (state_of source.old.volume dest.old.volume self.old) turn.choice (copying_of self.old) len)
+            (state_of source.new.volume dest.new.volume self.new)
+            turn.lines.items) }
+        ensures still { StillWorks source.old.volume source.new.volume dest.old.volume dest.new.volume self.new }
+        ensures source_size { D.size source.new.disk ≡ D.size source.old.disk }
+        ensures dest_size { D.size dest.new.disk ≡ D.size dest.old.disk }
+        ensures blamed { IfOk result (λ turn. Blamed turn.choice (D.faults source.old.disk) (D.faults source.new.disk) (D.faults dest.old.disk) (D.faults dest.new.disk)) }
     {
-        let mut lines = one_line(
-            alloc,
-            Note::Sized {
-                job: job_name(dest),
-                len,
-            },
-        )?;
+        let sized = Note::Sized {
+            job: job_name(dest),
+            len,
+        };
+        let mut first = Turn::one(alloc, sized)?;
         self.job.size(len);
-        let mut later = self.go_on(alloc, source, dest, len)?;
-        lines.append(&mut later)?;
-        Ok(lines)
+        let mut turn = self.go_on(alloc, source, dest, len)?;
+        first.lines.append(&mut turn.lines)?;
+        Ok(Turn {
+            choice: turn.choice,
+            lines: first.lines,
+        })
     }
 
-    /// A step of a sized copy: lands the first chunk that hasn't landed, or commits.
-    fn go_on(
+    /// A step of a sized copy: fetches and lands the first chunk that hasn't landed, or commits.
+    fn go_on<D: Disk>(
         &mut self,
         alloc: Global,
-        source: &PlainVolume,
-        dest: &mut PlainVolume,
+        source: &mut Volume<D>,
+        dest: &mut Volume<D>,
         total: u64,
-    ) -> Mem<Vec<Line>>
-        requires can { CanWork source.now dest.old self.old }
-        requires worn { dest.old.writes < 2 ^ 32 - 1 }
+    ) -> Mem<Turn>
+        requires can { CanWork source.old.volume dest.old.volume self.old }
+        requires worn { dest.old.volume.writes < 2 ^ 32 - 1 }
         requires sized { size_of self.old.job.entries ≡ Some total }
         requires running { has_ended self.old.job.entries ≡ false }
-        ensures step { IfOk result (λ lines. IsStep
-            (machine.moves (state_of source.now dest.old self.old) (copying_of self.old) total (unlanded self.old.job.entries total))
-            (state_of source.now dest.new self.new)
-            lines.items) }
-        ensures still { StillWorks source.now dest.old dest.new self.new }
+        ensures step { D.Told → IfOk result (λ turn. IsStep
+            (machine.moves (state_of source.old.volume dest.old.volume self.old) turn.choice (copying_of self.old) total (unlanded self.old.job.entries total))
+            (state_of source.new.volume dest.new.volume self.new)
+            turn.lines.items) }
+        ensures still { StillWorks source.old.volume source.new.volume dest.old.volume dest.new.volume self.new }
+        ensures source_size { D.size source.new.disk ≡ D.size source.old.disk }
+        ensures dest_size { D.size dest.new.disk ≡ D.size dest.old.disk }
+        ensures blamed { IfOk result (λ turn. Blamed turn.choice (D.faults source.old.disk) (D.faults source.new.disk) (D.faults dest.old.disk) (D.faults dest.new.disk)) }
     {
         match self.job.unlanded() {
-            Some(chunk) => self.land(alloc, source, dest, chunk, total),
+            Some(chunk) => self.fetch(alloc, source, dest, chunk, total),
             None => self.commit(alloc, source, dest, total),
         }
     }
 
     /// Reads a chunk at the source and lands it at the destination.
-    fn land(
+    fn fetch<D: Disk>(
         &mut self,
         alloc: Global,
-        source: &PlainVolume,
-        dest: &mut PlainVolume,
+        source: &mut Volume<D>,
+        dest: &mut Volume<D>,
         chunk: Chunk,
         total: u64,
-    ) -> Mem<Vec<Line>>
-        requires can { CanWork source.now dest.old self.old }
-        requires worn { dest.old.writes < 2 ^ 32 - 1 }
+    ) -> Mem<Turn>
+        requires can { CanWork source.old.volume dest.old.volume self.old }
+        requires worn { dest.old.volume.writes < 2 ^ 32 - 1 }
         requires sized { size_of self.old.job.entries ≡ Some total }
         requires running { has_ended self.old.job.entries ≡ false }
         requires next { next_chunk self.old.job.entries ≡ Some chunk }
         requires inside { IsInside self.old.job.plan self.old.job.entries chunk }
-        ensures step { IfOk result (λ lines. IsStep
-            (machine.moves (state_of source.now dest.old self.old) (copying_of self.old) total (Some chunk.off))
-            (state_of source.now dest.new self.new)
-            lines.items) }
-        ensures still { StillWorks source.now dest.old dest.new self.new }
+        ensures step { D.Told → IfOk result (λ turn. IsStep
+            (machine.moves (state_of source.old.volume dest.old.volume self.old) turn.choice (copying_of self.old) total (Some chunk.off))
+            (state_of source.new.volume dest.new.volume self.new)
+            turn.lines.items) }
+        ensures still { StillWorks source.old.volume source.new.volume dest.old.volume dest.new.volume self.new }
+        ensures source_size { D.size source.new.disk ≡ D.size source.old.disk }
+        ensures dest_size { D.size dest.new.disk ≡ D.size dest.old.disk }
+        ensures blamed { IfOk result (λ turn. Blamed turn.choice (D.faults source.old.disk) (D.faults source.new.disk) (D.faults dest.old.disk) (D.faults dest.new.disk)) }
     {
         let plan = self.job.plan();
-        let lines = one_line(
-            alloc,
-            Note::Landed {
-                job: job_name(dest),
-                off: chunk.off,
-                len: chunk.len,
-            },
-        )?;
         let mut piece = vec![in alloc; 0; chunk.len as usize]?;
-        source.read(self.source_file, plan.from + chunk.off, &mut piece);
-        match dest.write(plan.file, plan.to + chunk.off, &piece)? {
+        match source.read(self.source_file, plan.from + chunk.off, &mut piece) {
+            Ok(()) => self.land(alloc, dest, chunk, &piece, total),
+            Err(ReadFault::Broken) => self.stop(alloc, dest, Choice::Went, Stop::DiskFault),
+            Err(ReadFault::DiskFailed) => {
+                self.stop(alloc, dest, Choice::FailedAt(Side::Source), Stop::DiskFault)
+            }
+        }
+    }
+
+    /// Lands a chunk's bytes at the destination.
+    fn land<D: Disk>(
+        &mut self,
+        alloc: Global,
+        dest: &mut Volume<D>,
+        chunk: Chunk,
+        piece: &[u8],
+        total: u64,
+    ) -> Mem<Turn>
+        requires lands_low { 1 ≤ self.old.job.plan.file }
+        requires lands { self.old.job.plan.file < length dest.old.volume.files }
+        requires fits { self.old.job.plan.to + total ≤ dest.old.volume.capacity }
+        requires worn { dest.old.volume.writes < 2 ^ 32 - 1 }
+        requires sized { size_of self.old.job.entries ≡ Some total }
+        requires running { has_ended self.old.job.entries ≡ false }
+        requires next { next_chunk self.old.job.entries ≡ Some chunk }
+        requires inside { IsInside self.old.job.plan self.old.job.entries chunk }
+        requires whole { length piece.now ≡ chunk.len }
+        ensures step { D.Told → (source : Files)
+            → piece.now ≡ machine.chunk_bytes (state_of source dest.old.volume self.old) (copying_of self.old) total chunk.off
+            → IfOk result (λ turn. IsStep
+            (machine.lands (state_of source dest.old.volume self.old) turn.choice (copying_of self.old) total chunk.off)
+            (state_of source dest.new.volume self.new)
+            turn.lines.items) }
+        ensures source_went { IfOk result (λ turn. machine.fails turn.choice Side.Source ≡ false) }
+        ensures still { (source : Files) → CanWork source dest.old.volume self.old
+            → StillWorks source source dest.old.volume dest.new.volume self.new }
+        ensures size { D.size dest.new.disk ≡ D.size dest.old.disk }
+        ensures blamed { IfOk result (λ turn. (n : ℕ) → Blamed turn.choice n n (D.faults dest.old.disk) (D.faults dest.new.disk)) }
+    {
+        let plan = self.job.plan();
+        let landed = Note::Landed {
+            job: job_name(dest),
+            off: chunk.off,
+            len: chunk.len,
+        };
+        let turn = Turn::one(alloc, landed)?;
+        match dest.write(plan.file, plan.to + chunk.off, piece) {
             Ok(()) => {}
-            Err(TooFar) => unreachable!(),
+            Err(WriteFault::DiskFailed) => {
+                return self.stop(alloc, dest, Choice::FailedAt(Side::Dest), Stop::DiskFault);
+            }
+            Err(_) => return self.stop(alloc, dest, Choice::Went, Stop::DiskFault),
         }
         self.job.land(chunk);
-        Ok(lines)
+        Ok(turn)
     }
 
     /// Commits the destination file: the copy is whole, and the client learns that it is stable.
-    fn commit(
+    fn commit<D: Disk>(
         &mut self,
         alloc: Global,
-        source: &PlainVolume,
-        dest: &mut PlainVolume,
+        source: &mut Volume<D>,
+        dest: &mut Volume<D>,
         total: u64,
-    ) -> Mem<Vec<Line>>
-        requires can { CanWork source.now dest.old self.old }
+    ) -> Mem<Turn>
+        requires can { CanWork source.old.volume dest.old.volume self.old }
         requires sized { size_of self.old.job.entries ≡ Some total }
         requires running { has_ended self.old.job.entries ≡ false }
         requires landed { next_chunk self.old.job.entries ≡ None }
-        ensures step { IfOk result (λ lines. IsStep
-            (machine.moves (state_of source.now dest.old self.old) (copying_of self.old) total None)
-            (state_of source.now dest.new self.new)
-            lines.items) }
-        ensures still { StillWorks source.now dest.old dest.new self.new }
+        ensures step { D.Told → IfOk result (λ turn. IsStep
+            (machine.moves (state_of source.old.volume dest.old.volume self.old) turn.choice (copying_of self.old) total None)
+            (state_of source.new.volume dest.new.volume self.new)
+            turn.lines.items) }
+        ensures still { StillWorks source.old.volume source.new.volume dest.old.volume dest.new.volume self.new }
+        ensures source_size { D.size source.new.disk ≡ D.size source.old.disk }
+        ensures dest_size { D.size dest.new.disk ≡ D.size dest.old.disk }
+        ensures blamed { IfOk result (λ turn. Blamed turn.choice (D.faults source.old.disk) (D.faults source.new.disk) (D.faults dest.old.disk) (D.faults dest.new.disk)) }
     {
         let committed = Note::Committed {
             job: job_name(dest),
         };
         let stable = Note::Stable { copy: self.number };
-        let lines = two_lines(alloc, committed, stable)?;
-        dest.commit(self.job.plan().file)?;
+        let mut turn = Turn::one(alloc, committed)?;
+        turn.lines.push(Line::Note(stable))?;
+        match dest.commit(self.job.plan().file) {
+            Ok(()) => {}
+            Err(ReadFault::Broken) => {
+                return self.stop(alloc, dest, Choice::Went, Stop::DiskFault);
+            }
+            Err(ReadFault::DiskFailed) => {
+                return self.stop(alloc, dest, Choice::FailedAt(Side::Dest), Stop::DiskFault);
+            }
+        }
         self.job.commit();
-        Ok(lines)
+        Ok(turn)
+    }
+
+    /// Stops the copy, in a step in which the disks did this.
+    fn stop<D: Disk>(
+        &mut self,
+        alloc: Global,
+        dest: &Volume<D>,
+        choice: Choice,
+        cause: Stop,
+    ) -> Mem<Turn>
+        requires { has_ended self.old.job.entries ≡ false }
+        ensures choice { IfOk result (λ turn. turn.choice ≡ choice) }
+        ensures step { (source : Files) → IfOk result (λ turn. IsStep
+            (machine.stops (state_of source dest.now.volume self.old) (copying_of self.old) cause)
+            (state_of source dest.now.volume self.new)
+            turn.lines.items) }
+        ensures can { (source dest : Files) → CanWork source dest self.old → CanWork source dest self.new }
+    {
+        let stopped = Note::Stopped {
+            job: job_name(dest),
+            cause,
+        };
+        let failed = Note::Failed {
+            copy: self.number,
+            status: stop_status(cause),
+        };
+        let mut turn = Turn::one(alloc, stopped)?;
+        turn.lines.push(Line::Note(failed))?;
+        turn.choice = choice;
+        self.job.stop(cause);
+        Ok(turn)
     }
 }

@@ -1,11 +1,16 @@
-//! The runner: carries out a schedule over two volumes of plain byte lists, and prints the transcript.
+//! The runner: carries out a schedule over two volumes on disks, and prints the transcript.
 //!
 //! The contract to read first is [`System::run`]: what is put is exactly the text of the machine's
-//! lines (crate `plain_machine`), whose history keeps the promise of crate `copy_model`.
+//! lines (crate `run_machine`), whose history keeps the promise of crate `copy_model`.
 #![tactic(auto)]
 
 mod client;
 mod copying;
+mod fresh;
+mod server;
 mod system;
+mod turn;
 
-pub use system::{Ran, System};
+pub use fresh::Unmade;
+pub use server::Disks;
+pub use system::{Ran, Stepped, System};

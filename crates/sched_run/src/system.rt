@@ -5,15 +5,24 @@ ghost use Rattle.sched_text.specs.Admission.{admits, after};
 ghost use Rattle.sched_text.specs.LineText.{lines_text};
 
 use crate::client::{client_writes, peek, progress, refusal};
-use crate::copying::{Copying, job_name, one_line};
-use block_file::PlainVolume;
+use crate::copying::{Copying, job_name};
+use crate::fresh::Unmade;
+use crate::server::{Disks, Server};
+use crate::turn::Turn;
+use disk_model::Disk;
 use nfs_base::{Note, Side};
 use outcome::Mem;
 use rpc_msg::{Sink, put_all};
+use run_machine::Choice;
 use sched_text::{Context, CopySpec, Event, Line, Schedule};
 use std::alloc::Global;
 use std::marker::Model;
 use wire_xdr::Octets;
+
+// The tags of the two volumes of a run.
+const SOURCE_TAG: u64 = 1;
+
+const DEST_TAG: u64 = 2;
 
 /// How a run ended, want of memory aside.
 #[derive(Clone, Copy, Debug, PartialEq, Eq)]
@@ -23,21 +32,34 @@ pub enum Ran {
 
     /// The sink failed; a front of the transcript was put.
     WriteFault,
+
+    /// A server's volume could not be made; nothing was put.
+    Unmade(Unmade),
 }
 
-/// The two servers and the client of a run, over volumes of plain byte lists.
+/// What became of one event, want of memory aside.
 #[derive(Drop)]
-pub struct System {
+pub enum Stepped {
+    /// It was carried out: what the disks did in it, and the text of its lines.
+    Went { choice: Choice, text: String },
+
+    /// The server's volume could not be made; the run is over.
+    Unmade(Unmade),
+}
+
+/// The two servers and the client of a run, over volumes on two disks.
+#[derive(Drop)]
+pub struct System<D: Disk> {
     context: Context,
-    source: Option<PlainVolume>,
-    dest: Option<PlainVolume>,
+    source: Server<D>,
+    dest: Server<D>,
     copy: Option<Copying>,
 }
 
-impl Model for System {
+impl<D: Disk> Model for System<D> {
     ghost use Rattle.sched_run.specs.Running.{Running};
 
-    ghost Value = { Running };
+    ghost Value = { Running D };
 
     ghost use Rattle.sched_run.specs.System.{running_of, IsSound};
 
@@ -46,83 +68,103 @@ impl Model for System {
     ghost invariant = { λ s. IsSound s.context s.source s.dest s.copy };
 }
 
-impl System {
-    ghost use Rattle.std.specs.Prelude.{◌≡◌, IfOk, IsTrue};
+impl<D: Disk + Drop> System<D> {
+    ghost use Rattle.std.specs.Prelude.{◌≡◌, ◌*◌, ◌≤◌, IfOk, IsTrue, OnErr, Some};
     ghost use Rattle.std.specs.String.{string_bytes};
     ghost use Rattle.sched_text.specs.Admission.{admits, after};
-    ghost use Rattle.sched_run.specs.Running.{at_rest, IsDone, IsCarriedOut};
+    ghost use Rattle.sched_run.specs.Running.{at_rest, HasDisks, IsDone, StepIs};
+    ghost use Rattle.sched_run.specs.Run.{DiskHolds};
 
     /// Before the first event: no volume is there.
-    pub fn new() -> System
-        ensures { result ≡ at_rest }
+    pub fn new(disks: Disks<D>) -> System<D>
+        ensures { result ≡ at_rest disks.source disks.dest }
     {
         System {
             context: Context::start(),
-            source: None,
-            dest: None,
+            source: Server::new(disks.source),
+            dest: Server::new(disks.dest),
             copy: None,
         }
     }
 
-    /// Carries out one event, and gives the text of its lines. After want of memory the run is over:
-    /// what the event did so far stands.
-    pub fn step(&mut self, alloc: Global, event: &Event) -> Mem<String>
-        requires { IsTrue (admits self.old.context event.now) }
-        ensures { IfOk result (λ text. IsCarriedOut self.old self.new event.now (string_bytes text)) }
+    /// Gives the disks back. A crash of a disk leaves its volume as the run left it.
+    pub fn hand_back(self) -> Disks<D>
+        ensures source { result.source ≡ self.source }
+        ensures dest { result.dest ≡ self.dest }
+        ensures source_holds { D.Told → DiskHolds D.timeline D.size self.state.source result.source }
+        ensures dest_holds { D.Told → DiskHolds D.timeline D.size self.state.dest result.dest }
     {
-        let lines = self.carry_out(alloc, event)?;
-        text_of(alloc, &lines)
+        let System {
+            context: _,
+            source,
+            dest,
+            copy: _,
+        } = self;
+        Disks {
+            source: source.hand_back(),
+            dest: dest.hand_back(),
+        }
     }
 
-    /// Carries out one event, and gives its lines.
-    fn carry_out(&mut self, alloc: Global, event: &Event) -> Mem<Vec<Line>>
-        requires { IsTrue (admits self.old.context event.now) }
-        ensures { IfOk result (λ lines. IsDone self.old self.new event.now lines.items) }
+    /// Carries out one event, and gives the text of its lines. After want of memory, or where a volume
+    /// could not be made, the run is over: what the event did so far stands.
+    pub fn step(&mut self, alloc: Global, event: &Event) -> Mem<Stepped>
+        requires admitted { IsTrue (admits self.old.context event.now) }
+        requires disks { HasDisks self.old }
+        ensures { IfOk result (λ stepped. StepIs D.Told D.faults D.size self.old self.new event.now stepped) }
     {
         let next = self.context.after(event);
-        match event {
+        let turn = match event {
             Event::Volume {
                 side,
                 files,
                 blocks,
-            } => self.format(alloc, next, *side, *files, *blocks),
-            Event::Write { file, off, bytes } => self.write(alloc, next, *file, *off, bytes),
-            Event::Copy { copy, spec } => self.ask(alloc, next, *copy, *spec),
-            Event::Work => self.work(alloc, next),
-            Event::Status { copy } => self.tell(alloc, next, *copy),
+            } => return self.make(alloc, next, *side, *files, *blocks),
+            Event::Write { file, off, bytes } => self.write(alloc, next, *file, *off, bytes)?,
+            Event::Copy { copy, spec } => self.ask(alloc, next, *copy, *spec)?,
+            Event::Work => self.work(alloc, next)?,
+            Event::Status { copy } => self.tell(alloc, next, *copy)?,
             Event::Peek {
                 side,
                 file,
                 off,
                 len,
-            } => self.show(alloc, next, *side, *file, *off, *len),
-        }
+            } => self.show(alloc, next, *side, *file, *off, *len)?,
+        };
+        Ok(Stepped::Went {
+            choice: turn.choice,
+            text: text_of(alloc, &turn.lines)?,
+        })
     }
 
-    /// A server's volume is formatted and opened.
-    fn format(
+    /// Makes a server's volume.
+    fn make(
         &mut self,
         alloc: Global,
         next: Context,
         side: Side,
         files: u32,
         blocks: u32,
-    ) -> Mem<Vec<Line>>
+    ) -> Mem<Stepped>
         requires admitted { IsTrue (admits self.old.context (Event.Volume side files blocks)) }
         requires next_is { next ≡ after self.old.context (Event.Volume side files blocks) }
-        ensures { IfOk result (λ lines. IsDone self.old self.new (Event.Volume side files blocks) lines.items) }
+        requires disks { HasDisks self.old }
+        ensures { IfOk result (λ stepped. StepIs D.Told D.faults D.size self.old self.new (Event.Volume side files blocks) stepped) }
     {
-        match side {
-            Side::Source => {
-                self.source = Some(PlainVolume::new(alloc, files, blocks)?);
+        let made = match side {
+            Side::Source => self.source.make(alloc, files, blocks, SOURCE_TAG)?,
+            Side::Dest => self.dest.make(alloc, files, blocks, DEST_TAG)?,
+        };
+        match made {
+            Err(cause) => Ok(Stepped::Unmade(cause)),
+            Ok(()) => {
                 self.context = next;
-            }
-            Side::Dest => {
-                self.dest = Some(PlainVolume::new(alloc, files, blocks)?);
-                self.context = next;
+                Ok(Stepped::Went {
+                    choice: Choice::Went,
+                    text: String::new(alloc),
+                })
             }
         }
-        Ok(Vec::new(alloc))
     }
 
     /// The client writes to a file of the source.
@@ -133,33 +175,35 @@ impl System {
         file: u32,
         off: u64,
         bytes: &Octets,
-    ) -> Mem<Vec<Line>>
+    ) -> Mem<Turn>
         requires admitted { IsTrue (admits self.old.context (Event.Write file off bytes.now)) }
         requires next_is { next ≡ after self.old.context (Event.Write file off bytes.now) }
-        ensures { IfOk result (λ lines. IsDone self.old self.new (Event.Write file off bytes.now) lines.items) }
+        requires disks { HasDisks self.old }
+        ensures { IfOk result (λ turn. IsDone D.Told D.faults D.size self.old self.new (Event.Write file off bytes.now) turn.choice turn.lines.items) }
     {
-        let Some(source) = &mut self.source else {
+        let Server::Volume(source) = &mut self.source else {
             unreachable!()
         };
-        let lines = client_writes(alloc, source, file, off, bytes.as_slice())?;
+        let turn = client_writes(alloc, source, file, off, bytes.as_slice())?;
         self.context = next;
-        Ok(lines)
+        Ok(turn)
     }
 
     /// The client asks for a copy.
-    fn ask(&mut self, alloc: Global, next: Context, copy: u8, spec: CopySpec) -> Mem<Vec<Line>>
+    fn ask(&mut self, alloc: Global, next: Context, copy: u8, spec: CopySpec) -> Mem<Turn>
         requires admitted { IsTrue (admits self.old.context (Event.Copy copy spec)) }
         requires next_is { next ≡ after self.old.context (Event.Copy copy spec) }
-        ensures { IfOk result (λ lines. IsDone self.old self.new (Event.Copy copy spec) lines.items) }
+        requires disks { HasDisks self.old }
+        ensures { IfOk result (λ turn. IsDone D.Told D.faults D.size self.old self.new (Event.Copy copy spec) turn.choice turn.lines.items) }
     {
-        let Some(dest) = &self.dest else {
+        let Server::Volume(dest) = &self.dest else {
             unreachable!()
         };
         match refusal(spec, dest.capacity()) {
             Some(status) => {
-                let lines = one_line(alloc, Note::Failed { copy, status })?;
+                let turn = Turn::one(alloc, Note::Failed { copy, status })?;
                 self.context = next;
-                Ok(lines)
+                Ok(turn)
             }
             None => {
                 let accepted = Note::Accepted {
@@ -168,36 +212,40 @@ impl System {
                     to: spec.to,
                     count: spec.count,
                 };
-                let lines = one_line(alloc, accepted)?;
+                let turn = Turn::one(alloc, accepted)?;
                 self.copy = Some(Copying::new(copy, spec));
                 self.context = next;
-                Ok(lines)
+                Ok(turn)
             }
         }
     }
 
     /// One step of the destination's worker.
-    fn work(&mut self, alloc: Global, next: Context) -> Mem<Vec<Line>>
-        requires admitted { IsTrue (admits self.old.context Event.Work) }
-        requires next_is { next ≡ after self.old.context Event.Work }
-        ensures { IfOk result (λ lines. IsDone self.old self.new Event.Work lines.items) }
+    fn work(&mut self, alloc: Global, next: Context) -> Mem<Turn>
+        requires admitted { IsTrue (admits self.old.context (Event.Work)) }
+        requires next_is { next ≡ after self.old.context (Event.Work) }
+        requires disks { HasDisks self.old }
+        ensures { IfOk result (λ turn. IsDone D.Told D.faults D.size self.old self.new (Event.Work) turn.choice turn.lines.items) }
     {
         self.context = next;
-        match (&self.source, &mut self.dest, &mut self.copy) {
-            (Some(source), Some(dest), Some(copy)) => copy.work(alloc, source, dest),
-            _ => Ok(Vec::new(alloc)),
+        match (&mut self.source, &mut self.dest, &mut self.copy) {
+            (Server::Volume(source), Server::Volume(dest), Some(copy)) => {
+                copy.work(alloc, source, dest)
+            }
+            _ => Ok(Turn::rest(alloc)),
         }
     }
 
     /// The client asks how far its copy is.
-    fn tell(&mut self, alloc: Global, next: Context, copy: u8) -> Mem<Vec<Line>>
+    fn tell(&mut self, alloc: Global, next: Context, copy: u8) -> Mem<Turn>
         requires admitted { IsTrue (admits self.old.context (Event.Status copy)) }
         requires next_is { next ≡ after self.old.context (Event.Status copy) }
-        ensures { IfOk result (λ lines. IsDone self.old self.new (Event.Status copy) lines.items) }
+        requires disks { HasDisks self.old }
+        ensures { IfOk result (λ turn. IsDone D.Told D.faults D.size self.old self.new (Event.Status copy) turn.choice turn.lines.items) }
     {
-        let lines = one_line(alloc, progress(copy, &self.copy))?;
+        let turn = Turn::one(alloc, progress(copy, &self.copy))?;
         self.context = next;
-        Ok(lines)
+        Ok(turn)
     }
 
     /// Shows bytes of a file as they are now.
@@ -209,37 +257,55 @@ impl System {
         file: u32,
         off: u64,
         len: u8,
-    ) -> Mem<Vec<Line>>
+    ) -> Mem<Turn>
         requires admitted { IsTrue (admits self.old.context (Event.Peek side file off len)) }
         requires next_is { next ≡ after self.old.context (Event.Peek side file off len) }
-        ensures { IfOk result (λ lines. IsDone self.old self.new (Event.Peek side file off len) lines.items) }
+        requires disks { HasDisks self.old }
+        ensures { IfOk result (λ turn. IsDone D.Told D.faults D.size self.old self.new (Event.Peek side file off len) turn.choice turn.lines.items) }
     {
-        let lines = match (side, &self.source, &self.dest) {
-            (Side::Source, Some(source), _) => peek(alloc, side, source, file, off, len)?,
-            (Side::Dest, _, Some(dest)) => peek(alloc, side, dest, file, off, len)?,
-            _ => unreachable!(),
-        };
-        self.context = next;
-        Ok(lines)
+        match side {
+            Side::Source => {
+                let Server::Volume(source) = &mut self.source else {
+                    unreachable!()
+                };
+                let turn = peek(alloc, side, source, file, off, len)?;
+                self.context = next;
+                Ok(turn)
+            }
+            Side::Dest => {
+                let Server::Volume(dest) = &mut self.dest else {
+                    unreachable!()
+                };
+                let turn = peek(alloc, side, dest, file, off, len)?;
+                self.context = next;
+                Ok(turn)
+            }
+        }
     }
 }
 
-impl System {
+impl<D: Disk + Drop> System<D> {
     ghost use Rattle.std.specs.Prelude.{◌≡◌, ◌≤◌, IfOk, OnErr};
-    ghost use Rattle.rpc_msg.specs.Sink.{AppendsFront};
-    ghost use Rattle.sched_run.specs.Running.{at_rest};
-    ghost use Rattle.sched_run.specs.Run.{run_text, RanIs, RanHasCause};
+    ghost use Rattle.sched_run.specs.Blame.{size_in};
+    ghost use Rattle.sched_run.specs.Fresh.{first_small};
+    ghost use Rattle.sched_run.specs.Running.{at_rest, HasDisks};
+    ghost use Rattle.sched_run.specs.Run.{RanIs, RanOut, RanHasCause};
 
-    /// Carries out a schedule and puts its transcript, the lines of each event as soon as it is done.
+    /// Carries out a schedule and puts its transcript, the lines of each event as soon as it is done. Where
+    /// a volume can't be made nothing was put.
     pub fn run<K: Sink>(&mut self, alloc: Global, schedule: &Schedule, out: &mut K) -> Mem<Ran>
-        requires { self.old ≡ at_rest }
-        ensures ran { IfOk result (RanIs (K.taken out.old) (K.taken out.new) (run_text schedule.now)) }
-        ensures err { OnErr result (AppendsFront (K.taken out.old) (K.taken out.new) (run_text schedule.now)) }
+        requires rest { self.old ≡ at_rest self.old.source self.old.dest }
+        requires disks { HasDisks self.old }
+        ensures ran { IfOk result (RanIs D.Told D.faults D.size schedule.now self.old self.new (K.taken out.old) (K.taken out.new)) }
+        ensures err { OnErr result (RanOut D.Told (first_small (size_in D.size self.old.source) (size_in D.size self.old.dest) schedule.now) schedule.now (K.taken out.old) (K.taken out.new)) }
         ensures later { K.faults out.old ≤ K.faults out.new }
-        ensures cause { IfOk result (RanHasCause (K.faults out.old) (K.faults out.new)) }
+        ensures cause { IfOk result (RanHasCause D.faults self.old self.new (K.faults out.old) (K.faults out.new)) }
     {
         for event in schedule.events() {
-            let text = self.step(alloc, event)?;
+            let text = match self.step(alloc, event)? {
+                Stepped::Went { choice: _, text } => text,
+                Stepped::Unmade(cause) => return Ok(Ran::Unmade(cause)),
+            };
             match put_all(out, text.as_bytes()) {
                 Ok(()) => {}
                 Err(_) => return Ok(Ran::WriteFault),
@@ -267,6 +333,7 @@ fn text_of(alloc: Global, lines: &[Line]) -> Mem<String>
 #[cfg(test)]
 mod tests {
     use super::*;
+    use disk_model::MemoryDisk;
     use rpc_msg::MemSink;
     use std::test::Fail;
 
@@ -276,7 +343,10 @@ mod tests {
             b"volume s 1 1\nvolume d 1 1\nwrite s 1 0 30313233343536373839\ncopy 1 1 0 1 0 10 c\nwork 1\nstatus 1\nwork 1\npeek d 1 0 10\n";
         let schedule = Schedule::parse(rt.alloc(), text)?.ok().ok_or("a schedule")?;
         let mut out = MemSink::new(rt.alloc(), Vec::new(rt.alloc()));
-        let mut system = System::new();
+        let mut system = System::new(Disks {
+            source: Some(MemoryDisk::new(rt.alloc(), 9, Vec::new(rt.alloc()))),
+            dest: Some(MemoryDisk::new(rt.alloc(), 9, Vec::new(rt.alloc()))),
+        });
         let ran = system.run(rt.alloc(), &schedule, &mut out)?;
         assert_eq!(rt; ran, Ran::Whole);
         let want =

@@ -1,10 +1,53 @@
+use Rattle.std.proofs.Common.{◌≡◌, true, false, rules, refl, ap, length, ◌==◌}
+use Rattle.copy_model.specs.Volume.{fail_write}
 use Rattle.copy_model.specs.Job.{Landed}
-use Rattle.sched_run.proofs.Works.{still_landed}
+use Rattle.nfs_base.specs.declared.side.Side.TheVariants.{Dest}
+use Rattle.nfs_base.specs.declared.job.Stop.TheVariants.{DiskFault}
+use Rattle.block_file.specs.Opened.{Opened}
+use Rattle.run_machine.specs.declared.choice.Choice.TheVariants.{Went, FailedAt}
+use Rattle.run_machine.specs.Machine.{lands, Step}
+use Rattle.sched_run.specs.Copy.{copying_of, state_of}
+use Rattle.sched_run.proofs.Stops.{stopped_in, unlanded_broken, unlanded_failed}
+use Rattle.sched_run.proofs.Works.{can_more, can_still, same_volume, once}
 use Rattle.sched_run.proofs.copying.Copying.land.Goals as goal
 
+pub returns-in-Err-DiskFailed-clause-step : goal.returns-in-Err-DiskFailed-clause-step
+returns-in-Err-DiskFailed-clause-step g c = λ told source bytes.
+    let dest = c.args.dest.now.volume in
+    let whole : dest.broken ≡ false = search rules in
+    let failed : c.write.new.self.volume ≡ fail_write dest = search rules in
+    let same = unlanded_failed (state_of source dest c.args.self.now) (copying_of c.args.self.now) c.args.total c.args.chunk.off whole in
+    stopped_in _ (FailedAt Dest) DiskFault (λ x. lands (state_of source dest c.args.self.now) x (copying_of c.args.self.now) c.args.total c.args.chunk.off)
+    source source c.write.new.self.volume (fail_write dest) c.args.self.now c.stop.new.self
+    refl failed c.stop.ensures.choice c.stop.ensures.step (ap (λ (x : Step). x.state) same) (ap (λ (x : Step). x.lines) same)
+
+pub returns-in-Err : goal.returns-in-Err
+returns-in-Err g c =
+    let dest = c.args.dest.now.volume in
+    record {
+      step = λ told source bytes.
+          let broken : dest.broken ≡ true = search rules in
+          let kept : c.write.new.self ≡ c.args.dest.now = search rules in
+          let same = unlanded_broken (state_of source dest c.args.self.now) Went (copying_of c.args.self.now) c.args.total c.args.chunk.off broken in
+          stopped_in _ Went DiskFault (λ x. lands (state_of source dest c.args.self.now) x (copying_of c.args.self.now) c.args.total c.args.chunk.off)
+          source source c.write.new.self.volume dest c.args.self.now c.stop-in-Err.new.self
+          refl (ap (λ (v : Opened g.row.D.Denot). v.volume) kept) c.stop-in-Err.ensures.choice c.stop-in-Err.ensures.step
+          (ap (λ (x : Step). x.state) same) (ap (λ (x : Step). x.lines) same);
+      source_went = search rules;
+      still = search rules;
+      size = search rules;
+      blamed = search rules;
+    }
+
 pub returns-clause-still : goal.returns-clause-still
-returns-clause-still c =
-    let wrote = rw c.in-Ok.is at c.in_ok-write.ensures.written in
-    still_landed c.args.source.now c.args.dest.now c.write.new.self c.args.self.now
-    (Landed c.args.chunk.off c.args.chunk.len) c.land.new.self c.args.total _ _ _ c.requires.can c.requires.sized
-    wrote c.land.ensures
+returns-clause-still g c = λ source can_work.
+    let dest = c.args.dest.now.volume in
+    let can = can_more source dest c.args.self.now (Landed c.args.chunk.off c.args.chunk.len) c.land.new.self c.args.total
+    can_work c.requires.sized c.land.ensures in
+    record {
+      can = can_still source source dest c.write.new.self.volume _ can (same_volume source) c.write.ensures.opening;
+      source_files = refl;
+      dest_files = c.write.ensures.opening.files;
+      source_written = refl;
+      dest_written = once (length c.args.piece.now == 0) dest.writes c.write.new.self.volume.writes (search rules);
+    }

@@ -1,40 +1,69 @@
-use Rattle.std.proofs.Common.{arith, ◌∙◌}
-use Rattle.sched_run.proofs.Runs.{went, failed, starved, failed_end, front_along, run_at, run_end, admitted_item, admitted_along, on_err}
+use Rattle.std.proofs.Common.{ℕ, List, arith, ◌∙◌, ap, subst}
+use Rattle.std.specs.Io.KnownBytes.{Appends}
+use Rattle.rpc_msg.specs.Sink.{AppendsFront}
+use Rattle.sched_text.specs.declared.event.Event.{Event}
+use Rattle.sched_run.specs.Running.{Running, IsCarriedOut}
+use Rattle.sched_run.specs.Run.{RanIs, RanOut}
+use Rattle.sched_run.proofs.Runs.{begun, went, starved, failed_put, failed_end, whole, run_at, run_end, admitted_item, admitted_along, disks_later, on_err, small_in}
 use Rattle.sched_run.proofs.system.System.run.Goals as goal
+
+pub loop-event-init : goal.loop-event-init
+loop-event-init g c = record {
+  ran = begun _ _ _ c.events-event-items.result.now c.args.self.now _ (ap (λ (r : Running g.row.D.Denot). r.state) c.requires.rest);
+  admitted = admitted_along _ _ _ (ap (λ (r : Running g.row.D.Denot). r.context) c.requires.rest)
+      c.events-event-items.ensures.admitted;
+  disks = c.requires.disks;
+  later = omega arith;
+}
 
 pub returns-in_err-text-clause-err : goal.returns-in_err-text-clause-err
 returns-in_err-text-clause-err g c =
-    on_err _ _ (front_along _ _ _ _ c.events-event-items.ensures.same (starved _ _ _ _ _ c.loop-event.invariant.ran))
+    on_err _ _ (subst (λ (es : List Event). RanOut g.D.Disk.Told (small_in g.D.Disk.size c.args.self.now es) es (g.K.Sink.taken c.args.out.now) (g.K.Sink.taken c.loop-event.out))
+    c.events-event-items.ensures.same
+    (starved _ _ _ _ _ _ _ _ _ c.loop-event.invariant.ran c.loop-event.invariant.admitted))
 
 pub returns-in-Err-clause-ran : goal.returns-in-Err-clause-ran
 returns-in-Err-clause-ran g c =
-    front_along _ _ _ _ c.events-event-items.ensures.same
-    (failed _ _ _ _ _ _ _ _
-    (run_at _ _ _ _ _ _ c.loop-event-test.true c.event-item.is c.loop-event.invariant.ran)
-    (c.as_bytes.ensures.value ∙ c.in_ok-text.ensures.text_is)
-    c.in-Err.ensures.err)
+    let step : IsCarriedOut g.D.Disk.Told g.D.Disk.faults g.D.Disk.size c.loop-event.self c.step.new.self c.event-item.result c.in-Went.choice _ = rw c.in-Went.is at c.in_ok-text.ensures in
+    subst (λ (es : List Event). RanIs g.D.Disk.Told g.D.Disk.faults g.D.Disk.size es c.args.self.now c.step.new.self (g.K.Sink.taken c.args.out.now) (g.K.Sink.taken c.put_all.new.sink) _)
+    c.events-event-items.ensures.same
+    (failed_put _ _ _ _ _ _ _ _ _ _ _ _ _ _
+    (run_at _ _ _ _ _ _ _ _ _ _ c.loop-event-test.true c.event-item.is c.loop-event.invariant.ran)
+    (admitted_item _ _ _ _ c.loop-event-test.true c.event-item.is c.loop-event.invariant.admitted)
+    step (subst (λ (b : List ℕ). AppendsFront (g.K.Sink.taken c.loop-event.out) (g.K.Sink.taken c.put_all.new.sink) b) c.as_bytes.ensures.value c.in-Err.ensures.err))
 
 pub loop-event-preserved : goal.loop-event-preserved
 loop-event-preserved g c =
+    let step : IsCarriedOut g.D.Disk.Told g.D.Disk.faults g.D.Disk.size c.loop-event.self c.step.new.self c.event-item.result c.in-Went.choice _ = rw c.in-Went.is at c.in_ok-text.ensures in
+    let borne = step.borne in
     record {
-      ran = went _ _ _ _ _ _ _ _ _
-          (run_at _ _ _ _ _ _ c.loop-event-test.true c.event-item.is c.loop-event.invariant.ran)
-          c.in_ok-text.ensures.state
-          (c.as_bytes.ensures.value ∙ c.in_ok-text.ensures.text_is)
-          c.in-Ok.ensures.ok;
-      admitted = admitted_along _ _ _ c.in_ok-text.ensures.context
+      ran = went _ _ _ _ _ _ _ _ _ _ _ _ _ _
+          (run_at _ _ _ _ _ _ _ _ _ _ c.loop-event-test.true c.event-item.is c.loop-event.invariant.ran) step
+          (subst (λ (b : List ℕ). Appends (g.K.Sink.taken c.loop-event.out) (g.K.Sink.taken c.put_all.new.sink) b) c.as_bytes.ensures.value c.in-Ok.ensures.ok);
+      admitted = admitted_along _ _ _ borne.context
           (admitted_item _ _ _ _ c.loop-event-test.true c.event-item.is c.loop-event.invariant.admitted).1;
+      disks = disks_later _ _ _ _ _ _ c.loop-event.invariant.disks borne.source borne.dest;
       later = omega (arith, c.loop-event.invariant.later, c.in-Ok.ensures.cause.later);
     }
 
 pub returns-in_err-last-clause-err : goal.returns-in_err-last-clause-err
 returns-in_err-last-clause-err g c =
-    on_err _ _ (front_along _ _ _ _ c.events-event-items.ensures.same (starved _ _ _ _ _ c.loop-event.invariant.ran))
+    on_err _ _ (subst (λ (es : List Event). RanOut g.D.Disk.Told (small_in g.D.Disk.size c.args.self.now es) es (g.K.Sink.taken c.args.out.now) (g.K.Sink.taken c.loop-event.out))
+    c.events-event-items.ensures.same
+    (starved _ _ _ _ _ _ _ _ _ c.loop-event.invariant.ran c.loop-event.invariant.admitted))
+
+pub returns-in-Ok-put_all-clause-ran : goal.returns-in-Ok-put_all-clause-ran
+returns-in-Ok-put_all-clause-ran g c =
+    subst (λ (es : List Event). RanIs g.D.Disk.Told g.D.Disk.faults g.D.Disk.size es c.args.self.now c.loop-event.self (g.K.Sink.taken c.args.out.now) (g.K.Sink.taken c.put_all-2.new.sink) _)
+    c.events-event-items.ensures.same
+    (whole _ _ _ _ _ _ _ _ _ _
+    (run_end _ _ _ _ _ _ _ _ _ c.loop-event-test.false c.loop-event.invariant.ran)
+    (c.as_bytes-2.ensures.value ∙ c.in_ok-last.ensures) c.in-Ok-put_all.ensures.ok)
 
 pub returns-clause-ran : goal.returns-clause-ran
 returns-clause-ran g c =
-    front_along _ _ _ _ c.events-event-items.ensures.same
-    (failed_end _ _ _ _ _ _
-    (run_end _ _ _ _ _ c.loop-event-test.false c.loop-event.invariant.ran)
-    (c.as_bytes-2.ensures.value ∙ c.in_ok-last.ensures)
-    c.in-Err-put_all.ensures.err)
+    subst (λ (es : List Event). RanIs g.D.Disk.Told g.D.Disk.faults g.D.Disk.size es c.args.self.now c.loop-event.self (g.K.Sink.taken c.args.out.now) (g.K.Sink.taken c.put_all-2.new.sink) _)
+    c.events-event-items.ensures.same
+    (failed_end _ _ _ _ _ _ _ _ _ _
+    (run_end _ _ _ _ _ _ _ _ _ c.loop-event-test.false c.loop-event.invariant.ran)
+    (c.as_bytes-2.ensures.value ∙ c.in_ok-last.ensures) c.in-Err-put_all.ensures.err)
