@@ -1,5 +1,7 @@
-pub mod Status
 pub mod Command
+pub mod Status
 pub mod Notice
-pub mod Due
+pub mod Outside
+pub mod RunEnds
 pub mod Ends
+pub mod Puts

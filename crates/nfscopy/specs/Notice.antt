@@ -10,3 +10,7 @@ too_much_text = codes "too much" ++ 10 ∷ []
 -- the first line that can't stand in a schedule
 abbrev pub bad_line_text : ℕ → List ℕ
 bad_line_text n = codes "bad line " ++ decimal n ++ 10 ∷ []
+
+-- a disk that doesn't hold a volume, by the first field that is off: its block and the byte there
+abbrev pub not_volume_text : (block at : ℕ) → List ℕ
+not_volume_text block at = codes "not a volume " ++ (decimal block ++ (codes " " ++ (decimal at ++ 10 ∷ [])))

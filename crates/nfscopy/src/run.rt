@@ -1,14 +1,17 @@
-ghost use Rattle.std.specs.Prelude.{◌≤◌, Ok};
+ghost use Rattle.std.specs.Prelude.{◌≡◌, ◌≤◌, Ok, true, is_some};
 ghost use Rattle.sched_text.specs.ScheduleText.{schedule_of};
-ghost use Rattle.nfscopy.specs.Due.{due_schedule, refused};
-ghost use Rattle.nfscopy.specs.Ends.{outside, Puts, RunEnds, UsagePuts};
+ghost use Rattle.nfscopy.specs.Outside.{outside, disk_words};
+ghost use Rattle.nfscopy.specs.RunEnds.{ParsedEnds, RunEnds};
+ghost use Rattle.nfscopy.specs.Ends.{UsagePuts};
+ghost use Rattle.nfscopy.specs.Puts.{LastPut, LinePut, UnmadePut};
 
-use crate::notice::{bad_line, too_much_line, usage_line};
+use crate::notice::{bad_line, not_volume_line, small_line, too_much_line, usage_line};
 use crate::status::Status;
+use disk_model::Disk;
 use outcome::NoMemory;
-use plain_machine::plain_runs;
 use rpc_msg::{Sink, Source, Whole, put_all, read_whole};
-use sched_run::{Ran, System};
+use run_machine::every_run;
+use sched_run::{Disks, Ran, System, Unmade};
 use sched_text::{Schedule, schedule_lines};
 use std::alloc::Global;
 
@@ -26,59 +29,111 @@ pub fn usage<K: Sink>(output: &mut K) -> Status
     }
 }
 
-/// Reads a schedule, carries it out and puts its transcript.
-pub fn run<S: Source, K: Sink>(alloc: Global, input: &mut S, output: &mut K) -> Status
-    ensures ends { RunEnds
-        (outside (S.left input.old) (K.taken output.old) (S.faults input.old) (K.faults output.old))
-        (outside (S.left input.new) (K.taken output.new) (S.faults input.new) (K.faults output.new))
+/// Reads a schedule, carries it out over the two disks and puts its transcript.
+pub fn run<S: Source, K: Sink, D: Disk + Drop>(
+    alloc: Global,
+    input: &mut S,
+    output: &mut K,
+    disks: &mut Disks<D>,
+) -> Status
+    requires source { is_some disks.old.source ≡ true }
+    requires dest { is_some disks.old.dest ≡ true }
+    ensures ends { RunEnds (disk_words D.Told D.faults D.size D.timeline)
+        (outside (S.left input.old) (K.taken output.old) (S.faults input.old) (K.faults output.old) disks.old.source disks.old.dest)
+        (outside (S.left input.new) (K.taken output.new) (S.faults input.new) (K.faults output.new) disks.new.source disks.new.dest)
         result }
     ensures reads_later { S.faults input.old ≤ S.faults input.new }
     ensures writes_later { K.faults output.old ≤ K.faults output.new }
 {
-    plain_runs();
+    every_run();
     schedule_lines();
     match read_whole(alloc, input, MOST_BYTES) {
-        Ok(Whole::Text(text)) => run_text(alloc, &text, output),
-        Ok(Whole::TooMuch) => refuse(output, too_much_line()),
+        Ok(Whole::Text(text)) => run_text(alloc, &text, output, disks),
+        Ok(Whole::TooMuch) => put_last(output, too_much_line(), Status::Refused),
         Ok(Whole::Failed) => Status::ReadFault,
         Err(NoMemory) => Status::NoMemory,
     }
 }
 
 /// Carries out the schedule of a text, and puts its transcript.
-fn run_text<K: Sink>(alloc: Global, text: &[u8], output: &mut K) -> Status
-    ensures puts { Puts (K.taken output.old) (K.taken output.new) (K.faults output.old) (K.faults output.new) (due_schedule (schedule_of text.now)) result }
+fn run_text<K: Sink, D: Disk + Drop>(
+    alloc: Global,
+    text: &[u8],
+    output: &mut K,
+    disks: &mut Disks<D>,
+) -> Status
+    requires source { is_some disks.old.source ≡ true }
+    requires dest { is_some disks.old.dest ≡ true }
+    ensures ends { ParsedEnds (disk_words D.Told D.faults D.size D.timeline)
+        (outside None (K.taken output.old) 0 (K.faults output.old) disks.old.source disks.old.dest)
+        (outside None (K.taken output.new) 0 (K.faults output.new) disks.new.source disks.new.dest)
+        (schedule_of text.now) result }
     ensures later { K.faults output.old ≤ K.faults output.new }
 {
     match Schedule::parse(alloc, text) {
-        Ok(Ok(schedule)) => run_schedule(alloc, &schedule, output),
+        Ok(Ok(schedule)) => run_schedule(alloc, &schedule, output, disks),
         Ok(Err(bad)) => match bad_line(alloc, bad) {
-            Ok(line) => refuse(output, line.as_bytes()),
+            Ok(line) => put_last(output, line.as_bytes(), Status::Refused),
             Err(NoMemory) => Status::NoMemory,
         },
         Err(NoMemory) => Status::NoMemory,
     }
 }
 
-/// Carries out a schedule, and puts its transcript.
-fn run_schedule<K: Sink>(alloc: Global, schedule: &Schedule, output: &mut K) -> Status
-    ensures puts { Puts (K.taken output.old) (K.taken output.new) (K.faults output.old) (K.faults output.new) (due_schedule (Ok schedule.now)) result }
+/// Carries out a schedule, and puts its transcript. The disks are handed back, but for want of memory.
+fn run_schedule<K: Sink, D: Disk + Drop>(
+    alloc: Global,
+    schedule: &Schedule,
+    output: &mut K,
+    disks: &mut Disks<D>,
+) -> Status
+    requires source { is_some disks.old.source ≡ true }
+    requires dest { is_some disks.old.dest ≡ true }
+    ensures ends { ParsedEnds (disk_words D.Told D.faults D.size D.timeline)
+        (outside None (K.taken output.old) 0 (K.faults output.old) disks.old.source disks.old.dest)
+        (outside None (K.taken output.new) 0 (K.faults output.new) disks.new.source disks.new.dest)
+        (Ok schedule.now) result }
     ensures later { K.faults output.old ≤ K.faults output.new }
 {
-    match System::new().run(alloc, schedule, output) {
+    let mut system = System::new(Disks {
+        source: disks.source.take(),
+        dest: disks.dest.take(),
+    });
+    let ran = system.run(alloc, schedule, output);
+    *disks = system.hand_back();
+    match ran {
         Ok(Ran::Whole) => Status::Done,
         Ok(Ran::WriteFault) => Status::WriteFault,
+        Ok(Ran::Unmade(cause)) => put_unmade(alloc, cause, output),
         Err(NoMemory) => Status::NoMemory,
     }
 }
 
-/// Puts the one line that is due to an input that is refused.
-fn refuse<K: Sink>(output: &mut K, line: &[u8]) -> Status
-    ensures puts { Puts (K.taken output.old) (K.taken output.new) (K.faults output.old) (K.faults output.new) (refused line.now) result }
+/// Puts why a server's volume could not be made, where that isn't a fault of its disk.
+fn put_unmade<K: Sink>(alloc: Global, cause: Unmade, output: &mut K) -> Status
+    ensures puts { UnmadePut (K.taken output.old) (K.taken output.new) (K.faults output.old) (K.faults output.new) cause result }
+    ensures later { K.faults output.old ≤ K.faults output.new }
+{
+    match cause {
+        Unmade::DiskFailed => Status::DiskFault,
+        Unmade::TooSmall { need, have } => match small_line(alloc, need, have) {
+            Ok(line) => put_last(output, line.as_bytes(), Status::NoVolume),
+            Err(NoMemory) => Status::NoMemory,
+        },
+        Unmade::NotVolume { block, at } => match not_volume_line(alloc, block, at) {
+            Ok(line) => put_last(output, line.as_bytes(), Status::NoVolume),
+            Err(NoMemory) => Status::NoMemory,
+        },
+    }
+}
+
+/// Puts the last line of a run that ends with this status.
+fn put_last<K: Sink>(output: &mut K, line: &[u8], status: Status) -> Status
+    ensures puts { LastPut (K.taken output.old) (K.taken output.new) (K.faults output.old) (K.faults output.new) line.now status result }
     ensures later { K.faults output.old ≤ K.faults output.new }
 {
     match put_all(output, line) {
-        Ok(()) => Status::Refused,
+        Ok(()) => status,
         Err(_) => Status::WriteFault,
     }
 }

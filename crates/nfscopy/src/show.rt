@@ -1,5 +1,6 @@
 ghost use Rattle.std.specs.Prelude.{◌≤◌};
-ghost use Rattle.nfscopy.specs.Ends.{outside, ShowEnds};
+ghost use Rattle.nfscopy.specs.Outside.{without_disks};
+ghost use Rattle.nfscopy.specs.Ends.{ShowEnds};
 
 use crate::status::Status;
 use outcome::NoMemory;
@@ -10,8 +11,8 @@ use wire_show::{Shown, do_show};
 /// Puts the lines of a stream of records.
 pub fn show<S: Source, K: Sink>(alloc: Global, input: &mut S, output: &mut K) -> Status
     ensures ends { ShowEnds
-        (outside (S.left input.old) (K.taken output.old) (S.faults input.old) (K.faults output.old))
-        (outside (S.left input.new) (K.taken output.new) (S.faults input.new) (K.faults output.new))
+        (without_disks (S.left input.old) (K.taken output.old) (S.faults input.old) (K.faults output.old))
+        (without_disks (S.left input.new) (K.taken output.new) (S.faults input.new) (K.faults output.new))
         result }
     ensures reads_later { S.faults input.old ≤ S.faults input.new }
     ensures writes_later { K.faults output.old ≤ K.faults output.new }

@@ -21,6 +21,12 @@ pub enum Status {
 
     /// Want of memory.
     NoMemory = 5,
+
+    /// A disk counted a fault while its volume was formatted or opened.
+    DiskFault = 6,
+
+    /// A disk has too few blocks for its volume, or doesn't hold the volume that was written.
+    NoVolume = 7,
 }
 
 impl Status {

@@ -1,32 +1,39 @@
 ghost use Rattle.std.specs.Prelude.{map};
 ghost use Rattle.std.specs.String.{string_bytes};
 ghost use Rattle.nfscopy.specs.Command.{command_of};
-ghost use Rattle.nfscopy.specs.Ends.{Ends, outside};
+ghost use Rattle.nfscopy.specs.Ends.{Ends, HasDisks};
+ghost use Rattle.nfscopy.specs.Outside.{outside, disk_words};
 
 use crate::command::Command;
 use crate::run::{run, usage};
 use crate::show::show;
+use disk_model::Disk;
 use rpc_msg::{Sink, Source};
+use sched_run::Disks;
 use std::alloc::Global;
 
 /// Does what the words ask for, and answers the exit status. The words don't include the program's name.
 ///
-/// `run` reads a schedule from `input` and puts the transcript to `output`; `show` reads a stream of records
-/// and puts what they hold, line by line. Words of no command put the line `usage`. What each status says of the input, the output and the promise stands in `Ends`.
-pub fn nfscopy<S: Source, K: Sink>(
+/// `run` reads a schedule from `input`, carries it out over the two disks and puts the transcript to
+/// `output`; `show` reads a stream of records and puts what they hold, line by line. Words of no command
+/// put the line `usage`. What each status says of the input, the output, the disks and the promise stands
+/// in `Ends`.
+pub fn nfscopy<S: Source, K: Sink, D: Disk + Drop>(
     alloc: Global,
     words: &[String],
     input: &mut S,
     output: &mut K,
+    disks: &mut Disks<D>,
 ) -> u8
-    ensures { Ends (command_of (map string_bytes words.now))
-        (outside (S.left input.old) (K.taken output.old) (S.faults input.old) (K.faults output.old))
-        (outside (S.left input.new) (K.taken output.new) (S.faults input.new) (K.faults output.new))
+    requires { HasDisks (command_of (map string_bytes words.now)) disks.old.source disks.old.dest }
+    ensures { Ends (disk_words D.Told D.faults D.size D.timeline) (command_of (map string_bytes words.now))
+        (outside (S.left input.old) (K.taken output.old) (S.faults input.old) (K.faults output.old) disks.old.source disks.old.dest)
+        (outside (S.left input.new) (K.taken output.new) (S.faults input.new) (K.faults output.new) disks.new.source disks.new.dest)
         result }
 {
     let status = match Command::from_words(words) {
         None => usage(output),
-        Some(Command::Run) => run(alloc, input, output),
+        Some(Command::Run) => run(alloc, input, output, disks),
         Some(Command::Show) => show(alloc, input, output),
     };
     status.code()

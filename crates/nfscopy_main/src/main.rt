@@ -1,11 +1,22 @@
 //! The program `nfscopy`: makes the real objects, and leaves all else to [`nfscopy::nfscopy`].
 #![tactic(auto)]
 
+use disk_model::MemoryDisk;
 use nfscopy::{Status, nfscopy};
 use rpc_msg::{Reading, Writing};
+use sched_run::Disks;
+use std::alloc::Global;
 use std::env::{self, Env};
 use std::io::{self, ErrorKind};
 use std::process::ExitCode;
+
+/// How many blocks the largest volume has: one of 64 files and 16,384 blocks in all.
+const MOST_DISK_BLOCKS: u64 = 32_964;
+
+/// A server's disk in a run: in memory, with room for the largest volume.
+fn disk(alloc: Global) -> MemoryDisk {
+    MemoryDisk::new(alloc, MOST_DISK_BLOCKS, Vec::new(alloc))
+}
 
 /// The words of the command line without the program's name. A word that isn't UTF-8 makes the whole
 /// command line one that no command has.
@@ -28,5 +39,10 @@ fn main(rt: HostRuntime) -> ExitCode {
     };
     let mut input = Reading::new(rt.reader());
     let mut output = Writing::new(io::writer(&rt));
-    ExitCode::from(nfscopy(rt.alloc(), &words, &mut input, &mut output))
+    let mut disks = Disks {
+        source: Some(disk(rt.alloc())),
+        dest: Some(disk(rt.alloc())),
+    };
+    let status = nfscopy(rt.alloc(), &words, &mut input, &mut output, &mut disks);
+    ExitCode::from(status)
 }

@@ -1,5 +1,7 @@
+use disk_model::MemoryDisk;
 use outcome::Mem;
 use rpc_msg::{MemSink, MemSource};
+use sched_run::Disks;
 use std::alloc::Global;
 use std::process::Abort;
 
@@ -25,6 +27,10 @@ pub struct Answer {
     pub takes: u64,
     /// How many calls the sink got.
     pub puts: u64,
+    /// How many calls the source's disk got, where it was handed back.
+    pub source_calls: Option<u64>,
+    /// How many calls the destination's disk got, where it was handed back.
+    pub dest_calls: Option<u64>,
 }
 
 impl Answer {
@@ -45,15 +51,44 @@ pub struct Faults {
 /// No call fails.
 pub const NO_FAULTS: Faults = Faults { source: 0, sink: 0 };
 
+/// How many blocks a server's disk has, and which of its calls fails.
+#[derive(Clone, Copy)]
+pub struct DiskPlan {
+    pub blocks: u64,
+    pub fails: u64,
+}
+
+/// A disk with room for every volume, of which no call fails.
+pub const GOOD_DISK: DiskPlan = DiskPlan {
+    blocks: 32_964,
+    fails: 0,
+};
+
 /// Runs the program with these words over this input.
 pub fn ask(alloc: Global, words: &[&str], text: Vec<u8>, faults: Faults) -> Mem<Answer> {
+    ask_disks(alloc, words, text, faults, GOOD_DISK, GOOD_DISK)
+}
+
+/// The same over these two disks.
+pub fn ask_disks(
+    alloc: Global,
+    words: &[&str],
+    text: Vec<u8>,
+    faults: Faults,
+    source_disk: DiskPlan,
+    dest_disk: DiskPlan,
+) -> Mem<Answer> {
     let mut given = Vec::new(alloc);
     for word in words {
         given.push(String::from_str(alloc, word)?)?;
     }
     let mut source = MemSource::new(text, vec![in alloc; faults.source]?);
     let mut sink = MemSink::new(alloc, vec![in alloc; faults.sink]?);
-    let status = nfscopy::nfscopy(alloc, given.as_slice(), &mut source, &mut sink);
+    let mut disks = Disks {
+        source: Some(disk(alloc, source_disk)?),
+        dest: Some(disk(alloc, dest_disk)?),
+    };
+    let status = nfscopy::nfscopy(alloc, given.as_slice(), &mut source, &mut sink, &mut disks);
     let put = match str::from_utf8(sink.bytes()) {
         Ok(put) => put,
         Err(_) => "not a text",
@@ -63,7 +98,22 @@ pub fn ask(alloc: Global, words: &[&str], text: Vec<u8>, faults: Faults) -> Mem<
         put: String::from_str(alloc, put)?,
         takes: source.calls(),
         puts: sink.calls(),
+        source_calls: calls(&disks.source),
+        dest_calls: calls(&disks.dest),
     })
+}
+
+fn disk(alloc: Global, plan: DiskPlan) -> Mem<MemoryDisk> {
+    Ok(MemoryDisk::new(alloc, plan.blocks, vec![in alloc; plan.fails]?))
+}
+
+/// How many calls a disk got, if it was handed back.
+fn calls(disk: &Option<MemoryDisk>) -> Option<u64> {
+    let counts = disk.as_ref()?.counts();
+    counts
+        .reads
+        .checked_add(counts.writes)?
+        .checked_add(counts.syncs)
 }
 
 /// Runs the schedule that has these pieces, one after the other.

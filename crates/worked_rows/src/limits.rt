@@ -27,9 +27,9 @@ fn volumes(rt: HostRuntime) -> Result<(), Fail> {
         ("volume s 0 1", false),
         ("volume s 1 0", false),
     ] {
-        let first = run(rt.alloc(), &[line, "\nvolume d 64 256\n"])?;
+        let first = run(rt.alloc(), &[line, "\nvolume d 1 1\n"])?;
         let dest = line.replace(rt.alloc(), " s ", " d ")?;
-        let second = run(rt.alloc(), &["volume s 64 256\n", dest.as_str(), "\n"])?;
+        let second = run(rt.alloc(), &["volume s 1 1\n", dest.as_str(), "\n"])?;
         if is_good {
             first.check(&rt, line, 0, "end 0\n");
             second.check(&rt, line, 0, "end 0\n");
@@ -60,8 +60,8 @@ fn numbers(rt: HostRuntime) -> Result<(), Fail> {
             0,
             "accepted 1.1 64 0 end\nend 0\n",
         ),
-        ("write s 64 1048575 aa", 0, "written s 64 1\nend 0\n"),
-        ("write s 64 1048576 aa", 0, "refused s 64 27\nend 0\n"),
+        ("write s 64 4095 aa", 0, "written s 64 1\nend 0\n"),
+        ("write s 64 4096 aa", 0, "refused s 64 27\nend 0\n"),
         ("write s 65 0 aa", 2, "bad line 3\n"),
         (
             "write s 1 18446744073709551614 aa",
@@ -93,7 +93,7 @@ fn numbers(rt: HostRuntime) -> Result<(), Fail> {
             "bytes s 1 18446744073709551551 00000000000000000000000000000000000000000000000000000000000000000000000000000000000000000000000000000000000000000000000000000000\nend 0\n",
         ),
     ] {
-        let text = ["volume s 64 256\nvolume d 64 256\n", line, "\n"];
+        let text = ["volume s 64 1\nvolume d 64 1\n", line, "\n"];
         run(rt.alloc(), &text)?.check(&rt, line, status, put);
     }
     Ok(())

@@ -1,0 +1,43 @@
+-- What is known of the outside at a moment, and the words in which disks of a type speak of themselves.
+use Rattle.std.specs.Prelude.{◌≡◌, ◌⊎◌, ℕ, Option, None, List}
+use Rattle.outcome.specs.Causes.{Rose}
+use Rattle.disk_model.specs.Elapsed.{Timeline}
+use Rattle.sched_run.specs.Blame.{faults_in}
+
+-- The bytes that the source has left and those that the sink took, where they tell them, their counts of
+-- faults, and the servers' disks.
+pub record Outside (D : Type 0) : Type 0 where
+  pub left : Option (List ℕ)
+  pub taken : Option (List ℕ)
+  pub reads : ℕ
+  pub writes : ℕ
+  pub source : Option D
+  pub dest : Option D
+
+abbrev pub outside : {D : Type 0} → Option (List ℕ) → Option (List ℕ) → ℕ → ℕ → Option D → Option D → Outside D
+outside left taken reads writes source dest =
+    record { left = left; taken = taken; reads = reads; writes = writes; source = source; dest = dest }
+
+-- where no disk is used
+abbrev pub without_disks : Option (List ℕ) → Option (List ℕ) → ℕ → ℕ → Outside (Unit {0})
+without_disks left taken reads writes = outside left taken reads writes None None
+
+-- Whether a disk tells what it holds, its count of faults, how many blocks it has, and its moments.
+pub record DiskWords (D : Type 0) : Type 1 where
+  pub told : Type 0
+  pub faults : D → ℕ
+  pub size : D → ℕ
+  pub timeline : D → Timeline
+
+abbrev pub disk_words : {D : Type 0} → Type 0 → (D → ℕ) → (D → ℕ) → (D → Timeline) → DiskWords D
+disk_words told faults size timeline = record { told = told; faults = faults; size = size; timeline = timeline }
+
+-- the disks are the same
+pub record SameDisks {D : Type 0} (before now : Outside D) : Type 0 where
+  pub source : now.source ≡ before.source
+  pub dest : now.dest ≡ before.dest
+
+-- a disk's count of faults rose
+abbrev pub DiskRose : {D : Type 0} → DiskWords D → Outside D → Outside D → Type 0
+DiskRose w before now =
+    Rose (faults_in w.faults before.source) (faults_in w.faults now.source) ⊎ Rose (faults_in w.faults before.dest) (faults_in w.faults now.dest)
