@@ -3,7 +3,7 @@ ghost use Rattle.sched_text.specs.ScheduleText.{schedule_of};
 ghost use Rattle.nfscopy.specs.Outside.{outside, disk_words};
 ghost use Rattle.nfscopy.specs.RunEnds.{ParsedEnds, RunEnds};
 ghost use Rattle.nfscopy.specs.Ends.{UsagePuts};
-ghost use Rattle.nfscopy.specs.Puts.{LastPut, LinePut, UnmadePut};
+ghost use Rattle.nfscopy.specs.Puts.{LastPut, UnmadePut};
 
 use crate::notice::{bad_line, not_volume_line, small_line, too_much_line, usage_line};
 use crate::status::Status;

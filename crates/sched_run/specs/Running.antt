@@ -38,22 +38,21 @@ pub record IsStep (step : Step) (state : State) (lines : List Line) : Type 0 whe
   pub state_is : state ≡ step.state
   pub lines_is : lines ≡ step.lines
 
--- What each event leaves of the disks, by what they did in it. Where both volumes aren't there yet, it
--- prints nothing.
+-- What each event leaves of the disks, by what they did in it.
 pub record IsBorne {D : Type 0} (faults size : D → ℕ) (old new : Running D) (event : Event) (choice : Choice) : Type 0 where
   pub context : new.context ≡ after old.context event
   pub fits : event_small (size_in size old.source) (size_in size old.dest) event ≡ None
   pub source : Later faults size (failed choice Source) old.source new.source
   pub dest : Later faults size (failed choice Dest) old.dest new.dest
 
--- the event was carried out, and these are its lines
+-- The event was carried out, and these are its lines: none where both volumes aren't there yet.
 pub record IsDone {D : Type 0} (told : Type 0) (faults size : D → ℕ) (old new : Running D) (event : Event) (choice : Choice)
     (lines : List Line) : Type 0 where
   pub borne : IsBorne faults size old new event choice
   pub quiet : is_ready old.context ≡ false → lines ≡ []
   pub step : told → IsStep (happens old.state choice event) new.state lines
 
--- the event was carried out, and this is the text of its lines
+-- the same, and this is the text of its lines
 pub record IsCarriedOut {D : Type 0} (told : Type 0) (faults size : D → ℕ) (old new : Running D) (event : Event) (choice : Choice)
     (text : List ℕ) : Type 0 where
   pub borne : IsBorne faults size old new event choice

@@ -2,7 +2,7 @@ use crate::answer::{NO_FAULTS, VOLUMES, ask, run};
 use std::test::Fail;
 
 #[test]
-fn volumes(rt: HostRuntime) -> Result<(), Fail> {
+fn words_of_volumes(rt: HostRuntime) -> Result<(), Fail> {
     for line in [
         "volume",
         "volume ",
@@ -34,6 +34,16 @@ fn volumes(rt: HostRuntime) -> Result<(), Fail> {
         "volume x 1 1",
         "volume sd 1 1",
         "volume 1 1 1",
+    ] {
+        run(rt.alloc(), &[line, "\nvolume d 1 1\n"])?.check(&rt, line, 2, "bad line 1\n");
+        run(rt.alloc(), &[line])?.check(&rt, line, 2, "bad line 1\n");
+    }
+    Ok(())
+}
+
+#[test]
+fn numbers_of_volumes(rt: HostRuntime) -> Result<(), Fail> {
+    for line in [
         "volume s 01 1",
         "volume s 1 01",
         "volume s 00 1",
@@ -59,11 +69,6 @@ fn volumes(rt: HostRuntime) -> Result<(), Fail> {
         "volume s 1 0",
         "volume d 0 1",
         "volume d 1 0",
-        " ",
-        "\t",
-        "\r",
-        "\0",
-        " # a comment",
     ] {
         run(rt.alloc(), &[line, "\nvolume d 1 1\n"])?.check(&rt, line, 2, "bad line 1\n");
         run(rt.alloc(), &[line])?.check(&rt, line, 2, "bad line 1\n");
@@ -72,7 +77,16 @@ fn volumes(rt: HostRuntime) -> Result<(), Fail> {
 }
 
 #[test]
-fn writes(rt: HostRuntime) -> Result<(), Fail> {
+fn blanks(rt: HostRuntime) -> Result<(), Fail> {
+    for line in [" ", "\t", "\r", "\0", " # a comment"] {
+        run(rt.alloc(), &[line, "\nvolume d 1 1\n"])?.check(&rt, line, 2, "bad line 1\n");
+        run(rt.alloc(), &[line])?.check(&rt, line, 2, "bad line 1\n");
+    }
+    Ok(())
+}
+
+#[test]
+fn words_of_writes(rt: HostRuntime) -> Result<(), Fail> {
     for line in [
         "write",
         "write ",
@@ -102,6 +116,15 @@ fn writes(rt: HostRuntime) -> Result<(), Fail> {
         "write S 1 0 00",
         "write x 1 0 00",
         "write ss 1 0 00",
+    ] {
+        run(rt.alloc(), &[VOLUMES, line, "\nwork 1\n"])?.check(&rt, line, 2, "bad line 3\n");
+    }
+    Ok(())
+}
+
+#[test]
+fn numbers_of_writes(rt: HostRuntime) -> Result<(), Fail> {
+    for line in [
         "write s 01 0 00",
         "write s +1 0 00",
         "write s -1 0 00",
@@ -123,6 +146,15 @@ fn writes(rt: HostRuntime) -> Result<(), Fail> {
         "write s 1 184467440737095516160 00",
         "write s 1 18446744073709551615 00",
         "write s 1 18446744073709551614 0000",
+    ] {
+        run(rt.alloc(), &[VOLUMES, line, "\nwork 1\n"])?.check(&rt, line, 2, "bad line 3\n");
+    }
+    Ok(())
+}
+
+#[test]
+fn digits_of_writes(rt: HostRuntime) -> Result<(), Fail> {
+    for line in [
         "write s 1 0 0",
         "write s 1 0 000",
         "write s 1 0 0A",
@@ -144,7 +176,7 @@ fn writes(rt: HostRuntime) -> Result<(), Fail> {
 }
 
 #[test]
-fn copies(rt: HostRuntime) -> Result<(), Fail> {
+fn words_of_copies(rt: HostRuntime) -> Result<(), Fail> {
     for line in [
         "copy",
         "copy ",
@@ -176,6 +208,15 @@ fn copies(rt: HostRuntime) -> Result<(), Fail> {
         "copy 1 1 0 1 0 10 c\0",
         "Copy 1 1 0 1 0 10 c",
         "cop 1 1 0 1 0 10 c",
+    ] {
+        run(rt.alloc(), &[VOLUMES, line, "\nwork 1\n"])?.check(&rt, line, 2, "bad line 3\n");
+    }
+    Ok(())
+}
+
+#[test]
+fn numbers_of_copies(rt: HostRuntime) -> Result<(), Fail> {
+    for line in [
         "copy 01 1 0 1 0 10 c",
         "copy 1 01 0 1 0 10 c",
         "copy 1 1 00 1 0 10 c",
@@ -212,6 +253,15 @@ fn copies(rt: HostRuntime) -> Result<(), Fail> {
         "copy 1 1 0 1 18446744073709551616 10 c",
         "copy 1 1 0 1 0 18446744073709551616 c",
         "copy 1 1 0 1 0 18446744073709551626 c",
+    ] {
+        run(rt.alloc(), &[VOLUMES, line, "\nwork 1\n"])?.check(&rt, line, 2, "bad line 3\n");
+    }
+    Ok(())
+}
+
+#[test]
+fn files_and_kinds_of_copies(rt: HostRuntime) -> Result<(), Fail> {
+    for line in [
         "copy 0 1 0 1 0 10 c",
         "copy 1 0 0 1 0 10 c",
         "copy 1 2 0 1 0 10 c",

@@ -5,9 +5,10 @@ use std::test::Fail;
 const COMMIT_FAILED: &str =
     "written s 1 10\naccepted 1.1 1 0 10\nsized 1.1 10\nlanded 1.1 0 10\ncopied 1 10\nstopped 1.1 disk\nfailed 1 5\nend 0\n";
 
-// A volume of one file of one block is made by these calls: zeros for the block, the two gates and the two
-// homes, a sync, block 0 and a sync; then a sync, block 0, the cells, the block and the next boot number.
-const FORMATTING: u64 = 8;
+// A volume of one file of one block is made by so many calls: zeros for the block, and for the gate and one home
+// of both cells, a sync, block 0, a sync; then a sync, block 0, the gate and the home of both cells, the block,
+// and four calls for the next boot number.
+const MAKING: u64 = 8 + 11;
 
 #[test]
 fn too_small(rt: HostRuntime) -> Result<(), Fail> {
@@ -113,7 +114,7 @@ fn destination_fails(rt: HostRuntime) -> Result<(), Fail> {
         }
     }
     assert!(rt; whole);
-    assert!(rt; opening > FORMATTING);
+    assert_eq!(rt; opening, MAKING);
     assert_eq!(rt; commit, 5, "the block, and the four calls of the table");
     Ok(())
 }

@@ -157,7 +157,7 @@ fn refused_copies(rt: HostRuntime) -> Result<(), Fail> {
 }
 
 #[test]
-fn copies_of_ten(rt: HostRuntime) -> Result<(), Fail> {
+fn whole_copies_of_ten(rt: HostRuntime) -> Result<(), Fail> {
     for (lines, put) in [
         (
             "copy 1 1 0 1 4086 10 c\nwork 1\nwork 1\npeek d 1 4085 12",
@@ -188,6 +188,20 @@ fn copies_of_ten(rt: HostRuntime) -> Result<(), Fail> {
             "accepted 1.1 1 4096 end\nsized 1.1 0\ncommitted 1.1\nstable 1\n",
         ),
         (
+            "copy 1 1 0 1 4086 0 c\nwork 1\nwork 1",
+            "accepted 1.1 1 4086 end\nsized 1.1 10\nlanded 1.1 0 10\ncommitted 1.1\nstable 1\n",
+        ),
+    ] {
+        let put = format!(in rt.alloc(); "written s 1 10\n{put}end 0\n")?;
+        run(rt.alloc(), &[VOLUMES, TEN, lines, "\n"])?.check(&rt, lines, 0, put.as_str());
+    }
+    Ok(())
+}
+
+#[test]
+fn stopped_copies_of_ten(rt: HostRuntime) -> Result<(), Fail> {
+    for (lines, put) in [
+        (
             "copy 1 1 11 1 0 0 c\nwork 1\nstatus 1\nwork 1",
             "accepted 1.1 1 0 end\nstopped 1.1 pastend\nfailed 1 22\nidle 1\n",
         ),
@@ -208,13 +222,19 @@ fn copies_of_ten(rt: HostRuntime) -> Result<(), Fail> {
             "accepted 1.1 1 4087 end\nstopped 1.1 noroom\nfailed 1 27\nidle 1\nbytes d 1 4087 000000000000000000\n",
         ),
         (
-            "copy 1 1 0 1 4086 0 c\nwork 1\nwork 1",
-            "accepted 1.1 1 4086 end\nsized 1.1 10\nlanded 1.1 0 10\ncommitted 1.1\nstable 1\n",
-        ),
-        (
             "copy 1 1 9 1 4096 0 c\nwork 1",
             "accepted 1.1 1 4096 end\nstopped 1.1 noroom\nfailed 1 27\n",
         ),
+    ] {
+        let put = format!(in rt.alloc(); "written s 1 10\n{put}end 0\n")?;
+        run(rt.alloc(), &[VOLUMES, TEN, lines, "\n"])?.check(&rt, lines, 0, put.as_str());
+    }
+    Ok(())
+}
+
+#[test]
+fn copies_of_ten_between_other_events(rt: HostRuntime) -> Result<(), Fail> {
+    for (lines, put) in [
         ("work 1\nwork 1", ""),
         (
             "work 1\ncopy 1 1 0 1 0 10 c\nstatus 1\nwork 1\nstatus 1\nwork 1\nstatus 1\nwork 1\nwork 1\nstatus 1",
