@@ -1,19 +1,12 @@
 -- The disks over several steps: their counts of faults add up.
-use Rattle.std.proofs.Common.{◌≡◌, ℕ, ◌+◌, ◌≤◌, Option, List, [], ◌∷◌, ◌++◌, refl, sym, ◌∙◌, subst, arith}
-use Rattle.outcome.specs.Causes.{Rose, RoseBy}
+use Rattle.std.proofs.Common.{◌≡◌, ℕ, ◌+◌, Option, List, [], ◌∷◌, ◌++◌, refl, sym, ◌∙◌, subst, arith}
+use Rattle.outcome.specs.Causes.{RoseBy}
 use Rattle.nfs_base.specs.declared.side.Side.{Side}
 use Rattle.run_machine.specs.declared.choice.Choice.{Choice}
 use Rattle.sched_run.specs.Blame.{failed, failed_calls, faults_in, Later}
 
--- a count that never fell has risen by 0
-pub rose_by_none : (a b : ℕ) → a ≤ b → RoseBy 0 a b
-rose_by_none a b le = omega (arith, le)
-
 rose_sum : (n m a b c : ℕ) → RoseBy n a b → RoseBy m b c → RoseBy (n + m) a c
 rose_sum n m a b c p q = omega (arith, p, q)
-
-pub rose_after : (n a b c : ℕ) → RoseBy n a b → Rose b c → Rose a c
-rose_after n a b c p q = omega (arith, p, q)
 
 pub later_same : {D : Type 0} (faults size : D → ℕ) (d : Option D) → Later faults size 0 d d
 later_same faults size d = record { there = refl; rose = omega arith; as_large = refl }
@@ -39,13 +32,3 @@ pub later_more : {D : Type 0} (faults size : D → ℕ) (choices : List Choice) 
 later_more faults size choices choice side a b c first second =
     subst (λ (n : ℕ). Later faults size n a c) (sym (failed_more choices choice side))
     (later_join faults size (failed_calls choices side) (failed choice side) a b c first second)
-
--- with a step in which no call is said to have failed
-pub later_none : {D : Type 0} (faults size : D → ℕ) (n : ℕ) (a b c : Option D) → Later faults size n a b → Later faults size 0 b c
-    → Later faults size n a c
-later_none faults size n a b c first second =
-    record {
-      there = second.there ∙ first.there;
-      rose = let p = first.rose in let q = second.rose in omega (arith, p, q);
-      as_large = second.as_large ∙ first.as_large;
-    }

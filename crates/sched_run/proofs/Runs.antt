@@ -1,13 +1,12 @@
 -- A run in its middle: what was put, with the text of what is still to come, is the text of the whole.
-use Rattle.std.proofs.Common.{◌≡◌, inl, inr, ℕ, ◌+◌, ◌<◌, ◌≤◌, Bool, true, false, Option, None, Some, List, [], ◌∷◌, ◌++◌, length, drop, get_or, suc, sym, ◌∙◌, ap, subst, refl, append_assoc, append-nil, add-one}
+use Rattle.std.proofs.Common.{◌≡◌, inl, inr, ℕ, ◌+◌, ◌<◌, ◌≤◌, Bool, true, false, Option, None, List, [], ◌∷◌, ◌++◌, length, drop, get_or, suc, sym, ◌∙◌, ap, subst, refl, append_assoc, append-nil, add-one}
 use Rattle.std.proofs.Math.Seq.{drop-cons}
 use Rattle.std.proofs.lemmas.Grind.{flat_map-append}
 use Rattle.std.specs.Option.{option_or}
 use Rattle.std.specs.Prelude.{Result, Ok, Err, OnErr, ◌⊎◌}
 use Rattle.std.proofs.Math.ListN.{drop_of_length-le}
-use Rattle.std.specs.Io.KnownBytes.{Keeps, Appends}
+use Rattle.std.specs.Io.KnownBytes.{Appends}
 use Rattle.std.proofs.KnownBytes.{Appends-trans, Appends-nil}
-use Rattle.outcome.specs.Causes.{Rose}
 use Rattle.rpc_msg.specs.Sink.{AppendsFront}
 use Rattle.rpc_msg.proofs.Fronts.{front_all, front_wider, front_more}
 use Rattle.nfs_base.specs.declared.side.Side.TheVariants.{Source, Dest}
@@ -18,14 +17,12 @@ use Rattle.sched_text.specs.Admission.{is_ready, IsAdmitted}
 use Rattle.sched_text.specs.LineText.{line_text, lines_text}
 use Rattle.run_machine.specs.declared.choice.Choice.{Choice}
 use Rattle.run_machine.specs.Machine.{State, happens, choice_at, lines_from}
-use Rattle.sched_run.specs.declared.fresh.Unmade.{Unmade}
-use Rattle.sched_run.specs.declared.fresh.Unmade.TheVariants.{DiskFailed, TooSmall, NotVolume}
 use Rattle.sched_run.specs.declared.system.Ran.TheVariants as ran
-use Rattle.sched_run.specs.Blame.{failed_calls, faults_in, size_in, Later}
+use Rattle.sched_run.specs.Blame.{failed_calls, size_in, Later}
 use Rattle.sched_run.specs.Fresh.{Small, event_small, first_small}
-use Rattle.sched_run.specs.Running.{Running, HasDisks, IsCarriedOut, IsRefused}
-use Rattle.sched_run.specs.Run.{run_text, state_from, last_state, due_text, RanPuts, RanIs, RanOut, RanHasCause}
-use Rattle.sched_run.proofs.Later.{later_same, later_more, later_none, rose_after}
+use Rattle.sched_run.specs.Running.{Running, HasDisks, IsCarriedOut}
+use Rattle.sched_run.specs.Run.{run_text, state_from, last_state, due_text, RanIs, RanOut}
+use Rattle.sched_run.proofs.Later.{later_same, later_more}
 use Rattle.sched_run.proofs.Ready.{ready_after, ready_none}
 
 -- the text of what is still to come
@@ -209,52 +206,6 @@ failed_put told faults size events start old new taken now out e rest choice tex
         front_nothing taken out _
         (front_more taken now out [] [] early.1 (subst (λ (t : List ℕ). AppendsFront now out t) (step.quiet early.0) put))
 
-kept : (taken now : Option (List ℕ)) → Appends taken now [] → Keeps taken now
-kept None now put = tt
-kept (Some xs) None put = put
-kept (Some xs) (Some ys) put = put ∙ append-nil xs
-
--- a volume wasn't made
-pub unmade : {D : Type 0} (told : Type 0) (faults size : D → ℕ) (events : List Event) (start old new : Running D) (taken now : Option (List ℕ))
-    (e : Event) (rest : List Event) (cause : Unmade)
-    → HasRun told faults size events start old taken now (e ∷ rest) → IsRefused told faults size old new e cause
-    → RanIs told faults size events start new taken now (ran.Unmade cause)
-unmade told faults size events start old new taken now e rest cause was step =
-    record {
-      choices = was.choices;
-      source = later_none faults size (failed_calls was.choices Source) _ _ _ was.source step.source;
-      dest = later_none faults size (failed_calls was.choices Dest) _ _ _ was.dest step.dest;
-      puts = puts_for cause step;
-      last = λ t whole. absurd (cc);
-    }
-  where
-    puts_for : (why : Unmade) → IsRefused told faults size old new e why
-        → RanPuts told (small_in size start events) was.choices events taken now (ran.Unmade why)
-    puts_for DiskFailed refused = kept taken now (was.quiet refused.early)
-    puts_for (TooSmall need have) refused =
-        let at_source = was.source in
-        let at_dest = was.dest in
-        let small : event_small (size_in size old.source) (size_in size old.dest) e ≡ Some (record { need = need; have = have }) = refused.why in
-        let here : event_small (size_in size start.source) (size_in size start.dest) e ≡ Some (record { need = need; have = have }) =
-        ap (λ (n : ℕ). event_small n (size_in size start.dest) e) (sym at_source.as_large)
-        ∙ (ap (λ (n : ℕ). event_small (size_in size old.source) n e) (sym at_dest.as_large) ∙ small) in
-        (was.small ∙ ap (λ (o : Option Small). option_or o (small_in size start rest)) here, kept taken now (was.quiet refused.early))
-    puts_for (NotVolume block at) refused = (refused.why, kept taken now (was.quiet refused.early))
-
--- and why
-pub unmade_cause : {D : Type 0} (told : Type 0) (faults size : D → ℕ) (events : List Event) (start old new : Running D) (taken now : Option (List ℕ))
-    (e : Event) (rest : List Event) (before after_count : ℕ) (cause : Unmade)
-    → HasRun told faults size events start old taken now (e ∷ rest) → IsRefused told faults size old new e cause
-    → RanHasCause faults start new before after_count (ran.Unmade cause)
-unmade_cause told faults size events start old new taken now e rest before after_count DiskFailed was step = rose step.why
-  where
-    rose : Rose (faults_in faults old.source) (faults_in faults new.source) ⊎ Rose (faults_in faults old.dest) (faults_in faults new.dest)
-        → Rose (faults_in faults start.source) (faults_in faults new.source) ⊎ Rose (faults_in faults start.dest) (faults_in faults new.dest)
-    rose (inl source) = let at = was.source in inl (rose_after (failed_calls was.choices Source) _ _ _ at.rose source)
-    rose (inr dest) = let at = was.dest in inr (rose_after (failed_calls was.choices Dest) _ _ _ at.rose dest)
-unmade_cause told faults size events start old new taken now e rest before after_count (TooSmall need have) was step = tt
-unmade_cause told faults size events start old new taken now e rest before after_count (NotVolume block at) was step = tt
-
 -- the last line failed
 pub failed_end : {D : Type 0} (told : Type 0) (faults size : D → ℕ) (events : List Event) (start now : Running D) (taken now_taken out : Option (List ℕ))
     (text : List ℕ) → HasRun told faults size events start now taken now_taken [] → text ≡ lines_text (End 0 ∷ [])
@@ -316,9 +267,6 @@ pub run_end : {D : Type 0} (told : Type 0) (faults size : D → ℕ) (start now 
     → HasRun told faults size items start now taken now_taken (drop i items) → HasRun told faults size items start now taken now_taken []
 run_end told faults size start now taken now_taken items i le was =
     subst (λ (rest : List Event). HasRun told faults size items start now taken now_taken rest) (drop_of_length-le items le) was
-
-pub admitted_end : (items : List Event) (i : ℕ) (context : Context) → length items ≤ i → IsAdmitted context (drop i items) → IsAdmitted context []
-admitted_end items i context le admitted = tt
 
 pub admitted_along : (before now : Context) (rest : List Event) → now ≡ before → IsAdmitted before rest → IsAdmitted now rest
 admitted_along before now rest is admitted =

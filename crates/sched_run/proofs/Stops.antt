@@ -1,5 +1,5 @@
--- The steps of a copy in which a disk failed, or had failed before, and those that went.
-use Rattle.std.proofs.Common.{◌≡◌, ℕ, Bool, true, false, None, Some, refl, sym, ◌∙◌, ap, subst, IfOk, length}
+-- The steps of a copy in which a disk failed, or had failed before.
+use Rattle.std.proofs.Common.{◌≡◌, ℕ, true, false, None, Some, sym, ◌∙◌, ap, IfOk, length}
 use Rattle.std.specs.Prelude.{Result, Ok, Err}
 use Rattle.outcome.specs.declared.memory.NoMemory.{NoMemory}
 use Rattle.copy_model.specs.Volume.{Volume, file_at, fail_write, fail_commit}
@@ -33,18 +33,6 @@ stopped_in (Ok turn) choice cause step source now_source mid dest old new at_sou
       lines_is = made.lines_is ∙ (ap (λ (v : Volume). (S v).lines) at_dest ∙ (sym lines ∙ ap (λ (x : Choice). (step x).lines) (sym chosen)));
     }
 
--- a step that lands is the landing, where the source was read
-pub landed_in : (result : Result Turn NoMemory) (s now : State) (c : machine.Copying) (total off : ℕ)
-    → s.source.broken ≡ false
-    → IfOk result (λ turn. fails turn.choice Source ≡ false)
-    → IfOk result (λ turn. IsStep (lands s turn.choice c total off) now turn.lines.items)
-    → IfOk result (λ turn. IsStep (moves s turn.choice c total (Some off)) now turn.lines.items)
-landed_in (Err e) s now c total off whole went landed = tt
-landed_in (Ok turn) s now c total off whole went landed =
-    let P : Step → Type 0 = λ step. IsStep step now turn.lines.items in
-    let same : moves s turn.choice c total (Some off) ≡ lands s turn.choice c total off = cc in
-    subst P (sym same) landed
-
 pub unread_broken : (s : State) (choice : Choice) (c : machine.Copying) (total off : ℕ) → s.source.broken ≡ true
     → moves s choice c total (Some off) ≡ stops s c DiskFault
 unread_broken s choice c total off broken = cc
@@ -76,8 +64,3 @@ unsized_broken s choice c broken = cc
 pub unsized : (s : State) (choice : Choice) (c : machine.Copying) (cause : Stop) → s.source.broken ≡ false
     → sizing c.plan (length (file_at s.source c.plan.source_file).now) s.dest.capacity ≡ Err cause → starts s choice c ≡ stops s c cause
 unsized s choice c cause whole is = cc
-
--- what isn't broken
-pub is_whole : (broken : Bool) → (broken ≡ true → ⊥) → broken ≡ false
-is_whole true not = absurd (not refl)
-is_whole false not = refl
