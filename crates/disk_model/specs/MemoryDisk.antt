@@ -6,7 +6,7 @@ use Rattle.disk_model.specs.declared.fuse.Fuse.{Fuse}
 use Rattle.disk_model.specs.declared.memory_disk.Counts.{Counts}
 use Rattle.disk_model.specs.declared.memory_disk.MemoryDisk.{MemoryDisk}
 use Rattle.disk_model.specs.Elapsed.{Timeline}
-use Rattle.disk_model.specs.Plan.{Plan, counted, is_due, after_call, planned_faults}
+use Rattle.outcome.specs.Plan.{Plan, counted, is_due, after_call, planned_faults}
 use Rattle.disk_model.specs.Replay.{base_of, moments}
 
 -- how many blocks it has

@@ -13,7 +13,6 @@ mod disk;
 mod file_disk;
 mod fuse;
 mod memory_disk;
-mod planned;
 mod store;
 #[cfg(test)]
 mod tests;

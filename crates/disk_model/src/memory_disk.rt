@@ -4,13 +4,12 @@ ghost use Rattle.disk_model.specs.declared.fuse.Fuse.TheVariants.{Unset};
 ghost use Rattle.disk_model.specs.Disk.{MayLeave, IsSettled, Writes, Syncs, zero_block};
 ghost use Rattle.disk_model.specs.Elapsed.{present, contents, crash_moment, burnt, set_to, IsOut, Elapses, StopsBefore};
 ghost use Rattle.disk_model.specs.Pick.{left_by};
-ghost use Rattle.disk_model.specs.Plan.{counted};
+ghost use Rattle.outcome.specs.Plan.{counted};
 
 use crate::disk::{Block, CrashDisk, Disk, Io};
 use crate::fuse::Fuse;
-use crate::planned::Planned;
 use crate::store::Store;
-use outcome::Mem;
+use outcome::{Mem, Planned};
 use std::alloc::Global;
 
 /// How many calls of each kind a disk was given. A count stops at the end of its type.

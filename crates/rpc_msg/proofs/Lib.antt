@@ -2,7 +2,6 @@ pub mod Fronts
 pub mod Cuts
 pub mod Streams
 pub mod Pumping
-mod Plans
 mod Progress
 pub mod Watching
 pub mod HeadLaws

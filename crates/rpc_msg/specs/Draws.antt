@@ -4,7 +4,7 @@ use Rattle.std.specs.Prelude.{ℕ, ◌+◌, ◌%◌, ◌^◌, ◌≤◌, List, d
 use Rattle.std.specs.Int.{w64, to_be_bytes}
 use Rattle.sha2.specs.Sha256.{sha256}
 use Rattle.outcome.specs.Causes.{Rose}
-use Rattle.rpc_msg.specs.Plan.{Plan, is_due, after_call}
+use Rattle.outcome.specs.Plan.{Plan, is_due, after_call}
 use Rattle.rpc_msg.specs.declared.draws.Drawn.{Drawn}
 use Rattle.rpc_msg.specs.declared.draws.Drawn.TheVariants.{Got, Failed}
 

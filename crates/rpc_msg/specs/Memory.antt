@@ -1,7 +1,7 @@
 -- The source and the sink in memory: what they hold, and what exactly each call answers.
 -- Own definitions.
 use Rattle.std.specs.Prelude.{◌≡◌, ℕ, ◌+◌, ◌==◌, ◌&&◌, false, min, nat_lt, List, ◌++◌, length, if◌then◌else◌}
-use Rattle.rpc_msg.specs.Plan.{Plan, is_due, after_call}
+use Rattle.outcome.specs.Plan.{Plan, is_due, after_call}
 use Rattle.rpc_msg.specs.declared.source.Take.{Take}
 use Rattle.rpc_msg.specs.declared.source.Take.TheVariants.{Took, End, Failed}
 use Rattle.rpc_msg.specs.declared.sink.Put.{Put}

@@ -1,5 +1,5 @@
 ghost use Rattle.std.specs.Prelude.{◌+◌, Some};
-ghost use Rattle.rpc_msg.specs.Plan.{planned_faults};
+ghost use Rattle.outcome.specs.Plan.{planned_faults};
 
 use crate::{MemSink, MemSource, Put, Sink, Source, Take};
 use std::alloc::Global;

@@ -1,10 +1,10 @@
 ghost use Rattle.std.specs.Prelude.{◌≡◌, ℕ, ◌≤◌, List, [], length};
-ghost use Rattle.rpc_msg.specs.Plan.{planned_faults};
+ghost use Rattle.outcome.specs.Plan.{planned_faults};
 ghost use Rattle.rpc_msg.specs.Draws.{DrawHasCause, drawn_of, after_draw, counted_draw, next_count};
 ghost use Rattle.rpc_msg.specs.declared.draws.Drawn.{Drawn};
 ghost use Rattle.rpc_msg.specs.declared.draws.Drawn.TheVariants.{Got};
 
-use crate::planned::Planned;
+use outcome::Planned;
 use sha2::{Digest, Sha256};
 use std::marker::Model;
 

@@ -26,7 +26,6 @@ mod gss_cred;
 mod head_tests;
 mod memory;
 mod messages;
-mod planned;
 mod pump;
 #[cfg(test)]
 mod pump_tests;
@@ -53,7 +52,7 @@ pub use memory::{MemSink, MemSource};
 pub use messages::{
     RpcFault, heads_are_spelled_once, read_call, read_reply, system_error, write_call, write_reply,
 };
-pub use planned::{Planned, nothing_planned};
+pub use outcome::{Planned, nothing_planned};
 pub use pump::{Handler, Pumped, pump_records, take_some};
 pub use records::{Fed, RECORD_LIMIT, RecordFeed, mark, pieces_join};
 pub use reply::{Denial, ReplyHead, Stat};

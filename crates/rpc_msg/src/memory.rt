@@ -1,12 +1,12 @@
 ghost use Rattle.std.specs.Prelude.{◌≡◌, ◌+◌, ◌≤◌, Some, [], min, take, drop, length, ◌++◌};
 ghost use Rattle.rpc_msg.specs.Source.{TakesWithin, TakesBytes, TakeHasCause};
 ghost use Rattle.rpc_msg.specs.Sink.{PutsWithin, PutsBytes, PutHasCause};
-ghost use Rattle.rpc_msg.specs.Plan.{Plan, planned_faults, after_call};
+ghost use Rattle.outcome.specs.Plan.{Plan, planned_faults, after_call};
 ghost use Rattle.rpc_msg.specs.Memory.{SourceState, SinkState, take_of, PutIs};
 
-use crate::planned::Planned;
 use crate::sink::{Put, Sink};
 use crate::source::{Source, Take};
+use outcome::Planned;
 use std::alloc::Global;
 use std::marker::Model;
 

@@ -5,7 +5,7 @@ use Rattle.std.specs.Bool.{OnTrue}
 use Rattle.outcome.specs.Causes.{Rose}
 use Rattle.std.proofs.lemmas.Bool.{or_cases}
 use Rattle.std.proofs.lemmas.Bool.Decides.{nat_tests}
-use Rattle.rpc_msg.specs.Plan.{made_of, is_made}
+use Rattle.outcome.specs.Plan.{made_of, is_made}
 
 -- a call that was made stays made
 made-later : (calls n : ℕ) → cond (is_made calls n) 1 0 ≤ cond (is_made (calls + 1) n) 1 0

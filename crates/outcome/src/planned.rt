@@ -2,7 +2,7 @@ ghost use Rattle.std.specs.Prelude.{◌≡◌, ◌==◌, ℕ, ◌+◌, ◌≤◌
 ghost use Rattle.std.specs.Bool.{OnTrue};
 ghost use Rattle.std.specs.List.{list_any};
 ghost use Rattle.outcome.specs.Causes.{Rose};
-ghost use Rattle.rpc_msg.specs.Plan.{Plan, is_due, after_call, planned_faults};
+ghost use Rattle.outcome.specs.Plan.{Plan, is_due, after_call, planned_faults};
 
 use std::marker::Model;
 
@@ -14,7 +14,7 @@ pub struct Planned {
 }
 
 impl Model for Planned {
-    ghost use Rattle.rpc_msg.specs.Plan.{Plan};
+    ghost use Rattle.outcome.specs.Plan.{Plan};
 
     ghost Value = { Plan };
 

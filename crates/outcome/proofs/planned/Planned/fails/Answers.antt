@@ -1,5 +1,5 @@
-use Rattle.rpc_msg.proofs.Plans.{made_of-later, made_of-rose}
-use Rattle.rpc_msg.proofs.planned.Planned.fails.Goals as goal
+use Rattle.outcome.proofs.Plans.{made_of-later, made_of-rose}
+use Rattle.outcome.proofs.planned.Planned.fails.Goals as goal
 
 pub returns-clause-later : goal.returns-clause-later
 returns-clause-later c = rw (← c.self.view_is) (made_of-later _ _)
