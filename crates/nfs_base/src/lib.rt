@@ -10,6 +10,8 @@
 
 mod answer;
 mod calls;
+mod cause;
+mod copy_spec;
 mod handle;
 mod job;
 mod limits;
@@ -29,6 +31,8 @@ pub use calls::{
     read_handle, read_net_loc, read_state_id, read_status, read_time, write_handle, write_net_loc,
     write_state_id, write_status, write_time,
 };
+pub use cause::{Cause, PrivCause};
+pub use copy_spec::CopySpec;
 pub use handle::Handle;
 pub use job::{JobName, Stop};
 pub use limits::{

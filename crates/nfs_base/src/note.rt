@@ -1,13 +1,24 @@
 ghost use Rattle.nfs_base.specs.Text.{note_text};
 ghost use Rattle.std.specs.Prelude.{Some};
 
-use crate::{JobName, Side, Status, Stop};
+use crate::{Cause, JobName, PrivCause, Side, Status, Stop};
 use std::fmt;
 
-/// What happened in a step: at the destination (of a job), or at the client (of its calls and copies).
-/// Offsets of chunks count from the start of the copied range; all lengths are bytes.
+/// What happened in a step: at a server (of a grant or a privilege), at the destination (of a job), or at
+/// the client (of its calls and copies). Offsets of chunks count from the start of the copied range; all
+/// lengths are bytes.
 #[derive(Clone, Copy, Debug, PartialEq, Eq)]
 pub enum Note {
+    /// The source didn't let a destination read under a grant.
+    Permit {
+        cause: Cause,
+    },
+
+    /// A server refused a privilege.
+    Privilege {
+        cause: PrivCause,
+    },
+
     /// COPY was answered OK (RFC 7862 section 15.2). A count of 0 goes to the end of the source file.
     Accepted {
         job: JobName,
@@ -82,6 +93,8 @@ impl fmt::Display for Note {
 
     fn fmt<W: fmt::Write>(&self, f: &mut fmt::Formatter<W>) -> fmt::Result {
         match self {
+            Note::Permit { cause } => write!(f, "permit {cause}"),
+            Note::Privilege { cause } => write!(f, "privilege {cause}"),
             Note::Accepted {
                 job,
                 file,

@@ -10,7 +10,7 @@ use Rattle.nfs_base.specs.declared.side.Side.TheVariants.{Source, Dest}
 use Rattle.nfs_base.specs.declared.note.Note.TheVariants as note
 use Rattle.sched_text.specs.Admission.{admits, after, is_within, is_in_order, is_between, is_ready, has_file, most_events, most_writes}
 use Rattle.sched_text.specs.declared.context.Context.{Context}
-use Rattle.sched_text.specs.declared.event.CopySpec.{CopySpec}
+use Rattle.nfs_base.specs.declared.copy_spec.CopySpec.{CopySpec}
 use Rattle.sched_text.specs.declared.event.Event.{Event}
 use Rattle.sched_text.specs.declared.event.Event.TheVariants as event
 use Rattle.run_machine.specs.declared.choice.Choice.{Choice}
@@ -42,8 +42,8 @@ fresh_good : (context : Context) (s d b : Volume) (c : Option Copying) (was : Di
     → IsSound context.source context.dest context.copied s d c
     → c ≡ None
     → (number : ℕ) (spec : CopySpec)
-    → has_file context Dest spec.file ≡ true
-    → IsGoodStep (after context (event.Copy number spec)) (event.Copy number spec) (world_of s d b c was) (says (record (world_of s d b c was).state { copy = Some (new_copy number (plan_of spec)) }) (note.Accepted (job_name (world_of s d b c was).state) spec.file spec.to spec.count))
+    → has_file context Dest spec.dst_file ≡ true
+    → IsGoodStep (after context (event.Copy number spec)) (event.Copy number spec) (world_of s d b c was) (says (record (world_of s d b c was).state { copy = Some (new_copy number (plan_of spec)) }) (note.Accepted (job_name (world_of s d b c was).state) spec.dst_file spec.dst_off spec.count))
 fresh_good context s d b (Some c) was sound never number spec has = absurd (cc)
 fresh_good context s d b None was sound none number spec has =
     calm_good (after context (event.Copy number spec)) s d b s d b None (Some (new_copy number (plan_of spec))) was _ now (λ file. goes_on (file_at s file)) (dest_rests d b) (copies_fresh number (plan_of spec)) refl
@@ -55,7 +55,7 @@ fresh_good context s d b None was sound none number spec has =
           dest = sound.dest;
           whole = λ goes. sound.whole refl;
           none = λ never. absurd (cc);
-          copy = record { there = file_there context.dest d spec.file sound.dest has; entries = sound_none spec.consecutive };
+          copy = record { there = file_there context.dest d spec.dst_file sound.dest has; entries = sound_none spec.consecutive };
         }
 
 -- a step that changes nothing, after a copy was asked for
@@ -107,21 +107,21 @@ module _ (context : Context) (s d b : Volume) (c : Option Copying) (was : Did) (
       → IsGoodStep (after context (event.Copy number spec)) (event.Copy number spec) w (asks w.state number spec)
   copy_good number spec ordered =
       let e : Event = event.Copy number spec in
-      let files : Bool = has_file context Source spec.source_file && has_file context Dest spec.file in
+      let files : Bool = has_file context Source spec.src_file && has_file context Dest spec.dst_file in
       let first = and_parts (is_none context.copied) files (and_parts (is_ready context) (is_none context.copied && files) ordered).1 in
       let none = sound.none (none_from_is_none context.copied first.0) in
-      let has = (and_parts (has_file context Source spec.source_file) (has_file context Dest spec.file) first.1).1 in
+      let has = (and_parts (has_file context Source spec.src_file) (has_file context Dest spec.dst_file) first.1).1 in
       let failed = sound_copied context s d c number sound in
-      let accepted : Step = says (record w.state { copy = Some (new_copy number (plan_of spec)) }) (note.Accepted (job_name w.state) spec.file spec.to spec.count) in
+      let accepted : Step = says (record w.state { copy = Some (new_copy number (plan_of spec)) }) (note.Accepted (job_name w.state) spec.dst_file spec.dst_off spec.count) in
       let full : Step = says w.state (note.Failed number fbig) in
       cond_both
-      (nat_lt (2 ^ 64 - 1) (spec.from + spec.count) || nat_lt (2 ^ 64 - 1) (spec.to + spec.count))
+      (nat_lt (2 ^ 64 - 1) (spec.src_off + spec.count) || nat_lt (2 ^ 64 - 1) (spec.dst_off + spec.count))
       (says w.state (note.Failed number inval))
-      (if nat_lt d.capacity (spec.to + spec.count) then full else accepted)
+      (if nat_lt d.capacity (spec.dst_off + spec.count) then full else accepted)
       (IsGoodStep (after context e) e w)
       (λ beyond. quiet_good (after context e) s d b c was _ failed refl)
       (λ within. cond_both
-      (nat_lt d.capacity (spec.to + spec.count))
+      (nat_lt d.capacity (spec.dst_off + spec.count))
       full
       accepted
       (IsGoodStep (after context e) e w)

@@ -10,7 +10,7 @@ use Rattle.nfs_base.specs.declared.job.JobName.{JobName}
 use Rattle.nfs_base.specs.declared.job.Stop.{Stop}
 use Rattle.nfs_base.specs.declared.job.Stop.TheVariants.{PastEnd, NoRoom}
 use Rattle.nfs_base.specs.declared.note.Note.TheVariants as note
-use Rattle.sched_text.specs.declared.event.CopySpec.{CopySpec}
+use Rattle.nfs_base.specs.declared.copy_spec.CopySpec.{CopySpec}
 use Rattle.sched_text.specs.declared.event.Event.{Event}
 use Rattle.sched_text.specs.declared.event.Event.TheVariants as event
 use Rattle.sched_text.specs.declared.line.Line.{Line}
@@ -64,6 +64,8 @@ sized_right plan size room total =
 
 -- the line says a copy's length
 abbrev says_length : Line → Bool
+says_length (line.Note (note.Permit cause)) = false
+says_length (line.Note (note.Privilege cause)) = false
 says_length (line.Note (note.Accepted job file to count)) = false
 says_length (line.Note (note.Sized job len)) = true
 says_length (line.Note (note.Landed job off len)) = false
@@ -147,15 +149,15 @@ tells_right s number (Some c) =
 
 asks_right : (s : State) (number : ℕ) (spec : CopySpec) → AreRight s (asks s number spec).lines
 asks_right s number spec =
-    let accepted : Step = says (record s { copy = Some (record { number = number; plan = plan_of spec; entries = [] }) }) (note.Accepted (job_name s) spec.file spec.to spec.count) in
+    let accepted : Step = says (record s { copy = Some (record { number = number; plan = plan_of spec; entries = [] }) }) (note.Accepted (job_name s) spec.dst_file spec.dst_off spec.count) in
     cond_both
-    (nat_lt (2 ^ 64 - 1) (spec.from + spec.count) || nat_lt (2 ^ 64 - 1) (spec.to + spec.count))
+    (nat_lt (2 ^ 64 - 1) (spec.src_off + spec.count) || nat_lt (2 ^ 64 - 1) (spec.dst_off + spec.count))
     (says s (note.Failed number inval))
-    (if nat_lt s.dest.capacity (spec.to + spec.count) then says s (note.Failed number fbig) else accepted)
+    (if nat_lt s.dest.capacity (spec.dst_off + spec.count) then says s (note.Failed number fbig) else accepted)
     (λ (step : Step). AreRight s step.lines)
     (λ beyond. silent s _ refl)
     (λ within. cond_both
-    (nat_lt s.dest.capacity (spec.to + spec.count))
+    (nat_lt s.dest.capacity (spec.dst_off + spec.count))
     (says s (note.Failed number fbig))
     accepted
     (λ (step : Step). AreRight s step.lines)

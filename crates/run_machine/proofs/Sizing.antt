@@ -9,7 +9,7 @@ use Rattle.nfs_base.specs.declared.job.Stop.{Stop}
 use Rattle.nfs_base.specs.declared.job.Stop.TheVariants.{PastEnd, NoRoom, DiskFault}
 use Rattle.nfs_base.specs.declared.note.Note.TheVariants as note
 use Rattle.nfs_base.specs.declared.side.Side.TheVariants.{Source, Dest}
-use Rattle.sched_text.specs.declared.event.CopySpec.{CopySpec}
+use Rattle.nfs_base.specs.declared.copy_spec.CopySpec.{CopySpec}
 use Rattle.sched_text.specs.declared.event.Event.{Event}
 use Rattle.sched_text.specs.declared.event.Event.TheVariants as event
 use Rattle.run_machine.specs.declared.choice.Choice.{Choice}
@@ -170,16 +170,16 @@ module _ (s d : Volume) (c : Option Copying) (choice : Choice) where
 
   asks_given : (number : ℕ) (spec : CopySpec) → IsGivenBy (asks now number spec)
   asks_given number spec =
-      let accepted : Step = says (record now { copy = Some (new_copy number (plan_of spec)) }) (note.Accepted (job_name now) spec.file spec.to spec.count) in
+      let accepted : Step = says (record now { copy = Some (new_copy number (plan_of spec)) }) (note.Accepted (job_name now) spec.dst_file spec.dst_off spec.count) in
       let full : Step = says now (note.Failed number fbig) in
       cond_both
-      (nat_lt (2 ^ 64 - 1) (spec.from + spec.count) || nat_lt (2 ^ 64 - 1) (spec.to + spec.count))
+      (nat_lt (2 ^ 64 - 1) (spec.src_off + spec.count) || nat_lt (2 ^ 64 - 1) (spec.dst_off + spec.count))
       (says now (note.Failed number inval))
-      (if nat_lt d.capacity (spec.to + spec.count) then full else accepted)
+      (if nat_lt d.capacity (spec.dst_off + spec.count) then full else accepted)
       IsGivenBy
       (λ beyond. same_given s d c)
       (λ within. cond_both
-      (nat_lt d.capacity (spec.to + spec.count))
+      (nat_lt d.capacity (spec.dst_off + spec.count))
       full
       accepted
       IsGivenBy

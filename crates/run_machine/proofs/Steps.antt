@@ -197,6 +197,8 @@ still_live es e live goes = any_other is_end es e goes ∙ live
 
 -- the line reports a copy as stable
 abbrev pub reports : Line → Bool
+reports (line.Note (note.Permit cause)) = false
+reports (line.Note (note.Privilege cause)) = false
 reports (line.Note (note.Accepted job file to count)) = false
 reports (line.Note (note.Sized job len)) = false
 reports (line.Note (note.Landed job off len)) = false

@@ -8,7 +8,7 @@ use Rattle.nfs_base.specs.declared.job.JobName.{JobName}
 use Rattle.nfs_base.specs.declared.job.Stop.{Stop}
 use Rattle.nfs_base.specs.declared.job.Stop.TheVariants.{PastEnd, NoRoom, DiskFault}
 use Rattle.nfs_base.specs.declared.note.Note.TheVariants as note
-use Rattle.sched_text.specs.declared.event.CopySpec.{CopySpec}
+use Rattle.nfs_base.specs.declared.copy_spec.CopySpec.{CopySpec}
 use Rattle.sched_text.specs.declared.event.Event.{Event}
 use Rattle.sched_text.specs.declared.event.Event.TheVariants as event
 use Rattle.sched_text.specs.declared.line.Line.{Line}
@@ -25,7 +25,7 @@ ten_zeros = 0 ∷ 0 ∷ 0 ∷ 0 ∷ 0 ∷ 0 ∷ 0 ∷ 0 ∷ 0 ∷ 0 ∷ []
 
 -- so many bytes of the source's file 1, from one offset to another of the destination's file 1, in order
 abbrev pub of_digits : ℕ → ℕ → ℕ → CopySpec
-of_digits from to count = record { source_file = 1; from = from; file = 1; to = to; count = count; consecutive = true }
+of_digits from to count = record { src_file = 1; src_off = from; dst_file = 1; dst_off = to; count = count; consecutive = true }
 
 -- all ten, one more than there are, those from the fifth on, and all of them to where one block has no room
 abbrev pub all_digits : CopySpec

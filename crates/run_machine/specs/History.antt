@@ -10,7 +10,7 @@ use Rattle.copy_model.specs.Moment as did
 use Rattle.nfs_base.specs.declared.side.Side.TheVariants.{Source, Dest}
 use Rattle.nfs_base.specs.declared.job.JobName.{JobName}
 use Rattle.nfs_base.specs.declared.note.Note.{Note}
-use Rattle.nfs_base.specs.declared.note.Note.TheVariants.{Accepted, Sized, Landed, Stopped, Committed, Written, Refused, Copied, Stable, Failed, Idle}
+use Rattle.nfs_base.specs.declared.note.Note.TheVariants.{Permit, Privilege, Accepted, Sized, Landed, Stopped, Committed, Written, Refused, Copied, Stable, Failed, Idle}
 use Rattle.sched_text.specs.declared.event.Event.{Event}
 use Rattle.sched_text.specs.declared.event.Event.TheVariants as event
 use Rattle.sched_text.specs.declared.line.Line.{Line}
@@ -69,6 +69,8 @@ mark_stable number w = if w.number == number then record w { copy = record w.cop
 
 -- what a note shows
 abbrev pub notes : Event → Note → Seen → Seen
+notes e (Permit cause) seen = seen
+notes e (Privilege cause) seen = seen
 notes e (Accepted job file to count) seen = record seen { copies = seen.copies ++ asked e ∷ [] }
 notes e (Sized job len) seen = with_copy seen (place_of job) (record (watched_at seen (place_of job)).copy { len = len })
 notes e (Landed job off len) seen = record seen { did = did.Landed (place_of job) off len }

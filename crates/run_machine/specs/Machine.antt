@@ -10,10 +10,10 @@ use Rattle.nfs_base.specs.declared.side.Side.TheVariants.{Source, Dest}
 use Rattle.nfs_base.specs.declared.status.Status.{Status}
 use Rattle.nfs_base.specs.declared.job.JobName.{JobName}
 use Rattle.nfs_base.specs.declared.job.Stop.{Stop}
-use Rattle.nfs_base.specs.declared.job.Stop.TheVariants.{PastEnd, NoRoom, DiskFault}
+use Rattle.nfs_base.specs.declared.job.Stop.TheVariants.{Cancelled, LeaseExpired, ClientGone, SourceRefused, SourceFailed, PastEnd, NoRoom, DiskFault, LinkFault, Worn}
 use Rattle.nfs_base.specs.declared.note.Note.{Note}
 use Rattle.nfs_base.specs.declared.note.Note.TheVariants as note
-use Rattle.sched_text.specs.declared.event.CopySpec.{CopySpec}
+use Rattle.nfs_base.specs.declared.copy_spec.CopySpec.{CopySpec}
 use Rattle.sched_text.specs.declared.event.Event.{Event}
 use Rattle.sched_text.specs.declared.event.Event.TheVariants as event
 use Rattle.sched_text.specs.declared.line.Line.{Line}
@@ -72,7 +72,8 @@ abbrev pub with_volume : State → Side → Volume → State
 with_volume s Source v = record s { source = v }
 with_volume s Dest v = record s { dest = v }
 
--- NFS4ERR_IO, NFS4ERR_INVAL and NFS4ERR_FBIG (RFC 8881 section 15.1)
+-- NFS4ERR_IO, NFS4ERR_INVAL, NFS4ERR_FBIG and NFS4ERR_SERVERFAULT (RFC 8881 section 15.1), and
+-- NFS4ERR_PARTNER_NOTSUPP (RFC 7862 section 11.1)
 abbrev pub io : Status
 io = record { number = 5 }
 
@@ -82,11 +83,25 @@ inval = record { number = 22 }
 abbrev pub fbig : Status
 fbig = record { number = 27 }
 
--- the status that a client learns of a stopped job
+abbrev pub server_fault : Status
+server_fault = record { number = 10006 }
+
+abbrev pub partner_notsupp : Status
+partner_notsupp = record { number = 10088 }
+
+-- The status that a client learns of a stopped job. Of one that was cancelled or ended with its client no
+-- client learns anything.
 abbrev pub stop_status : Stop → Status
+stop_status Cancelled = server_fault
+stop_status LeaseExpired = server_fault
+stop_status ClientGone = server_fault
+stop_status (SourceRefused status) = status
+stop_status (SourceFailed accept_stat) = server_fault
 stop_status PastEnd = inval
 stop_status NoRoom = fbig
 stop_status DiskFault = io
+stop_status LinkFault = partner_notsupp
+stop_status Worn = server_fault
 
 -- the name of the one job
 abbrev pub job_name : State → JobName
@@ -112,10 +127,10 @@ client_writes s choice file off bytes =
 abbrev pub plan_of : CopySpec → Plan
 plan_of spec =
     record {
-      source_file = spec.source_file;
-      from = spec.from;
-      file = spec.file;
-      to = spec.to;
+      source_file = spec.src_file;
+      from = spec.src_off;
+      file = spec.dst_file;
+      to = spec.dst_off;
       count = spec.count;
       consecutive = spec.consecutive;
     }
@@ -123,13 +138,13 @@ plan_of spec =
 -- the client asks for a copy
 abbrev pub asks : State → ℕ → CopySpec → Step
 asks s number spec =
-    if nat_lt (2 ^ 64 - 1) (spec.from + spec.count) || nat_lt (2 ^ 64 - 1) (spec.to + spec.count)
+    if nat_lt (2 ^ 64 - 1) (spec.src_off + spec.count) || nat_lt (2 ^ 64 - 1) (spec.dst_off + spec.count)
     then says s (note.Failed number inval)
-    else if nat_lt s.dest.capacity (spec.to + spec.count)
+    else if nat_lt s.dest.capacity (spec.dst_off + spec.count)
     then says s (note.Failed number fbig)
     else says
     (record s { copy = Some (record { number = number; plan = plan_of spec; entries = [] }) })
-    (note.Accepted (job_name s) spec.file spec.to spec.count)
+    (note.Accepted (job_name s) spec.dst_file spec.dst_off spec.count)
 
 -- the length of the range, where the source file has this size
 abbrev pub range_len : Plan → ℕ → ℕ

@@ -7,7 +7,7 @@ use Rattle.nfs_base.specs.declared.side.Side.TheVariants.{Source}
 use Rattle.nfs_base.specs.declared.status.Status.{Status}
 use Rattle.nfs_base.specs.declared.note.Note.{Note}
 use Rattle.nfs_base.specs.declared.note.Note.TheVariants as note
-use Rattle.sched_text.specs.declared.event.CopySpec.{CopySpec}
+use Rattle.nfs_base.specs.declared.copy_spec.CopySpec.{CopySpec}
 use Rattle.sched_text.specs.declared.line.Line.{Line}
 use Rattle.sched_text.specs.declared.line.Line.TheVariants as line
 use Rattle.run_machine.specs.declared.choice.Choice.{Choice}
@@ -34,9 +34,9 @@ write_note v choice file off bytes =
 -- why a copy is refused, if it is
 abbrev pub refusal_of : CopySpec → ℕ → Option Status
 refusal_of spec capacity =
-    if nat_lt (2 ^ 64 - 1) (spec.from + spec.count) || nat_lt (2 ^ 64 - 1) (spec.to + spec.count)
+    if nat_lt (2 ^ 64 - 1) (spec.src_off + spec.count) || nat_lt (2 ^ 64 - 1) (spec.dst_off + spec.count)
     then Some inval
-    else if nat_lt capacity (spec.to + spec.count) then Some fbig else None
+    else if nat_lt capacity (spec.dst_off + spec.count) then Some fbig else None
 
 -- what a client learns that asks how far its copy is
 abbrev pub progress_note : ℕ → Option Copying → Note

@@ -4,7 +4,7 @@ use Rattle.std.specs.Prelude.{◌≡◌, ℕ, ◌+◌, ◌<◌, ◌≤◌, None,
 use Rattle.copy_model.specs.Volume.{Volume}
 use Rattle.copy_model.specs.Job.{Plan, size_of}
 use Rattle.copy_job.specs.declared.plan.Plan.{Plan as JobPlan}
-use Rattle.sched_text.specs.declared.event.CopySpec.{CopySpec}
+use Rattle.nfs_base.specs.declared.copy_spec.CopySpec.{CopySpec}
 use Rattle.sched_run.specs.declared.copying.Copying.{Copying}
 use Rattle.run_machine.specs.Machine.{State}
 use Rattle.run_machine.specs.Machine as machine
@@ -34,9 +34,9 @@ abbrev pub new_copying : ℕ → CopySpec → Copying
 new_copying number spec =
     record {
       number = number;
-      source_file = spec.source_file;
+      source_file = spec.src_file;
       job = record {
-        plan = record { file = spec.file; from = spec.from; to = spec.to; count = spec.count; consecutive = spec.consecutive };
+        plan = record { file = spec.dst_file; from = spec.src_off; to = spec.dst_off; count = spec.count; consecutive = spec.consecutive };
         entries = [];
         cause = None;
       };

@@ -8,10 +8,10 @@ use crate::copying::Copying;
 use crate::turn::Turn;
 use block_file::{ReadFault, Volume, WriteFault};
 use disk_model::Disk;
-use nfs_base::{Note, Side, Status};
+use nfs_base::{CopySpec, Note, Side, Status};
 use outcome::Mem;
 use run_machine::Choice;
-use sched_text::{CopySpec, Line};
+use sched_text::Line;
 use std::alloc::Global;
 use wire_xdr::Octets;
 
@@ -91,8 +91,8 @@ pub fn refusal(spec: CopySpec, capacity: u64) -> Option<Status>
     ensures { result ≡ refusal_of spec capacity }
 {
     match (
-        spec.from.checked_add(spec.count),
-        spec.to.checked_add(spec.count),
+        spec.src_off.checked_add(spec.count),
+        spec.dst_off.checked_add(spec.count),
     ) {
         (Some(_), Some(end)) if end <= capacity => None,
         (Some(_), Some(_)) => Some(Status::FBIG),

@@ -11,10 +11,10 @@ use crate::turn::Turn;
 use block_file::{ReadFault, Volume, WriteFault};
 use copy_job::{Chunk, Job, Plan};
 use disk_model::Disk;
-use nfs_base::{JobName, Note, Side, Status, Stop};
+use nfs_base::{CopySpec, JobName, Note, Side, Status, Stop};
 use outcome::Mem;
 use run_machine::Choice;
-use sched_text::{CopySpec, Line};
+use sched_text::Line;
 use std::alloc::Global;
 
 /// The one copy of a run: the client's number of it, the file that it reads at the source, and its job
@@ -41,9 +41,13 @@ fn stop_status(cause: Stop) -> Status
     ensures { result ≡ machine.stop_status cause }
 {
     match cause {
+        Stop::Cancelled | Stop::LeaseExpired | Stop::ClientGone => Status::SERVERFAULT,
+        Stop::SourceRefused(status) => status,
         Stop::PastEnd => Status::INVAL,
         Stop::NoRoom => Status::FBIG,
         Stop::DiskFault => Status::IO,
+        Stop::LinkFault => Status::PARTNER_NOTSUPP,
+        Stop::SourceFailed(_) | Stop::Worn => Status::SERVERFAULT,
     }
 }
 
@@ -76,15 +80,15 @@ impl Copying {
         ensures { result ≡ new_copying number spec }
     {
         let plan = Plan {
-            file: spec.file,
-            from: spec.from,
-            to: spec.to,
+            file: spec.dst_file,
+            from: spec.src_off,
+            to: spec.dst_off,
             count: spec.count,
             consecutive: spec.consecutive,
         };
         Copying {
             number,
-            source_file: spec.source_file,
+            source_file: spec.src_file,
             job: Job::new(plan),
         }
     }

@@ -10,11 +10,11 @@ use crate::fresh::Unmade;
 use crate::server::{Disks, Server};
 use crate::turn::Turn;
 use disk_model::Disk;
-use nfs_base::{Note, Side};
+use nfs_base::{CopySpec, Note, Side};
 use outcome::Mem;
 use rpc_msg::{Sink, put_all};
 use run_machine::Choice;
-use sched_text::{Context, CopySpec, Event, Line, Schedule};
+use sched_text::{Context, Event, Line, Schedule};
 use std::alloc::Global;
 use std::marker::Model;
 use wire_xdr::Octets;
@@ -208,8 +208,8 @@ impl<D: Disk + Drop> System<D> {
             None => {
                 let accepted = Note::Accepted {
                     job: job_name(dest),
-                    file: spec.file,
-                    to: spec.to,
+                    file: spec.dst_file,
+                    to: spec.dst_off,
                     count: spec.count,
                 };
                 let turn = Turn::one(alloc, accepted)?;

@@ -10,7 +10,7 @@ use Rattle.std.proofs.lemmas.Slice.Eq.{bytes_eq-Decides}
 use Rattle.nfs_base.specs.declared.side.Side.{Side}
 use Rattle.nfs_base.specs.declared.side.Side.TheVariants.{Source, Dest}
 use Rattle.nfs_base.specs.Text.{side_text}
-use Rattle.sched_text.specs.declared.event.CopySpec.{CopySpec}
+use Rattle.nfs_base.specs.declared.copy_spec.CopySpec.{CopySpec}
 use Rattle.sched_text.specs.declared.event.Event.{Event}
 use Rattle.sched_text.specs.declared.event.Event.TheVariants.{Volume, Write, Copy, Work, Status, Peek}
 use Rattle.sched_text.specs.Admission.{is_within}
@@ -79,7 +79,7 @@ plain_words (Volume side files blocks) fits =
 plain_words (Write file off bytes) fits =
     rw (plain_decimal file (omega (arith, fits.0)), plain_decimal off fits.1, plain_hex bytes) refl
 plain_words (Copy copy spec) fits =
-    rw (plain_decimal copy (omega (arith, fits.0)), plain_decimal spec.source_file (omega (arith, fits.1.source_file)), plain_decimal spec.from fits.1.from, plain_decimal spec.file (omega (arith, fits.1.file)), plain_decimal spec.to fits.1.to, plain_decimal spec.count fits.1.count, plain_consecutive spec.consecutive) refl
+    rw (plain_decimal copy (omega (arith, fits.0)), plain_decimal spec.src_file (omega (arith, fits.1.src_file)), plain_decimal spec.src_off fits.1.src_off, plain_decimal spec.dst_file (omega (arith, fits.1.dst_file)), plain_decimal spec.dst_off fits.1.dst_off, plain_decimal spec.count fits.1.count, plain_consecutive spec.consecutive) refl
 plain_words Work fits = refl
 plain_words (Status copy) fits = rw (plain_decimal copy (omega (arith, fits))) refl
 plain_words (Peek side file off len) fits =
@@ -108,7 +108,7 @@ event_of-words_for (Volume side files blocks) fits within = rw (side_of-text sid
 event_of-words_for (Write file off bytes) fits within =
     rw (below_32 file fits.0, number_of-decimal off fits.1, bytes_of-hex_text bytes fits.2 (and_parts _ _ within).0) refl
 event_of-words_for (Copy copy spec) fits within =
-    rw (below_8 copy fits.0, below_32 spec.source_file fits.1.source_file, number_of-decimal spec.from fits.1.from, below_32 spec.file fits.1.file, number_of-decimal spec.to fits.1.to, number_of-decimal spec.count fits.1.count, consecutive_of-text spec.consecutive) refl
+    rw (below_8 copy fits.0, below_32 spec.src_file fits.1.src_file, number_of-decimal spec.src_off fits.1.src_off, below_32 spec.dst_file fits.1.dst_file, number_of-decimal spec.dst_off fits.1.dst_off, number_of-decimal spec.count fits.1.count, consecutive_of-text spec.consecutive) refl
 event_of-words_for Work fits within = refl
 event_of-words_for (Status copy) fits within = rw (below_8 copy fits) refl
 event_of-words_for (Peek side file off len) fits within =
@@ -193,24 +193,24 @@ write_spells (x ∷ f ∷ o ∷ h ∷ []) event is =
     ]
 write_spells words event is = absurd (cc is)
 
-copy_spec_spells : (words : List (List ℕ)) (spec : CopySpec) → copy_spec_of words ≡ Some spec → (words ≡ decimal spec.source_file ∷ decimal spec.from ∷ decimal spec.file ∷ decimal spec.to ∷ decimal spec.count ∷ consecutive_text spec.consecutive ∷ []) × FitsSpec spec
+copy_spec_spells : (words : List (List ℕ)) (spec : CopySpec) → copy_spec_of words ≡ Some spec → (words ≡ decimal spec.src_file ∷ decimal spec.src_off ∷ decimal spec.dst_file ∷ decimal spec.dst_off ∷ decimal spec.count ∷ consecutive_text spec.consecutive ∷ []) × FitsSpec spec
 unfolding copy_spec_of
 copy_spec_spells (s ∷ o ∷ d ∷ t ∷ n ∷ c ∷ []) spec is =
-    option_and_then_some _ (number_below (2 ^ 32) s) spec is (λ source_file source_file_is after_source_file.
-    option_and_then_some _ (number_of o) spec after_source_file (λ from from_is after_from.
-    option_and_then_some _ (number_below (2 ^ 32) d) spec after_from (λ file file_is after_file.
-    option_and_then_some _ (number_of t) spec after_file (λ to to_is after_to.
-    option_and_then_some _ (number_of n) spec after_to (λ count count_is after_count.
+    option_and_then_some _ (number_below (2 ^ 32) s) spec is (λ src_file src_file_is after_src_file.
+    option_and_then_some _ (number_of o) spec after_src_file (λ src_off src_off_is after_src_off.
+    option_and_then_some _ (number_below (2 ^ 32) d) spec after_src_off (λ dst_file dst_file_is after_dst_file.
+    option_and_then_some _ (number_of t) spec after_dst_file (λ dst_off dst_off_is after_dst_off.
+    option_and_then_some _ (number_of n) spec after_dst_off (λ count count_is after_count.
     option_and_then_some _ (consecutive_of c) spec after_count (λ consecutive consecutive_is whole.
-    let s_is = decimal-number_below (2 ^ 32) s source_file source_file_is in
-    let o_is = decimal-number_of o from from_is in
-    let d_is = decimal-number_below (2 ^ 32) d file file_is in
-    let t_is = decimal-number_of t to to_is in
+    let s_is = decimal-number_below (2 ^ 32) s src_file src_file_is in
+    let o_is = decimal-number_of o src_off src_off_is in
+    let d_is = decimal-number_below (2 ^ 32) d dst_file dst_file_is in
+    let t_is = decimal-number_of t dst_off dst_off_is in
     let n_is = decimal-number_of n count count_is in
-    let same : ◌≡◌ {A = CopySpec} (record { source_file = source_file; from = from; file = file; to = to; count = count; consecutive = consecutive }) spec = same_Some _ _ whole in
+    let same : ◌≡◌ {A = CopySpec} (record { src_file = src_file; src_off = src_off; dst_file = dst_file; dst_off = dst_off; count = count; consecutive = consecutive }) spec = same_Some _ _ whole in
     rw (sym same) (
       rw (s_is.1, o_is.1, d_is.1, t_is.1, n_is.1, consecutive-consecutive_of c consecutive consecutive_is) refl,
-      record { source_file = s_is.0; from = o_is.0; file = d_is.0; to = t_is.0; count = n_is.0 },
+      record { src_file = s_is.0; src_off = o_is.0; dst_file = d_is.0; dst_off = t_is.0; count = n_is.0 },
     )))))))
 copy_spec_spells words spec is = absurd (cc is)
 

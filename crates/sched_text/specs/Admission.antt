@@ -52,7 +52,7 @@ is_ready context = is_some context.source && is_some context.dest
 abbrev pub is_in_order : Context → Event → Bool
 is_in_order context (Volume side files blocks) = is_none (files_of context side)
 is_in_order context (Write file off bytes) = is_ready context && (has_file context Source file && nat_lt context.writes most_writes)
-is_in_order context (Copy copy spec) = is_ready context && (is_none context.copied && (has_file context Source spec.source_file && has_file context Dest spec.file))
+is_in_order context (Copy copy spec) = is_ready context && (is_none context.copied && (has_file context Source spec.src_file && has_file context Dest spec.dst_file))
 is_in_order context Work = is_ready context
 is_in_order context (Status copy) = is_ready context && option_map_or (λ begun. begun == copy) context.copied false
 is_in_order context (Peek side file off len) = is_ready context && has_file context side file

@@ -3,7 +3,7 @@ use Rattle.std.specs.Prelude.{ℕ, ◌^◌, Bool, true, false, Option, None, Som
 use Rattle.std.specs.Str.{bytes_eq}
 use Rattle.nfs_base.specs.declared.side.Side.{Side}
 use Rattle.nfs_base.specs.declared.side.Side.TheVariants.{Source, Dest}
-use Rattle.sched_text.specs.declared.event.CopySpec.{CopySpec}
+use Rattle.nfs_base.specs.declared.copy_spec.CopySpec.{CopySpec}
 use Rattle.sched_text.specs.declared.event.Event.{Event}
 use Rattle.sched_text.specs.declared.event.Event.TheVariants.{Volume, Write, Copy, Work, Status, Peek}
 use Rattle.sched_text.specs.Numerals.{◌>>=◌, number_of, number_below, bytes_of}
@@ -37,13 +37,13 @@ write_of words = None
 -- `SFILE SOFF DFILE DOFF COUNT c` or `n`
 unfoldable pub copy_spec_of : List (List ℕ) → Option CopySpec
 copy_spec_of (s ∷ o ∷ d ∷ t ∷ n ∷ c ∷ []) = do
-  source_file ← number_below (2 ^ 32) s
-  from ← number_of o
-  file ← number_below (2 ^ 32) d
-  to ← number_of t
+  src_file ← number_below (2 ^ 32) s
+  src_off ← number_of o
+  dst_file ← number_below (2 ^ 32) d
+  dst_off ← number_of t
   count ← number_of n
   consecutive ← consecutive_of c
-  Some (record { source_file = source_file; from = from; file = file; to = to; count = count; consecutive = consecutive })
+  Some (record { src_file = src_file; src_off = src_off; dst_file = dst_file; dst_off = dst_off; count = count; consecutive = consecutive })
 copy_spec_of words = None
 
 -- `copy J SFILE SOFF DFILE DOFF COUNT c` or `n`

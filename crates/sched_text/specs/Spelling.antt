@@ -2,7 +2,7 @@
 use Rattle.std.specs.Prelude.{ℕ, ◌++◌, ◌^◌, ◌<◌, Bool, true, false, List, [], ◌∷◌, codes, decimal, All}
 use Rattle.std.specs.List.{join_with_byte, flat_map}
 use Rattle.nfs_base.specs.Text.{side_text}
-use Rattle.sched_text.specs.declared.event.CopySpec.{CopySpec}
+use Rattle.nfs_base.specs.declared.copy_spec.CopySpec.{CopySpec}
 use Rattle.sched_text.specs.declared.event.Event.{Event}
 use Rattle.sched_text.specs.declared.event.Event.TheVariants.{Volume, Write, Copy, Work, Status, Peek}
 use Rattle.sched_text.specs.LineText.{hex_text}
@@ -17,7 +17,7 @@ abbrev pub words_for : Event → List (List ℕ)
 words_for (Volume side files blocks) = codes "volume" ∷ side_text side ∷ decimal files ∷ decimal blocks ∷ []
 words_for (Write file off bytes) = codes "write" ∷ codes "s" ∷ decimal file ∷ decimal off ∷ hex_text bytes ∷ []
 words_for (Copy copy spec) =
-    codes "copy" ∷ decimal copy ∷ decimal spec.source_file ∷ decimal spec.from ∷ decimal spec.file ∷ decimal spec.to ∷ decimal spec.count
+    codes "copy" ∷ decimal copy ∷ decimal spec.src_file ∷ decimal spec.src_off ∷ decimal spec.dst_file ∷ decimal spec.dst_off ∷ decimal spec.count
     ∷ consecutive_text spec.consecutive ∷ []
 words_for Work = codes "work" ∷ codes "1" ∷ []
 words_for (Status copy) = codes "status" ∷ decimal copy ∷ []
@@ -29,10 +29,10 @@ spelling event = join_with_byte 32 (words_for event)
 
 -- the numbers of a copy fit their types
 pub record FitsSpec (spec : CopySpec) : Type 0 where
-  pub source_file : spec.source_file < 2 ^ 32
-  pub from : spec.from < 2 ^ 64
-  pub file : spec.file < 2 ^ 32
-  pub to : spec.to < 2 ^ 64
+  pub src_file : spec.src_file < 2 ^ 32
+  pub src_off : spec.src_off < 2 ^ 64
+  pub dst_file : spec.dst_file < 2 ^ 32
+  pub dst_off : spec.dst_off < 2 ^ 64
   pub count : spec.count < 2 ^ 64
 
 -- the numbers of an event fit their types, and its bytes are bytes

@@ -93,8 +93,8 @@ impl Context {
             Event::Copy { spec, .. } => {
                 self.is_ready()
                     && self.copied.is_none()
-                    && self.has_file(Side::Source, spec.source_file)
-                    && self.has_file(Side::Dest, spec.file)
+                    && self.has_file(Side::Source, spec.src_file)
+                    && self.has_file(Side::Dest, spec.dst_file)
             }
             Event::Work => self.is_ready(),
             Event::Status { copy } => self.is_ready() && self.has_begun(*copy),

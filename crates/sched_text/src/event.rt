@@ -1,7 +1,7 @@
 ghost use Rattle.sched_text.specs.Admission.{is_between, is_within};
 ghost use Rattle.std.specs.Prelude.{◌≡◌};
 
-use nfs_base::{MOST_BLOCKS, MOST_FILES, Side};
+use nfs_base::{CopySpec, MOST_BLOCKS, MOST_FILES, Side};
 use wire_xdr::Octets;
 
 /// The highest number of a copy.
@@ -12,19 +12,6 @@ const MOST_WRITTEN: u64 = 65_536;
 
 /// How many bytes one event shows at most.
 const MOST_SHOWN: u64 = 64;
-
-/// What the client asks of a copy (the arguments of COPY, RFC 7862 section 15.2): `count` bytes from
-/// offset `from` of the source's file to offset `to` of the destination's file. A count of 0 goes to
-/// the end of the source file. A consecutive copy lands in order.
-#[derive(Clone, Copy, Debug, PartialEq, Eq)]
-pub struct CopySpec {
-    pub source_file: u32,
-    pub from: u64,
-    pub file: u32,
-    pub to: u64,
-    pub count: u64,
-    pub consecutive: bool,
-}
 
 /// One event of a schedule. Files go by number, counted from 1 in each volume; offsets and lengths are
 /// bytes.

@@ -2,10 +2,10 @@ ghost use Rattle.sched_text.specs.Grammar.{consecutive_of, copy_of, copy_spec_of
 ghost use Rattle.sched_text.specs.Words.{words_of};
 ghost use Rattle.std.specs.Prelude.{◌≡◌, IfOk};
 
+use crate::Event;
 use crate::numerals::{bytes, number, number_u8, number_u32};
 use crate::words::{first_word, four, one, six, three};
-use crate::{CopySpec, Event};
-use nfs_base::Side;
+use nfs_base::{CopySpec, Side};
 use outcome::Mem;
 use std::alloc::Global;
 
@@ -86,12 +86,12 @@ fn read_copy(words: &[u8]) -> Option<Event>
 fn read_copy_spec(words: &[u8]) -> Option<CopySpec>
     ensures { result ≡ copy_spec_of (words_of words.now) }
 {
-    let (source_file, from, file, to, count, consecutive) = six(words)?;
+    let (src_file, src_off, dst_file, dst_off, count, consecutive) = six(words)?;
     Some(CopySpec {
-        source_file: number_u32(source_file)?,
-        from: number(from)?,
-        file: number_u32(file)?,
-        to: number(to)?,
+        src_file: number_u32(src_file)?,
+        src_off: number(src_off)?,
+        dst_file: number_u32(dst_file)?,
+        dst_off: number(dst_off)?,
         count: number(count)?,
         consecutive: read_consecutive(consecutive)?,
     })

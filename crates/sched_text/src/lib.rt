@@ -20,7 +20,7 @@ mod tests;
 mod words;
 
 pub use context::Context;
-pub use event::{CopySpec, Event};
+pub use event::Event;
 pub use laws::{
     byte_words, event_lines, first_bad_line, number_words, schedule_lines, schedule_texts,
 };

@@ -130,7 +130,7 @@ fn events_in_order(rt: HostRuntime) -> Result<(), Fail> {
         "[Volume { side: Source, files: 3, blocks: 4 }, \
         Volume { side: Dest, files: 5, blocks: 6 }, \
         Write { file: 2, off: 70, bytes: Octets { bytes: [9, 175] } }, \
-        Copy { copy: 7, spec: CopySpec { source_file: 1, from: 20, file: 4, to: 30, count: 40, consecutive: true } }, \
+        Copy { copy: 7, spec: CopySpec { src_file: 1, src_off: 20, dst_file: 4, dst_off: 30, count: 40, consecutive: true } }, \
         Work, Status { copy: 7 }, \
         Peek { side: Dest, file: 5, off: 80, len: 9 }]"
     );
