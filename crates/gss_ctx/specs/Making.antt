@@ -1,8 +1,8 @@
 -- How a context is made: by INIT, as a child by CREATE, and for callbacks.
 use Rattle.std.specs.Prelude.{◌≡◌, ℕ, ◌+◌, Bool, true, false, List, Option, Some, None, Result, Ok, Err}
 use Rattle.wire_xdr.specs.Words.{word_bytes}
-use Rattle.rpc_msg.specs.declared.draws.Drawn.{Drawn}
-use Rattle.rpc_msg.specs.declared.draws.Drawn.TheVariants.{Got, Failed}
+use Rattle.streams.specs.declared.draws.Drawn.{Drawn}
+use Rattle.streams.specs.declared.draws.Drawn.TheVariants.{Got, Failed}
 use Rattle.gss_mech.specs.declared.mechanism.Accepted.{Accepted}
 use Rattle.gss_ctx.specs.declared.context.Context.{Context}
 use Rattle.gss_ctx.specs.declared.context.Entry.{Entry}

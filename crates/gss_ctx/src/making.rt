@@ -8,7 +8,7 @@ use crate::contexts::{Contexts, handle_of, is_live};
 use gss_mech::Mechanism;
 use nfs_base::WINDOW_SIZE;
 use outcome::Mem;
-use rpc_msg::{Drawn, Draws};
+use streams::{Drawn, Draws};
 use std::alloc::Global;
 use wire_xdr::Octets;
 

@@ -9,7 +9,7 @@ use gss_ctx::{
 };
 use gss_mech::Mechanism;
 use nfs_base::End;
-use rpc_msg::CountDraws;
+use streams::CountDraws;
 use std::alloc::Global;
 use std::process::Abort;
 use std::test::Fail;

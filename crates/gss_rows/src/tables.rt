@@ -1,7 +1,7 @@
 use crate::asked::Asked;
 use crate::ends::{Init, Server, Told};
 use gss_ctx::Inited;
-use rpc_msg::MemDraws;
+use streams::MemDraws;
 use std::alloc::Global;
 use std::process::Abort;
 use std::test::Fail;

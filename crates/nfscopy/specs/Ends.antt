@@ -3,7 +3,7 @@
 use Rattle.std.specs.Prelude.{◌≡◌, ℕ, ◌≤◌, true, false, Option, None, Some, is_some, List, IfSome}
 use Rattle.std.specs.Io.KnownBytes.{Appends, IsAtEnd}
 use Rattle.outcome.specs.Causes.{Rose}
-use Rattle.rpc_msg.specs.Sink.{AppendsFront}
+use Rattle.streams.specs.Sink.{AppendsFront}
 use Rattle.wire_show.specs.Text.{lines_text}
 use Rattle.wire_show.specs.Shown.{shown, refused}
 use Rattle.nfscopy.specs.declared.status.Status.{Status}

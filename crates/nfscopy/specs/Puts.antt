@@ -2,7 +2,7 @@
 use Rattle.std.specs.Prelude.{◌≡◌, ◌⊎◌, ℕ, Option, List}
 use Rattle.std.specs.Io.KnownBytes.{Keeps, Appends}
 use Rattle.outcome.specs.Causes.{Rose}
-use Rattle.rpc_msg.specs.Sink.{AppendsFront}
+use Rattle.streams.specs.Sink.{AppendsFront}
 use Rattle.sched_run.specs.Run.{small_text}
 use Rattle.sched_run.specs.declared.fresh.Unmade.{Unmade}
 use Rattle.sched_run.specs.declared.fresh.Unmade.TheVariants.{DiskFailed, TooSmall, NotVolume}

@@ -2,7 +2,7 @@
 use Rattle.std.specs.Prelude.{◌≡◌, ◌⊎◌, ℕ, Bool, true, false, Option, None, Some, Result, Ok, Err, List, length, nat_lt, IfSome}
 use Rattle.std.specs.Io.KnownBytes.{Keeps, Appends, IsAtEnd}
 use Rattle.outcome.specs.Causes.{Rose}
-use Rattle.rpc_msg.specs.Sink.{AppendsFront}
+use Rattle.streams.specs.Sink.{AppendsFront}
 use Rattle.copy_model.specs.Promise.{IsKept, IsStopped}
 use Rattle.nfs_base.specs.declared.side.Side.TheVariants.{Source, Dest}
 use Rattle.sched_text.specs.declared.event.Event.{Event}

@@ -9,7 +9,7 @@ use crate::notice::{bad_line, not_volume_line, small_line, too_much_line, usage_
 use crate::status::Status;
 use disk_model::Disk;
 use outcome::NoMemory;
-use rpc_msg::{Sink, Source, Whole, put_all, read_whole};
+use streams::{Sink, Source, Whole, put_all, read_whole};
 use run_machine::every_run;
 use sched_run::{Disks, Ran, System, Unmade};
 use sched_text::{Schedule, schedule_lines};

@@ -4,7 +4,7 @@ ghost use Rattle.nfscopy.specs.Ends.{ShowEnds};
 
 use crate::status::Status;
 use outcome::NoMemory;
-use rpc_msg::{Sink, Source};
+use streams::{Sink, Source};
 use std::alloc::Global;
 use wire_show::{Shown, do_show};
 

@@ -8,7 +8,7 @@ use crate::command::Command;
 use crate::run::{run, usage};
 use crate::show::show;
 use disk_model::Disk;
-use rpc_msg::{Sink, Source};
+use streams::{Sink, Source};
 use sched_run::Disks;
 use std::alloc::Global;
 

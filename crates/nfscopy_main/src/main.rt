@@ -3,7 +3,7 @@
 
 use disk_model::MemoryDisk;
 use nfscopy::{Status, nfscopy};
-use rpc_msg::{Reading, Writing};
+use streams::{Reading, Writing};
 use sched_run::Disks;
 use std::alloc::Global;
 use std::env::{self, Env};

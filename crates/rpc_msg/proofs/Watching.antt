@@ -13,8 +13,8 @@ use Rattle.rpc_msg.specs.Watching.{bytes_limit, is_part, Watch, Signs, is_down, 
 use Rattle.rpc_msg.specs.declared.watched.Got.{Got}
 use Rattle.rpc_msg.specs.declared.watched.Got.TheVariants as got
 use Rattle.rpc_msg.specs.declared.watched.Asked.TheVariants as kinds
-use Rattle.rpc_msg.specs.declared.sink.Put.{Put}
-use Rattle.rpc_msg.specs.declared.sink.Put.TheVariants as puts
+use Rattle.streams.specs.declared.sink.Put.{Put}
+use Rattle.streams.specs.declared.sink.Put.TheVariants as puts
 use Rattle.rpc_msg.specs.declared.records.Fed.{Fed}
 use Rattle.rpc_msg.specs.declared.records.Fed.TheVariants as fed
 use Rattle.rpc_msg.proofs.Streams.{flow-append}

@@ -1,13 +1,7 @@
-pub mod Source
-pub mod Sink
-pub mod Memory
-pub mod Adapters
-pub mod Whole
 pub mod Records
 pub mod Underway
 pub mod Room
 pub mod Serving
-pub mod Draws
 pub mod Unread
 pub mod Watching
 pub mod Heads

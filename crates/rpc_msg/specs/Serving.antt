@@ -8,14 +8,12 @@ use Rattle.std.specs.declared.result.Result.{Result}
 use Rattle.std.specs.Io.KnownBytes.{Appends, Consumes, IsAtEnd}
 use Rattle.outcome.specs.Causes.{Rose}
 use Rattle.rpc_msg.specs.Records.{marked}
-use Rattle.rpc_msg.specs.Sink.{AppendsFront}
+use Rattle.streams.specs.Sink.{AppendsFront}
 use Rattle.rpc_msg.specs.Underway.{Feed, State, Open, Shut, fresh, flow}
 use Rattle.rpc_msg.specs.declared.pump.Pumped.{Pumped}
 use Rattle.rpc_msg.specs.declared.pump.Pumped.TheVariants as pumped
 use Rattle.rpc_msg.specs.declared.pump.Piece.{Piece}
 use Rattle.rpc_msg.specs.declared.pump.Piece.TheVariants as piece
-use Rattle.rpc_msg.specs.declared.source.Take.{Take}
-use Rattle.rpc_msg.specs.declared.source.Take.TheVariants as took
 
 -- The handler answers these records with these replies, one after another.
 abbrev pub Serves : {H : Type 0} → (H → List ℕ → List ℕ → H → Type 0) → H → List (List ℕ) → List (List ℕ) → H → Type 0
@@ -151,8 +149,3 @@ PieceHasCause put put_now _ = ⊤
 abbrev pub RestWithin : ℕ → Piece → Type 0
 RestWithin most (piece.Taken rest) = rest ≤ most
 RestWithin most _ = ⊤
-
--- Some bytes were taken, and at most so many.
-abbrev pub TookWithin : ℕ → Take → List ℕ → Type 0
-TookWithin most (took.Took n) room = (0 < n) × (n ≤ most) × (n ≤ length room)
-TookWithin most _ room = ⊤

@@ -7,8 +7,8 @@ use Rattle.std.specs.Io.KnownBytes.{Consumes, Keeps, IsAtEnd}
 use Rattle.outcome.specs.Causes.{Rose}
 use Rattle.rpc_msg.specs.Records.{record_limit}
 use Rattle.rpc_msg.specs.Underway.{fresh, Cut, Part, Whole, Large, cut, State, Open, Shut, flow, Feed}
-use Rattle.rpc_msg.specs.declared.sink.Put.{Put}
-use Rattle.rpc_msg.specs.declared.sink.Put.TheVariants as puts
+use Rattle.streams.specs.declared.sink.Put.{Put}
+use Rattle.streams.specs.declared.sink.Put.TheVariants as puts
 use Rattle.rpc_msg.specs.declared.watched.Got.{Got}
 use Rattle.rpc_msg.specs.declared.watched.Got.TheVariants as got
 use Rattle.rpc_msg.specs.declared.watched.Brought.{Brought}

@@ -1,16 +1,13 @@
 ghost use Rattle.std.specs.Prelude.{◌≡◌, ℕ, ◌+◌, ◌<◌, ◌≤◌, ◌^◌, List, length, None, IfOk, OnErr};
 ghost use Rattle.rpc_msg.specs.Records.{record_limit};
 ghost use Rattle.rpc_msg.specs.Underway.{Open};
-ghost use Rattle.rpc_msg.specs.Serving.{Served, PieceIs, StopsFront, RanShort, state_of, RestWithin, PieceHasCause, PumpIs, PumpHasCause, TookWithin};
-ghost use Rattle.rpc_msg.specs.Source.{TakesBytes, TakeHasCause};
+ghost use Rattle.rpc_msg.specs.Serving.{Served, PieceIs, StopsFront, RanShort, state_of, RestWithin, PieceHasCause, PumpIs, PumpHasCause};
 ghost use Rattle.outcome.specs.Causes.{HasCause};
 
 use crate::records::{Fed, RecordFeed, mark};
-use crate::sink::Sink;
-use crate::source::{Source, Take};
-use crate::whole::{WriteFault, put_all};
 use outcome::Mem;
 use std::alloc::Global;
+use streams::{Sink, Source, Take, WriteFault, put_all, take_some};
 use wire_xdr::Octets;
 
 // How many bytes are asked for at a time.
@@ -121,19 +118,6 @@ pub fn pump_records<S: Source, K: Sink, H: Handler>(
         Take::End => Ok(Pumped::End { rest }),
         Take::Failed => Ok(Pumped::ReadFault),
     }
-}
-
-/// Takes at most so many bytes into the front of the room.
-pub fn take_some<S: Source>(source: &mut S, room: &mut [u8], most: u64) -> Take
-    requires some { 0 < most }
-    requires room { 0 < length room.old }
-    ensures within { TookWithin most result room.new }
-    ensures bytes { TakesBytes (S.left source.old) (S.left source.new) result room.new }
-    ensures cause { TakeHasCause (S.faults source.old) (S.faults source.new) result }
-    ensures failing { S.failing source.new ≡ S.failing source.old }
-{
-    let count = room.len().min(most as usize);
-    source.take(&mut room[..count])
 }
 
 // Gives one record to the handler, and puts the mark and the reply as one piece.

@@ -1,17 +1,16 @@
 ghost use Rattle.std.specs.Prelude.{◌≡◌, ◌<◌, ◌≤◌, false, [], List, ℕ, ◌++◌};
 ghost use Rattle.std.specs.Borrow.{Lends, sem};
 ghost use Rattle.rpc_msg.specs.contracts.watched.Watched.{the_row};
-ghost use Rattle.rpc_msg.specs.Sink.{PutsWithin, PutsBytes, PutHasCause};
+ghost use Rattle.streams.specs.Sink.{PutsWithin, PutsBytes, PutHasCause};
 ghost use Rattle.rpc_msg.specs.Records.{records_of};
 ghost use Rattle.rpc_msg.specs.Underway.{IsFresh, fresh};
 ghost use Rattle.std.specs.Io.KnownBytes.{Keeps};
-ghost use Rattle.rpc_msg.specs.declared.sink.Put.{Put};
+ghost use Rattle.streams.specs.declared.sink.Put.{Put};
 ghost use Rattle.rpc_msg.specs.Watching.{bytes_limit, Watch, Signs, no_signs, is_down, down_of, got_of, PutsThrough, NextIs, wants, Brings, Asks, Reads, HasTold, standing};
 
 use crate::records::{Fed, RecordFeed};
-use crate::sink::{Put, Sink};
-use crate::source::{Source, Take};
 use std::marker::Model;
+use streams::{Put, Sink, Source, Take};
 
 // How many bytes are asked for at a time.
 const ROOM: usize = 4096;

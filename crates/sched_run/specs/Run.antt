@@ -7,7 +7,7 @@ use Rattle.nfs_base.specs.declared.side.Side.TheVariants.{Source, Dest}
 use Rattle.disk_model.specs.Disk.{Image, MayLeave}
 use Rattle.disk_model.specs.Elapsed.{Timeline, present}
 use Rattle.block_file.specs.Opened.{MayBeLeft}
-use Rattle.rpc_msg.specs.Sink.{AppendsFront}
+use Rattle.streams.specs.Sink.{AppendsFront}
 use Rattle.sched_text.specs.declared.event.Event.{Event}
 use Rattle.sched_text.specs.LineText.{lines_text}
 use Rattle.run_machine.specs.declared.choice.Choice.{Choice}

@@ -1,6 +1,6 @@
 ghost use Rattle.std.specs.Prelude.{◌≡◌, ◌≤◌, IfOk, OnErr, IsTrue};
 ghost use Rattle.std.specs.String.{string_bytes};
-ghost use Rattle.rpc_msg.specs.Sink.{AppendsFront};
+ghost use Rattle.streams.specs.Sink.{AppendsFront};
 ghost use Rattle.sched_text.specs.Admission.{admits, after};
 ghost use Rattle.sched_text.specs.LineText.{lines_text};
 
@@ -12,7 +12,7 @@ use crate::turn::Turn;
 use disk_model::Disk;
 use nfs_base::{CopySpec, Note, Side};
 use outcome::Mem;
-use rpc_msg::{Sink, put_all};
+use streams::{Sink, put_all};
 use run_machine::Choice;
 use sched_text::{Context, Event, Line, Schedule};
 use std::alloc::Global;
@@ -334,7 +334,7 @@ fn text_of(alloc: Global, lines: &[Line]) -> Mem<String>
 mod tests {
     use super::*;
     use disk_model::MemoryDisk;
-    use rpc_msg::MemSink;
+    use streams::MemSink;
     use std::test::Fail;
 
     #[test]

@@ -9,10 +9,10 @@ use Rattle.std.proofs.lemmas.Bool.{lt-ltb, le-ltb}
 use Rattle.std.proofs.lemmas.Grind.{flat_map-append}
 use Rattle.std.proofs.Math.Seq.{take-append-add}
 use Rattle.outcome.specs.declared.memory.NoMemory.{NoMemory}
-use Rattle.rpc_msg.specs.Sink.{AppendsFront}
+use Rattle.streams.specs.Sink.{AppendsFront}
 use Rattle.rpc_msg.specs.Records.{Told, records_of}
 use Rattle.rpc_msg.specs.Underway.{fresh, Under, State, Open, Shut, Flow, then_flow, flow, told_of, Feed}
-use Rattle.rpc_msg.proofs.Fronts.{front_wider, front_more, front_none, front_all}
+use Rattle.streams.proofs.Fronts.{front_wider, front_more, front_none, front_all}
 use Rattle.rpc_msg.proofs.Streams.{flow-append, flow-records}
 use Rattle.rpc_msg.proofs.Pumping.{flow-nil}
 use Rattle.wire_show.specs.declared.line.Line.TheVariants as lines

@@ -7,11 +7,11 @@ use Rattle.std.specs.declared.option.Option.TheVariants.{None}
 use Rattle.std.specs.Io.KnownBytes.{Appends, Consumes}
 use Rattle.std.proofs.KnownBytes.{Appends-trans, Appends-nil, Consumes-trans}
 use Rattle.std.proofs.lemmas.Grind.{flat_map-append}
-use Rattle.rpc_msg.specs.Sink.{AppendsFront}
+use Rattle.streams.specs.Sink.{AppendsFront}
 use Rattle.rpc_msg.specs.Underway.{fresh, State, Open, Shut, then_flow, flow, Feed, Feeds}
 use Rattle.rpc_msg.specs.declared.records.Fed.{Fed}
 use Rattle.rpc_msg.specs.declared.records.Fed.TheVariants as fed
-use Rattle.rpc_msg.proofs.Fronts.{front_wider, front_more}
+use Rattle.streams.proofs.Fronts.{front_wider, front_more}
 use Rattle.rpc_msg.proofs.Streams.{flow-append}
 use Rattle.rpc_msg.proofs.Pumping.{fed_flow, fed_now, flow_said}
 use Rattle.wire_show.specs.declared.line.Line.{Line}

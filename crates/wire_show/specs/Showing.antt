@@ -5,8 +5,8 @@ use Rattle.std.specs.declared.option.Option.TheVariants.{None}
 use Rattle.std.specs.Io.KnownBytes.{Appends, IsAtEnd}
 use Rattle.outcome.specs.Causes.{Rose}
 use Rattle.outcome.specs.declared.memory.NoMemory.{NoMemory}
-use Rattle.rpc_msg.specs.declared.whole.WriteFault.{WriteFault}
-use Rattle.rpc_msg.specs.Sink.{AppendsFront}
+use Rattle.streams.specs.declared.whole.WriteFault.{WriteFault}
+use Rattle.streams.specs.Sink.{AppendsFront}
 use Rattle.rpc_msg.specs.Underway.{Feed, State, Open, Shut, flow}
 use Rattle.wire_show.specs.declared.piece.Piece.{Piece}
 use Rattle.wire_show.specs.declared.piece.Piece.TheVariants as piece

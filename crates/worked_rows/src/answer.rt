@@ -1,6 +1,6 @@
 use disk_model::MemoryDisk;
 use outcome::Mem;
-use rpc_msg::{MemSink, MemSource};
+use streams::{MemSink, MemSource};
 use sched_run::Disks;
 use std::alloc::Global;
 use std::process::Abort;

@@ -1,11 +1,11 @@
 use Rattle.std.proofs.Common.{◌+◌, ◌≤◌, length, arith, ◌∙◌, refl}
 use Rattle.std.specs.Io.KnownBytes.{Appends}
-use Rattle.rpc_msg.specs.Sink.{AppendsFront}
+use Rattle.streams.specs.Sink.{AppendsFront}
 use Rattle.rpc_msg.specs.Serving.{StopsFront}
 use Rattle.rpc_msg.specs.Underway.{Open}
-use Rattle.rpc_msg.proofs.Fronts.{front_join}
+use Rattle.streams.proofs.Fronts.{front_join}
 use Rattle.rpc_msg.proofs.Pumping.{passed_quiet, flow-nil, passed_need, passed_large, passed_whole, stops_whole, said_now, within_now, appends_join}
-use Rattle.rpc_msg.proofs.Progress.{on_err}
+use Rattle.rpc_msg.proofs.Pumping.{on_err}
 use Rattle.rpc_msg.proofs.pump.pump_piece.Goals as goal
 
 pub feeds-init : goal.feeds-init

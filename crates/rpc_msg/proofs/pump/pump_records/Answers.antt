@@ -2,10 +2,10 @@ use Rattle.std.proofs.Common.{◌≡◌, ◌≤◌, List, [], ℕ, length, take,
 use Rattle.std.specs.declared.option.Option.TheVariants.{None, Some}
 use Rattle.std.specs.Io.KnownBytes.{Appends}
 use Rattle.std.proofs.KnownBytes.{Consumes-nil}
-use Rattle.rpc_msg.specs.Sink.{AppendsFront}
-use Rattle.rpc_msg.proofs.Fronts.{front_join}
+use Rattle.streams.specs.Sink.{AppendsFront}
+use Rattle.streams.proofs.Fronts.{front_join}
 use Rattle.rpc_msg.proofs.Pumping.{passed_quiet, flow-nil, appends_join, running_taken, ran_stopped, ran_short, ran_end, ran_much, ran_none, none_given}
-use Rattle.rpc_msg.proofs.Progress.{on_err}
+use Rattle.rpc_msg.proofs.Pumping.{on_err}
 use Rattle.rpc_msg.proofs.pump.pump_records.Goals as goal
 
 -- the length of what was taken

@@ -1,6 +1,6 @@
 use Rattle.std.proofs.Common.{ℕ, List, arith, ◌∙◌, ap, subst}
 use Rattle.std.specs.Io.KnownBytes.{Appends}
-use Rattle.rpc_msg.specs.Sink.{AppendsFront}
+use Rattle.streams.specs.Sink.{AppendsFront}
 use Rattle.sched_text.specs.declared.event.Event.{Event}
 use Rattle.sched_run.specs.Running.{Running, IsCarriedOut}
 use Rattle.sched_run.specs.Run.{RanIs, RanOut}

@@ -1,0 +1,5 @@
+use Rattle.streams.proofs.Fronts.{front_more}
+use Rattle.streams.proofs.whole.puts_join.Goals as goal
+
+pub returns-clause-all : goal.returns-clause-all
+returns-clause-all c = front_more
