@@ -1,4 +1,5 @@
 pub mod Cursor
+pub mod Page
 pub mod Words
 pub mod Form
 pub mod StepLaws

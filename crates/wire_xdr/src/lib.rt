@@ -34,6 +34,7 @@
 mod fault;
 mod form;
 mod octets;
+mod page;
 mod reader;
 mod sample;
 mod writer;
@@ -44,6 +45,7 @@ pub use form::{
     one_spelling_by, parse_count, put_four, read, read_by, words_are_forms, write, write_by,
 };
 pub use octets::Octets;
+pub use page::Page;
 pub use reader::Reader;
 pub use writer::Writer;
 

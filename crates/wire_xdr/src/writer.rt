@@ -1,4 +1,4 @@
-ghost use Rattle.std.specs.Prelude.{◌≡◌, ℕ, ◌<◌, ◌^◌, List, [], length, take, replicate, OnOk, OnErr, IfOk, IsOk};
+ghost use Rattle.std.specs.Prelude.{◌≡◌, ℕ, ◌<◌, ◌≤◌, ◌^◌, List, [], length, take, replicate, OnOk, OnErr, IfOk, IsOk};
 ghost use Rattle.std.specs.Int.{w64};
 ghost use Rattle.wire_xdr.specs.Words.{padding, word_bytes, hyper_bytes, signed_bytes, flag_bytes, fixed_bytes, opaque_bytes};
 ghost use Rattle.wire_xdr.specs.Cursor.{Appends};
@@ -23,8 +23,9 @@ impl Model for Writer {
 }
 
 /// The zeros that stand behind `n` bytes.
-fn zeros_behind(n: usize) -> &'static [u8]
-    ensures { result.now ≡ replicate (padding n) 0 }
+pub(crate) fn zeros_behind(n: usize) -> &'static [u8]
+    ensures zeros { result.now ≡ replicate (padding n) 0 }
+    ensures few { length result.now ≤ 3 }
 {
     match padding_of(n) {
         0 => &[],
