@@ -1,9 +1,9 @@
 -- Values behind a number that says how they are spelled (RFC 4506 section 4.15), and variants of an enum.
-use Rattle.std.proofs.Common.{◌≡◌, ℕ, ◌+◌, ◌^◌, ◌<◌, Bool, true, false, cond, List, ◌++◌, length, Result, Ok, refl, sym, ap, subst, ◌∙◌, append_assoc}
+use Rattle.std.proofs.Common.{◌≡◌, ℕ, ◌+◌, ◌^◌, ◌<◌, Bool, true, false, cond, List, ◌++◌, length, Result, Ok, Err, inl, inr, refl, sym, ap, subst, ◌∙◌, append_assoc}
 use Rattle.wire_xdr.specs.Cursor.{Cursor, IsBytes, ◌>>=◌}
 use Rattle.wire_xdr.specs.Words.{word_bytes}
-use Rattle.wire_xdr.specs.Form.{Passes, IsForm, Form}
-use Rattle.wire_xdr.specs.StepLaws.{bind_ok, ok_is, Passes-then}
+use Rattle.wire_xdr.specs.Form.{Passes, IsForm, IsWithin, Form}
+use Rattle.wire_xdr.specs.StepLaws.{bind_ok, ok_is, Passes-then, bind_err, not_err, place_behind}
 use Rattle.wire_xdr.specs.WordReads.{word_read}
 use Rattle.wire_xdr.specs.WordLaws.{word_is}
 use Rattle.wire_xdr.specs.Parts.{as_read}
@@ -41,6 +41,13 @@ numbered_is {A} form number own = record {
       let start : numbered_read form (record { at = at; rest = (x ++ y) ++ rest }) ≡ numbered_read form (record { at = at; rest = x ++ (y ++ rest) }) = ap (λ (r : List ℕ). numbered_read form (record { at = at; rest = r })) (append_assoc x y rest) in
       let first = ap (λ (r : Result (ℕ × Cursor) ℕ). r >>= λ n. (form n.0).read n.1) (word_is.again at (number v) (y ++ rest) fits.0) in
       start ∙ first ∙ (form (number v)).lawful.again (at + length x) v rest fits.1 ∙ ap (λ (c : Cursor). Ok (v, c)) (behind_both at x y rest);
+  refuses = λ old p fits e.
+      elim (bind_err (word_read old) (λ n. (form n.0).read n.1) p e) [
+        | inl first ↦ word_is.refuses old p fits first
+        | inr n ↦
+            let passed = (word_is.takes old n.0.0 n.0.1 fits n.1).0 in
+            place_behind old (word_bytes n.0.0) n.0.1 p passed ((form n.0.0).lawful.refuses n.0.1 p passed.bytes n.2)
+      ];
 }
 
 abbrev pub numbered : {A : Type 0} (form : ℕ → Form A) (number : A → ℕ) → Own form number → Form A
@@ -63,6 +70,14 @@ pub made_again : {A B : Type 0} (make : A → B) (form : Form A) (at : ℕ) (a :
     → as_read make form (record { at = at; rest = form.spell a ++ rest }) ≡ Ok (make a, record { at = at + length (form.spell a); rest = rest })
 made_again {A} make form at a rest fits = ap (λ (r : Result (A × Cursor) ℕ). r >>= λ x. Ok (make x.0, x.1)) (form.lawful.again at a rest fits)
 
+-- what is refused of it is refused at a place of the bytes
+pub made_refuses : {A B : Type 0} (make : A → B) (form : Form A) (old : Cursor) (p : ℕ) → IsBytes old.rest → as_read make form old ≡ Err p → IsWithin old p
+made_refuses make form old p fits e =
+    elim (bind_err (form.read old) (λ x. Ok (make x.0, x.1)) p e) [
+      | inl first ↦ form.lawful.refuses old p fits first
+      | inr x ↦ absurd (not_err {E = ℕ} (make x.0.0, x.0.1) p x.2)
+    ]
+
 -- the same where the value's own number says how it is spelled
 pub variant_takes : {A B : Type 0} (make : A → B) (form : ℕ → Form A) (number : A → ℕ) → Own form number → (n : ℕ) (old : Cursor) (v : B) (new : Cursor) → IsBytes old.rest → as_read make (form n) old ≡ Ok (v, new)
     → (a : A) × (make a ≡ v) × Passes old ((form (number a)).spell a) new × (form n).Fits a
@@ -76,7 +91,7 @@ variant_again {A} {B} make form number own n at a rest fits =
     let P : ℕ → Type 0 = λ m. as_read make (form n) (record { at = at; rest = (form m).spell a ++ rest }) ≡ Ok (make a, record { at = at + length ((form m).spell a); rest = rest }) in
     subst P (sym (own n a fits)) (made_again make (form n) at a rest fits)
 
--- what was read where a test chooses was read in one of the two ways
-pub by_test : {V P : Type 0} (b : Bool) (x y : Result (V × Cursor) ℕ) (r : V × Cursor) → cond b x y ≡ Ok r → (b ≡ true → x ≡ Ok r → P) → (b ≡ false → y ≡ Ok r → P) → P
+-- what was answered where a test chooses was answered in one of the two ways
+pub by_test : {V P : Type 0} (b : Bool) (x y r : Result (V × Cursor) ℕ) → cond b x y ≡ r → (b ≡ true → x ≡ r → P) → (b ≡ false → y ≡ r → P) → P
 by_test true x y r e f g = f refl e
 by_test false x y r e f g = g refl e

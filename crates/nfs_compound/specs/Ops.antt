@@ -7,12 +7,13 @@ use Rattle.file_ops.specs.Args.{file_arg, file_arg_number, file_arg_own, is_cut}
 use Rattle.file_ops.specs.Operations.{is_file_op}
 use Rattle.wire_xdr.specs.Cursor.{Cursor}
 use Rattle.wire_xdr.specs.Form.{Passes, IsForm, Form}
+use Rattle.wire_xdr.specs.StepLaws.{at_start}
 use Rattle.wire_xdr.specs.Parts.{as_read}
 use Rattle.nfs_compound.specs.declared.op.Op.{Op}
 use Rattle.nfs_compound.specs.declared.op.Op.TheVariants.{Copy, File}
 use Rattle.nfs_compound.specs.declared.operation.Class.{Class}
 use Rattle.nfs_compound.specs.declared.operation.Class.TheVariants.{Listed, Unsupported, Illegal}
-use Rattle.nfs_compound.specs.Numbered.{Own, numbered, variant_takes, variant_again, by_test}
+use Rattle.nfs_compound.specs.Numbered.{Own, numbered, variant_takes, variant_again, made_refuses, by_test}
 
 -- What is known of an operation's number: those of copy_ops and file_ops are listed. Of the others 3 to 71 are
 -- operations of the protocol.
@@ -64,13 +65,20 @@ pub op_is : (n : ℕ) → IsForm (op_read n) op_spell (op_Fits n)
 op_is n = record {
   takes = λ old v new fits e.
       let P : Op → Type 0 = λ u. Passes old (op_spell u) new × op_Fits n u in
-      by_test (is_copy_op n) (as_read Copy (copy_arg n) old) (cond (is_file_op n) (as_read File (file_arg n) old) (Err old.at)) (v, new) e
+      by_test (is_copy_op n) (as_read Copy (copy_arg n) old) (cond (is_file_op n) (as_read File (file_arg n) old) (Err old.at)) (Ok (v, new)) e
       (λ listed x. let t = variant_takes Copy copy_arg copy_arg_number copy_arg_own n old v new fits x in subst P t.1 (t.2, (listed, t.3)))
       (λ other y.
-      by_test (is_file_op n) (as_read File (file_arg n) old) (Err old.at) (v, new) y
+      by_test (is_file_op n) (as_read File (file_arg n) old) (Err old.at) (Ok (v, new)) y
       (λ listed x. let t = variant_takes File file_arg file_arg_number file_arg_own n old v new fits x in subst P t.1 (t.2, (other, listed, t.3)))
       (λ none z. absurd cc));
   again = λ at v rest fits. op_again n at v rest fits;
+  refuses = λ old p fits e.
+      by_test (is_copy_op n) (as_read Copy (copy_arg n) old) (cond (is_file_op n) (as_read File (file_arg n) old) (Err old.at)) (Err p) e
+      (λ listed x. made_refuses Copy (copy_arg n) old p fits x)
+      (λ other y.
+      by_test (is_file_op n) (as_read File (file_arg n) old) (Err old.at) (Err p) y
+      (λ listed x. made_refuses File (file_arg n) old p fits x)
+      (λ none z. at_start old p cc));
 }
 
 unfoldable pub op_arg : ℕ → Form Op

@@ -1,5 +1,5 @@
 -- The results of a COMPOUND by their operations' numbers, and its reply (RFC 8881 section 16.2, RFC 7863).
-use Rattle.std.proofs.Common.{◌≡◌, ℕ, ◌+◌, Bool, true, false, cond, List, ◌++◌, length, Result, Ok, refl, sym, ap, subst, ◌∙◌, lit<}
+use Rattle.std.proofs.Common.{◌≡◌, ℕ, ◌+◌, Bool, true, false, cond, List, ◌++◌, length, Result, Ok, Err, refl, sym, ap, subst, ◌∙◌, lit<}
 use Rattle.std.specs.Prelude.{not, ◌==◌, if◌then◌else◌}
 use Rattle.nfs_base.specs.declared.status.Status.{Status}
 use Rattle.nfs_base.specs.Forms.{status}
@@ -14,7 +14,7 @@ use Rattle.wire_xdr.specs.Forms.{opaque, both, seen_as, such_that, list}
 use Rattle.nfs_compound.specs.declared.res.Res.{Res}
 use Rattle.nfs_compound.specs.declared.res.Res.TheVariants.{Copy, File, Bare}
 use Rattle.nfs_compound.specs.declared.reply.Reply.{Reply}
-use Rattle.nfs_compound.specs.Numbered.{Own, numbered, made_takes, made_again, variant_takes, variant_again, by_test}
+use Rattle.nfs_compound.specs.Numbered.{Own, numbered, made_takes, made_again, variant_takes, variant_again, made_refuses, by_test}
 
 abbrev pub res_number : Res → ℕ
 res_number (Copy v) = copy_res_number v
@@ -74,13 +74,20 @@ pub res_is : (n : ℕ) → IsForm (res_read n) res_spell (res_Fits n)
 res_is n = record {
   takes = λ old v new fits e.
       let P : Res → Type 0 = λ u. Passes old (res_spell u) new × res_Fits n u in
-      by_test (is_copy_op n) (as_read Copy (copy_res n) old) (cond (is_file_op n) (as_read File (file_res n) old) (as_read (Bare n) failure old)) (v, new) e
+      by_test (is_copy_op n) (as_read Copy (copy_res n) old) (cond (is_file_op n) (as_read File (file_res n) old) (as_read (Bare n) failure old)) (Ok (v, new)) e
       (λ listed x. let t = variant_takes Copy copy_res copy_res_number copy_res_own n old v new fits x in subst P t.1 (t.2, (listed, t.3)))
       (λ other y.
-      by_test (is_file_op n) (as_read File (file_res n) old) (as_read (Bare n) failure old) (v, new) y
+      by_test (is_file_op n) (as_read File (file_res n) old) (as_read (Bare n) failure old) (Ok (v, new)) y
       (λ listed x. let t = variant_takes File file_res file_res_number file_res_own n old v new fits x in subst P t.1 (t.2, (other, listed, t.3)))
       (λ none z. let t = made_takes (Bare n) failure old v new fits z in subst P t.1 (t.2, (other, none, refl, t.3))));
   again = λ at v rest fits. res_again n at v rest fits;
+  refuses = λ old p fits e.
+      by_test (is_copy_op n) (as_read Copy (copy_res n) old) (cond (is_file_op n) (as_read File (file_res n) old) (as_read (Bare n) failure old)) (Err p) e
+      (λ listed x. made_refuses Copy (copy_res n) old p fits x)
+      (λ other y.
+      by_test (is_file_op n) (as_read File (file_res n) old) (as_read (Bare n) failure old) (Err p) y
+      (λ listed x. made_refuses File (file_res n) old p fits x)
+      (λ none z. made_refuses (Bare n) failure old p fits z));
 }
 
 unfoldable pub res_body : ℕ → Form Res

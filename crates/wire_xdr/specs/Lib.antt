@@ -11,4 +11,5 @@ pub mod PartLaws
 pub mod ArmLaws
 pub mod Forms
 pub mod Reads
+pub mod LengthLaws
 pub mod Samples

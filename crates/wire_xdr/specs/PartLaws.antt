@@ -1,11 +1,11 @@
 -- The laws of pairs, structs, lists and options, each proved from those of their parts.
-use Rattle.std.proofs.Common.{◌≡◌, ℕ, zero, suc, ◌+◌, ◌^◌, ◌<◌, Bool, true, false, List, [], ◌∷◌, ◌++◌, length, Option, Some, None, Result, Ok, refl, sym, ap, subst, ◌∙◌, append_assoc, arith, cond, Err}
+use Rattle.std.proofs.Common.{◌≡◌, ℕ, zero, suc, ◌+◌, ◌^◌, ◌<◌, Bool, true, false, List, [], ◌∷◌, ◌++◌, length, Option, Some, None, Result, Ok, inl, inr, refl, sym, ap, subst, ◌∙◌, append_assoc, arith, cond, Err}
 use Rattle.std.specs.List.{flat_map, AllByRecursion}
 use Rattle.std.proofs.lemmas.List.{length-append}
 use Rattle.wire_xdr.specs.Cursor.{Cursor, IsBytes, ◌>>=◌}
 use Rattle.wire_xdr.specs.Words.{word_bytes, flag_bytes}
-use Rattle.wire_xdr.specs.Form.{Passes, IsForm, Form}
-use Rattle.wire_xdr.specs.StepLaws.{bind_ok, test_ok, ok_is, Passes-then}
+use Rattle.wire_xdr.specs.Form.{Passes, IsForm, IsWithin, Form}
+use Rattle.wire_xdr.specs.StepLaws.{bind_ok, test_ok, ok_is, Passes-then, bind_err, test_err, not_err, at_start, place_behind}
 use Rattle.wire_xdr.specs.WordReads.{flag_read, count_read}
 use Rattle.wire_xdr.specs.WordLaws.{flag_is, count_is}
 use Rattle.wire_xdr.specs.Parts.{void_read, both_read, both_spell, both_Fits, as_read, tested_read, tested_Fits, many, list_read, list_spell, list_Fits, value_if, option_read, option_spell, option_Fits}
@@ -24,6 +24,7 @@ void_is = record {
   again = λ at v rest fits.
       let e : at ≡ at + 0 = omega arith in
       ap (λ (k : ℕ). Ok (tt, record { at = k; rest = rest })) e;
+  refuses = λ old p fits e. absurd (not_err {E = ℕ} (tt, old) p e);
 }
 
 pub both_is : {A B : Type 0} (a : Form A) (b : Form B) → IsForm (both_read a b) (both_spell a b) (both_Fits a b)
@@ -42,6 +43,16 @@ both_is {A} {B} a b = record {
       let first = ap (λ (r : Result (A × Cursor) ℕ). r >>= λ x. b.read x.1 >>= λ y. Ok ((x.0, y.0), y.1)) (a.lawful.again at v.0 (y ++ rest) fits.0) in
       let second = ap (λ (r : Result (B × Cursor) ℕ). r >>= λ y. Ok ((v.0, y.0), y.1)) (b.lawful.again (at + length x) v.1 rest fits.1) in
       start ∙ first ∙ second ∙ ap (λ (c : Cursor). Ok (v, c)) (behind_both at x y rest);
+  refuses = λ old p fits e.
+      elim (bind_err (a.read old) (λ x. b.read x.1 >>= λ y. Ok ((x.0, y.0), y.1)) p e) [
+        | inl first ↦ a.lawful.refuses old p fits first
+        | inr x ↦
+            let passed = (a.lawful.takes old x.0.0 x.0.1 fits x.1).0 in
+            elim (bind_err (b.read x.0.1) (λ y. Ok ((x.0.0, y.0), y.1)) p x.2) [
+              | inl second ↦ place_behind old (a.spell x.0.0) x.0.1 p passed (b.lawful.refuses x.0.1 p passed.bytes second)
+              | inr y ↦ absurd (not_err {E = ℕ} ((x.0.0, y.0.0), y.0.1) p y.2)
+            ]
+      ];
 }
 
 pub as_is : {A B : Type 0} (to : A → B) (from : B → A) → ((b : B) → to (from b) ≡ b) → ((a : A) → from (to a) ≡ a) → (a : Form A) → IsForm (as_read to a) (λ v. a.spell (from v)) (λ v. a.Fits (from v))
@@ -55,6 +66,11 @@ as_is {A} {B} to from to_from from_to a = record {
   again = λ at v rest fits.
       ap (λ (r : Result (A × Cursor) ℕ). r >>= λ x. Ok (to x.0, x.1)) (a.lawful.again at (from v) rest fits)
       ∙ ap (λ (b : B). Ok (b, record { at = at + length (a.spell (from v)); rest = rest })) (to_from v);
+  refuses = λ old p fits e.
+      elim (bind_err (a.read old) (λ x. Ok (to x.0, x.1)) p e) [
+        | inl first ↦ a.lawful.refuses old p fits first
+        | inr x ↦ absurd (not_err {E = ℕ} (to x.0.0, x.0.1) p x.2)
+      ];
 }
 
 pub tested_is : {A : Type 0} (test : A → Bool) (a : Form A) → IsForm (tested_read test a) a.spell (tested_Fits test a)
@@ -69,6 +85,11 @@ tested_is {A} test a = record {
       let after : Cursor = record { at = at + length (a.spell v); rest = rest } in
       ap (λ (r : Result (A × Cursor) ℕ). r >>= λ x. cond (test x.0) (Ok x) (Err at)) (a.lawful.again at v rest fits.1)
       ∙ ap (λ (b : Bool). cond b (Ok (v, after)) (Err at)) fits.0;
+  refuses = λ old p fits e.
+      elim (bind_err (a.read old) (λ x. cond (test x.0) (Ok x) (Err old.at)) p e) [
+        | inl first ↦ a.lawful.refuses old p fits first
+        | inr x ↦ at_start old p (test_err (test x.0.0) x.0 old.at p x.2)
+      ];
 }
 
 many_takes : {A : Type 0} (a : Form A) (n : ℕ) (old : Cursor) (vs : List A) (new : Cursor) → IsBytes old.rest → many a n old ≡ Ok (vs, new) → Passes old (flat_map a.spell vs) new × (length vs ≡ n) × AllByRecursion a.Fits vs
@@ -98,6 +119,20 @@ many_again {A} a at (v ∷ vs) rest fits =
     let second = ap (λ (r : Result (List A × Cursor) ℕ). r >>= λ xs. Ok (v ∷ xs.0, xs.1)) (many_again a (at + length x) vs rest fits.1) in
     start ∙ first ∙ second ∙ ap (λ (c : Cursor). Ok (v ∷ vs, c)) (behind_both at x y rest)
 
+many_refuses : {A : Type 0} (a : Form A) (n : ℕ) (old : Cursor) (p : ℕ) → IsBytes old.rest → many a n old ≡ Err p → IsWithin old p
+unfolding many
+many_refuses {A} a zero old p fits e = absurd (not_err {E = ℕ} ([], old) p e)
+many_refuses {A} a (suc n) old p fits e =
+    elim (bind_err (a.read old) (λ x. many a n x.1 >>= λ xs. Ok (x.0 ∷ xs.0, xs.1)) p e) [
+      | inl first ↦ a.lawful.refuses old p fits first
+      | inr x ↦
+          let passed = (a.lawful.takes old x.0.0 x.0.1 fits x.1).0 in
+          elim (bind_err (many a n x.0.1) (λ xs. Ok (x.0.0 ∷ xs.0, xs.1)) p x.2) [
+            | inl more ↦ place_behind old (a.spell x.0.0) x.0.1 p passed (many_refuses a n x.0.1 p passed.bytes more)
+            | inr xs ↦ absurd (not_err {E = ℕ} (x.0.0 ∷ xs.0.0, xs.0.1) p xs.2)
+          ]
+    ]
+
 pub list_is : {A : Type 0} (max : ℕ) → max < 2 ^ 32 → (a : Form A) → IsForm (list_read max a) (list_spell a) (list_Fits max a)
 unfolding list_read list_spell
 list_is {A} max small a = record {
@@ -113,6 +148,13 @@ list_is {A} max small a = record {
       let start : list_read max a (record { at = at; rest = (x ++ y) ++ rest }) ≡ list_read max a (record { at = at; rest = x ++ (y ++ rest) }) = ap (λ (r : List ℕ). list_read max a (record { at = at; rest = r })) (append_assoc x y rest) in
       let counted = ap (λ (r : Result (ℕ × Cursor) ℕ). r >>= λ n. many a n.0 n.1) ((count_is max small).again at (length vs) (y ++ rest) fits.0) in
       start ∙ counted ∙ many_again a (at + length x) vs rest fits.1 ∙ ap (λ (c : Cursor). Ok (vs, c)) (behind_both at x y rest);
+  refuses = λ old p fits e.
+      elim (bind_err (count_read max old) (λ n. many a n.0 n.1) p e) [
+        | inl first ↦ (count_is max small).refuses old p fits first
+        | inr n ↦
+            let passed = ((count_is max small).takes old n.0.0 n.0.1 fits n.1).0 in
+            place_behind old (word_bytes n.0.0) n.0.1 p passed (many_refuses a n.0.0 n.0.1 p passed.bytes n.2)
+      ];
 }
 
 value_takes : {A : Type 0} (there : Bool) (a : Form A) (old mid : Cursor) (o : Option A) (new : Cursor) → Passes old (flag_bytes there) mid → value_if there a mid ≡ Ok (o, new) → Passes old (option_spell a o) new × option_Fits a o
@@ -137,6 +179,14 @@ option_again {A} a at (Some v) rest fits =
     let second = ap (λ (r : Result (A × Cursor) ℕ). r >>= λ x. Ok (Some x.0, x.1)) (a.lawful.again (at + length x) v rest fits) in
     start ∙ first ∙ second ∙ ap (λ (c : Cursor). Ok (Some v, c)) (behind_both at x y rest)
 
+value_refuses : {A : Type 0} (there : Bool) (a : Form A) (mid : Cursor) (p : ℕ) → IsBytes mid.rest → value_if there a mid ≡ Err p → IsWithin mid p
+value_refuses {A} true a mid p fits e =
+    elim (bind_err (a.read mid) (λ x. Ok (Some x.0, x.1)) p e) [
+      | inl first ↦ a.lawful.refuses mid p fits first
+      | inr x ↦ absurd (not_err {E = ℕ} (Some x.0.0, x.0.1) p x.2)
+    ]
+value_refuses {A} false a mid p fits e = absurd (not_err {A = Option A × Cursor} {E = ℕ} (None, mid) p e)
+
 pub option_is : {A : Type 0} (a : Form A) → IsForm (option_read a) (option_spell a) (option_Fits a)
 unfolding option_read
 option_is {A} a = record {
@@ -145,4 +195,11 @@ option_is {A} a = record {
       let first = flag_is.takes old there.0.0 there.0.1 fits there.1 in
       value_takes there.0.0 a old there.0.1 o new first.0 there.2;
   again = λ at o rest fits. option_again a at o rest fits;
+  refuses = λ old p fits e.
+      elim (bind_err (flag_read old) (λ there. value_if there.0 a there.1) p e) [
+        | inl first ↦ flag_is.refuses old p fits first
+        | inr there ↦
+            let passed = (flag_is.takes old there.0.0 there.0.1 fits there.1).0 in
+            place_behind old (flag_bytes there.0.0) there.0.1 p passed (value_refuses there.0.0 a there.0.1 p passed.bytes there.2)
+      ];
 }

@@ -1,21 +1,22 @@
 -- The laws of words: each is read exactly where it is spelled.
-use Rattle.std.proofs.Common.{◌≡◌, ℕ, zero, suc, ◌+◌, ◌-◌, ◌^◌, ◌<◌, ◌≤◌, min, Bool, true, false, cond, ltb, eqb, List, ◌++◌, length, get_or, take, drop, replicate, Option, Some, None, Result, Ok, Err, refl, sym, ap, subst, ◌∙◌, append_assoc, arith}
+use Rattle.std.proofs.Common.{◌≡◌, ℕ, zero, suc, ◌+◌, ◌-◌, ◌^◌, ◌<◌, ◌≤◌, min, Bool, true, false, cond, ltb, eqb, List, ◌++◌, length, get_or, take, drop, replicate, Option, Some, None, Result, Ok, Err, ◌⊎◌, inl, inr, refl, sym, ap, subst, ◌∙◌, append_assoc, arith}
 use Rattle.std.specs.Prelude.{ℤ, FitsSigned, position}
 use Rattle.std.specs.List.{position_or_len}
 use Rattle.std.specs.Int.{Width, w32, w64, byte_len, from_be_bytes, to_be_bytes, cast_signed, cast_unsigned}
 use Rattle.std.proofs.lemmas.Bool.{ltb-false, le-ltb, eqb-true, not-false}
 use Rattle.std.proofs.lemmas.List.{take_at, drop_at, take-append-drop, length-append, length-take, length-drop, length-replicate, ext_get_or, get_or-replicate}
+use Rattle.std.proofs.lemmas.List.Quantifiers.{position-Some}
 use Rattle.std.proofs.lemmas.List.Sums.{fails_before_first}
 use Rattle.std.proofs.lemmas.Nat.{be_bytes_4, be_bytes_8, from_be_bytes-to_be_bytes_4, from_be_bytes-to_be_bytes_8}
 use Rattle.std.proofs.lemmas.Int.{of_z-to_z, to_z-of_z}
 use Rattle.std.proofs.Math.Facts.{sfits_to_z, Fits-of_z}
 use Rattle.std.proofs.Math.Seq.{take-add}
 use Rattle.wire_xdr.specs.declared.fault.XdrFault.{XdrFault}
-use Rattle.wire_xdr.specs.declared.fault.XdrFault.TheVariants.{Short, BadFlag, TooLong}
+use Rattle.wire_xdr.specs.declared.fault.XdrFault.TheVariants.{Short, BadPad, BadFlag, TooLong}
 use Rattle.wire_xdr.specs.Cursor.{Cursor, IsBytes, past, ◌>>=◌}
 use Rattle.wire_xdr.specs.Words.{number_at, signed_at, flag_at, count_at, padding, is_nonzero, unless_nonzero, fixed_at, opaque_at, word_bytes, hyper_bytes, signed_bytes, flag_bytes, fixed_bytes, opaque_bytes}
-use Rattle.wire_xdr.specs.Form.{Passes, IsForm, placed}
-use Rattle.wire_xdr.specs.StepLaws.{IsBytes-drop, IsBytes-take, bind_ok, guard_ok, placed_ok, ok_is, Passes-then}
+use Rattle.wire_xdr.specs.Form.{Passes, IsForm, IsWithin, place, placed}
+use Rattle.wire_xdr.specs.StepLaws.{IsBytes-drop, IsBytes-take, bind_ok, guard_ok, placed_ok, ok_is, Passes-then, bind_err, guard_err, not_err, placed_err, at_start, place_behind}
 use Rattle.wire_xdr.specs.WordReads.{word_read, hyper_read, signed_read, flag_read, count_read, fixed_read, opaque_read, between_read}
 
 -- ---- numbers
@@ -65,11 +66,27 @@ number_again w limit wide at n rest lt =
     let long : ltb (length (to_be_bytes w n ++ rest)) (byte_len w) ≡ false = le-ltb _ _ (omega (arith, length-append (to_be_bytes w n) rest)) in
     rw (long, take_at (to_be_bytes w n) rest (byte_len w) len, drop_at (to_be_bytes w n) rest (byte_len w) len, wide.again n lt, len) refl
 
+-- what refuses a word refuses it where it begins
+number_place : (w : Width) (c : Cursor) (d : XdrFault) → number_at w c ≡ Err d → place c.at d ≡ c.at
+number_place w c d e =
+    let short = Short (byte_len w) (length c.rest) in
+    elim (guard_err (ltb (length c.rest) (byte_len w)) short (Ok (from_be_bytes w (take (byte_len w) c.rest), past (byte_len w) c)) d e) [
+      | inl is ↦ ap (place c.at) (sym is)
+      | inr other ↦ absurd (not_err (from_be_bytes w (take (byte_len w) c.rest), past (byte_len w) c) d other.1)
+    ]
+
+-- an item all of whose faults name the place where it begins
+start_refuses : {A : Type 0} (r : Result A XdrFault) (c : Cursor) (p : ℕ) → ((d : XdrFault) → r ≡ Err d → place c.at d ≡ c.at) → placed c r ≡ Err p → IsWithin c p
+start_refuses r c p h e =
+    let d = placed_err c r p e in
+    at_start c p (sym (h d.0 d.1) ∙ d.2)
+
 pub word_is : IsForm word_read word_bytes (λ n. n < 2 ^ 32)
 unfolding word_read word_bytes
 word_is = record {
   takes = λ old v new fits e. number_takes w32 (2 ^ 32) wide32 old v new fits (placed_ok old (number_at w32 old) (v, new) e);
   again = λ at v rest lt. ap (placed (record { at = at; rest = to_be_bytes w32 v ++ rest })) (number_again w32 (2 ^ 32) wide32 at v rest lt);
+  refuses = λ old p fits e. start_refuses (number_at w32 old) old p (number_place w32 old) e;
 }
 
 pub hyper_is : IsForm hyper_read hyper_bytes (λ n. n < 2 ^ 64)
@@ -77,7 +94,15 @@ unfolding hyper_read hyper_bytes
 hyper_is = record {
   takes = λ old v new fits e. number_takes w64 (2 ^ 64) wide64 old v new fits (placed_ok old (number_at w64 old) (v, new) e);
   again = λ at v rest lt. ap (placed (record { at = at; rest = to_be_bytes w64 v ++ rest })) (number_again w64 (2 ^ 64) wide64 at v rest lt);
+  refuses = λ old p fits e. start_refuses (number_at w64 old) old p (number_place w64 old) e;
 }
+
+signed_place : (c : Cursor) (d : XdrFault) → signed_at c ≡ Err d → place c.at d ≡ c.at
+signed_place c d e =
+    elim (bind_err (number_at w64 c) (λ n. Ok (cast_signed w64 n.0, n.1)) d e) [
+      | inl first ↦ number_place w64 c d first
+      | inr rest ↦ absurd (not_err (cast_signed w64 rest.0.0, rest.0.1) d rest.2)
+    ]
 
 pub signed_is : IsForm signed_read signed_bytes (FitsSigned w64)
 unfolding signed_read signed_bytes hyper_bytes
@@ -94,6 +119,7 @@ signed_is = record {
       let read = number_again w64 (2 ^ 64) wide64 at n rest below in
       let c : Cursor = record { at = at; rest = to_be_bytes w64 n ++ rest } in
       ap (λ (r : Result (ℕ × Cursor) XdrFault). placed c (r >>= λ n. Ok (cast_signed w64 n.0, n.1))) read ∙ ap (λ (x : ℤ). Ok (x, record { at = at + length (to_be_bytes w64 n); rest = rest })) (to_z-of_z w64 z fits);
+  refuses = λ old p fits e. start_refuses (signed_at old) old p (signed_place old) e;
 }
 
 flag_back : (n : ℕ) → n ≤ 1 → cond (eqb n 1) 1 0 ≡ n
@@ -105,6 +131,16 @@ flag_again : (at : ℕ) (b : Bool) (rest : List ℕ) → flag_at (record { at = 
 flag_again at true rest = rw (number_again w32 (2 ^ 32) wide32 at 1 rest (omega arith)) refl
 flag_again at false rest = rw (number_again w32 (2 ^ 32) wide32 at 0 rest (omega arith)) refl
 
+flag_place : (c : Cursor) (d : XdrFault) → flag_at c ≡ Err d → place c.at d ≡ c.at
+flag_place c d e =
+    elim (bind_err (number_at w32 c) (λ n. cond (ltb 1 n.0) (Err (BadFlag n.0)) (Ok (eqb n.0 1, n.1))) d e) [
+      | inl first ↦ number_place w32 c d first
+      | inr rest ↦ elim (guard_err (ltb 1 rest.0.0) (BadFlag rest.0.0) (Ok (eqb rest.0.0 1, rest.0.1)) d rest.2) [
+        | inl is ↦ ap (place c.at) (sym is)
+        | inr other ↦ absurd (not_err (eqb rest.0.0 1, rest.0.1) d other.1)
+      ]
+    ]
+
 pub flag_is : IsForm flag_read flag_bytes (λ b. Unit {0})
 unfolding flag_read flag_bytes word_bytes
 flag_is = record {
@@ -115,6 +151,7 @@ flag_is = record {
       let P : Bool × Cursor → Type 0 = λ p. Passes old (to_be_bytes w32 (cond p.0 1 0)) p.1 × Unit {0} in
       subst P (ok_is {E = XdrFault} (eqb n.0.0 1, n.0.1) (b, new) g.1) (subst (λ (k : ℕ). Passes old (to_be_bytes w32 k) n.0.1) (sym (flag_back n.0.0 (ltb-false 1 n.0.0 g.0))) t.0, tt);
   again = λ at b rest h. ap (placed (record { at = at; rest = to_be_bytes w32 (cond b 1 0) ++ rest })) (flag_again at b rest);
+  refuses = λ old p fits e. start_refuses (flag_at old) old p (flag_place old) e;
 }
 
 -- ---- lengths
@@ -132,11 +169,22 @@ count_again max at n rest small le =
     let within : ltb max n ≡ false = le-ltb max n le in
     rw (number_again w32 (2 ^ 32) wide32 at n rest (omega arith), within) refl
 
+count_place : (max : ℕ) (c : Cursor) (d : XdrFault) → count_at max c ≡ Err d → place c.at d ≡ c.at
+count_place max c d e =
+    elim (bind_err (number_at w32 c) (λ n. cond (ltb max n.0) (Err (TooLong n.0 max)) (Ok n)) d e) [
+      | inl first ↦ number_place w32 c d first
+      | inr rest ↦ elim (guard_err (ltb max rest.0.0) (TooLong rest.0.0 max) (Ok rest.0) d rest.2) [
+        | inl is ↦ ap (place c.at) (sym is)
+        | inr other ↦ absurd (not_err rest.0 d other.1)
+      ]
+    ]
+
 pub count_is : (max : ℕ) → max < 2 ^ 32 → IsForm (count_read max) word_bytes (λ n. n ≤ max)
 unfolding count_read word_bytes
 count_is max small = record {
   takes = λ old n new fits e. count_takes max old n new fits (placed_ok old (count_at max old) (n, new) e);
   again = λ at n rest le. ap (placed (record { at = at; rest = to_be_bytes w32 n ++ rest })) (count_again max at n rest small le);
+  refuses = λ old p fits e. start_refuses (count_at max old) old p (count_place max old) e;
 }
 
 -- ---- fields of bytes
@@ -208,11 +256,52 @@ fixed_again at v rest =
     ∙ ap (λ (o : Option ℕ). unless_nonzero o n (record { at = at; rest = whole })) none
     ∙ ap (λ (x : List ℕ × List ℕ × ℕ). Ok (x.0, record { at = at + x.2; rest = x.1 })) (let e : (take n whole, drop (n + padding n) whole, n + padding n) ≡ (v, rest, length (v ++ zeros)) = cc (front, after, text_len) in e)
 
+unless_err : (o : Option ℕ) (n : ℕ) (c : Cursor) (d : XdrFault) → unless_nonzero o n c ≡ Err d → (k : ℕ) × (o ≡ Some k) × (BadPad (c.at + n + k) ≡ d)
+unless_err None n c d e = absurd cc
+unless_err (Some k) n c d e = (k, refl, cc)
+
+-- What refuses bytes names the item's start, or the byte of padding that isn't zero.
+fixed_place : (start n : ℕ) (c : Cursor) (d : XdrFault) → fixed_at n c ≡ Err d → (place start d ≡ start) ⊎ IsWithin c (place start d)
+fixed_place start n c d e =
+    let pads = take (padding n) (drop n c.rest) in
+    elim (guard_err (ltb (length c.rest) (n + padding n)) (Short (min (n + padding n) (2 ^ 64 - 1)) (length c.rest)) (unless_nonzero (position is_nonzero pads) n c) d e) [
+      | inl is ↦ inl (ap (place start) (sym is))
+      | inr other ↦
+          let long : n + padding n ≤ length c.rest = ltb-false _ _ other.0 in
+          let k = unless_err (position is_nonzero pads) n c d other.1 in
+          let below = (position-Some is_nonzero pads k.0 0 k.1).0 in
+          let is : c.at + n + k.0 ≡ place start d = ap (place start) k.2 in
+          inr (record { start = omega (arith, is); end = omega (arith, is, below, length-take (padding n) (drop n c.rest), long) })
+    ]
+
+fixed_refuses : (n : ℕ) (c : Cursor) (p : ℕ) → placed c (fixed_at n c) ≡ Err p → IsWithin c p
+fixed_refuses n c p e =
+    let d = placed_err c (fixed_at n c) p e in
+    elim (fixed_place c.at n c d.0 d.1) [
+      | inl is ↦ at_start c p (sym is ∙ d.2)
+      | inr within ↦ subst (IsWithin c) d.2 within
+    ]
+
+opaque_refuses : (max : ℕ) (c : Cursor) (p : ℕ) → IsBytes c.rest → placed c (opaque_at max c) ≡ Err p → IsWithin c p
+unfolding opaque_at
+opaque_refuses max c p fits e =
+    let d = placed_err c (opaque_at max c) p e in
+    elim (bind_err (count_at max c) (λ n. fixed_at n.0 n.1) d.0 d.1) [
+      | inl first ↦ at_start c p (sym (count_place max c d.0 first) ∙ d.2)
+      | inr rest ↦
+          let counted = count_takes max c rest.0.0 rest.0.1 fits rest.1 in
+          elim (fixed_place c.at rest.0.0 rest.0.1 d.0 rest.2) [
+            | inl is ↦ at_start c p (sym is ∙ d.2)
+            | inr within ↦ subst (IsWithin c) d.2 (place_behind c (to_be_bytes w32 rest.0.0) rest.0.1 (place c.at d.0) counted.0 within)
+          ]
+    ]
+
 pub fixed_is : (n : ℕ) → IsForm (fixed_read n) fixed_bytes (λ v. length v ≡ n)
 unfolding fixed_read
 fixed_is n = record {
   takes = λ old v new fits e. fixed_takes n old v new fits (placed_ok old (fixed_at n old) (v, new) e);
   again = λ at v rest len. subst (λ (m : ℕ). placed (record { at = at; rest = fixed_bytes v ++ rest }) (fixed_at m (record { at = at; rest = fixed_bytes v ++ rest })) ≡ Ok (v, record { at = at + length (fixed_bytes v); rest = rest })) len (ap (placed (record { at = at; rest = fixed_bytes v ++ rest })) (fixed_again at v rest));
+  refuses = λ old p fits e. fixed_refuses n old p e;
 }
 
 pub opaque_is : (max : ℕ) → max < 2 ^ 32 → IsForm (opaque_read max) opaque_bytes (λ v. length v ≤ max)
@@ -230,8 +319,9 @@ opaque_is max small = record {
       let regrouped = append_assoc len (fixed_bytes v) rest in
       let start : opaque_at max c ≡ opaque_at max (record { at = at; rest = len ++ (fixed_bytes v ++ rest) }) = ap (λ (r : List ℕ). opaque_at max (record { at = at; rest = r })) regrouped in
       let counted = ap (λ (r : Result (ℕ × Cursor) XdrFault). r >>= λ n. fixed_at n.0 n.1) (count_again max at (length v) (fixed_bytes v ++ rest) small le) in
-      let place : (at + length len) + length (fixed_bytes v) ≡ at + length (len ++ fixed_bytes v) = omega (arith, length-append len (fixed_bytes v)) in
-      ap (placed c) (start ∙ counted ∙ fixed_again (at + length len) v rest ∙ ap (λ (k : ℕ). Ok (v, record { at = k; rest = rest })) place);
+      let behind : (at + length len) + length (fixed_bytes v) ≡ at + length (len ++ fixed_bytes v) = omega (arith, length-append len (fixed_bytes v)) in
+      ap (placed c) (start ∙ counted ∙ fixed_again (at + length len) v rest ∙ ap (λ (k : ℕ). Ok (v, record { at = k; rest = rest })) behind);
+  refuses = λ old p fits e. opaque_refuses max old p fits e;
 }
 
 -- the length of bytes that are there is what is counted
@@ -257,4 +347,12 @@ between_is min max small = record {
       ap (λ (r : Result (ℕ × Cursor) ℕ). r >>= λ n. cond (ltb n.0 min) (Err at) (opaque_read max c)) (count_of_opaque min max small at v rest fits.1).1
       ∙ ap (λ (b : Bool). cond b (Err at) (opaque_read max c)) long
       ∙ (opaque_is max small).again at v rest fits.1;
+  refuses = λ old p fits e.
+      elim (bind_err (count_read max old) (λ n. cond (ltb n.0 min) (Err old.at) (opaque_read max old)) p e) [
+        | inl first ↦ (count_is max small).refuses old p fits first
+        | inr rest ↦ elim (guard_err (ltb rest.0.0 min) old.at (opaque_read max old) p rest.2) [
+          | inl is ↦ at_start old p is
+          | inr other ↦ (opaque_is max small).refuses old p fits other.1
+        ]
+      ];
 }

@@ -11,6 +11,9 @@ mod xdr;
 pub use bad::{BadXdr, ReadError};
 pub use chosen::{XdrBy, read_by, write_by};
 pub use items::Items;
-pub use laws::{is_form, no_prefix, no_prefix_by, one_spelling, one_spelling_by, words_are_forms};
+pub use laws::{
+    is_form, no_prefix, no_prefix_by, one_spelling, one_spelling_by, refused_within, word_lengths,
+    words_are_forms,
+};
 pub use words::parse_count;
 pub use xdr::{Xdr, put_four, read, write};

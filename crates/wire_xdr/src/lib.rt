@@ -42,7 +42,8 @@ mod writer;
 pub use fault::XdrFault;
 pub use form::{
     BadXdr, Items, ReadError, Xdr, XdrBy, is_form, no_prefix, no_prefix_by, one_spelling,
-    one_spelling_by, parse_count, put_four, read, read_by, words_are_forms, write, write_by,
+    one_spelling_by, parse_count, put_four, read, read_by, refused_within, word_lengths,
+    words_are_forms, write, write_by,
 };
 pub use octets::Octets;
 pub use page::Page;

@@ -1,10 +1,11 @@
 //! Laws of every form: a value is read exactly where it is spelled, one value has one spelling, and no spelling begins a longer one.
 
-ghost use Rattle.std.specs.Prelude.{◌≡◌, ℕ, ◌<◌, ◌≤◌, ◌^◌, FitsSigned, List, [], ◌++◌, length};
+ghost use Rattle.std.specs.Prelude.{◌≡◌, ℕ, ℤ, ◌+◌, ◌<◌, ◌≤◌, ◌^◌, FitsSigned, Bool, List, [], ◌++◌, length, Err};
 ghost use Rattle.std.specs.Int.{w64};
-ghost use Rattle.wire_xdr.specs.Form.{IsForm, Spells};
+ghost use Rattle.wire_xdr.specs.Cursor.{Cursor, IsBytes};
+ghost use Rattle.wire_xdr.specs.Form.{IsForm, IsWithin, Spells};
 ghost use Rattle.wire_xdr.specs.WordReads.{word_read, hyper_read, signed_read, flag_read, count_read, fixed_read, opaque_read};
-ghost use Rattle.wire_xdr.specs.Words.{word_bytes, hyper_bytes, signed_bytes, flag_bytes, fixed_bytes, opaque_bytes};
+ghost use Rattle.wire_xdr.specs.Words.{padding, word_bytes, hyper_bytes, signed_bytes, flag_bytes, fixed_bytes, opaque_bytes};
 
 use crate::form::chosen::XdrBy;
 use crate::form::xdr::Xdr;
@@ -24,6 +25,23 @@ pub fn words_are_forms()
 /// So is each value of a type that has a form.
 pub fn is_form<T: Xdr>()
     ensures { IsForm T.form.read T.form.spell T.form.Fits }
+{}
+
+/// How many bytes words have. `specs/LengthLaws.antt` has the bounds of what is made of them, form by form.
+#[tactic(auto, using(crate::specs::LengthLaws::word_length, crate::specs::LengthLaws::hyper_length, crate::specs::LengthLaws::signed_length, crate::specs::LengthLaws::flag_length, crate::specs::LengthLaws::fixed_length, crate::specs::LengthLaws::opaque_length, crate::specs::LengthLaws::padding_below))]
+pub fn word_lengths()
+    ensures word { (n : ℕ) → length (word_bytes n) ≡ 4 }
+    ensures hyper { (n : ℕ) → length (hyper_bytes n) ≡ 8 }
+    ensures signed { (z : ℤ) → length (signed_bytes z) ≡ 8 }
+    ensures flag { (b : Bool) → length (flag_bytes b) ≡ 4 }
+    ensures fixed { (bytes : List ℕ) → length (fixed_bytes bytes) ≡ length bytes + padding (length bytes) }
+    ensures opaque { (bytes : List ℕ) → length (opaque_bytes bytes) ≡ 4 + length bytes + padding (length bytes) }
+    ensures padding { (n : ℕ) → padding n < 4 }
+{}
+
+/// What is refused of a value is refused at a place of the bytes that were left, or at their end.
+pub fn refused_within<T: Xdr>()
+    ensures { (old : Cursor) (place : ℕ) → IsBytes old.rest → T.form.read old ≡ Err place → IsWithin old place }
 {}
 
 /// A value has one spelling, and a list of bytes spells one value.
