@@ -15,12 +15,12 @@ module _ (h : History) (progress : ℕ → ℕ → Progress) (lawful : IsLawfulR
       outside
       j
       (accepted_on h progress lawful j k (suc k) (omega arith) accepted)
-      (ap (λ (p : Plan). p.file) (plan_on h progress lawful j k (suc k) (omega arith) accepted) ∙ same)
+      (ap (λ (p : Plan). p.dst_file) (plan_on h progress lawful j k (suc k) (omega arith) accepted) ∙ same)
       (range_grows h progress lawful j k (suc k) place (omega arith) accepted within)
 
   -- no chunk lands outside all ranges
   lands_within : (k file place : ℕ) → IsOutside h (suc k) file place → (j : ℕ)
-      → LandsAt (h (suc k)).did j ((h (suc k)).copy j).plan place → ((h (suc k)).copy j).plan.file ≡ file → ⊥
+      → LandsAt (h (suc k)).did j ((h (suc k)).copy j).plan place → ((h (suc k)).copy j).plan.dst_file ≡ file → ⊥
   lands_within k file place outside j lands same =
       outside j (lander_accepted h progress lawful j k place lands) same ((lawful.steps k).lands j place lands).within
 

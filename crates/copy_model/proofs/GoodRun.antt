@@ -128,7 +128,7 @@ beside (suc (suc (suc (suc (suc place))))) apart = refl
 -- once the copy is sized, what is outside is beside its two bytes
 outside_beside : (k file place : ℕ) → IsOutside good (suc (suc k)) file place → 1 ≡ file → (place ≡ 3) ⊎ (place ≡ 4) → ⊥
 outside_beside k file place outside same two =
-    outside 0 made (ap (λ (p : Plan). p.file) (one_plan (suc (suc k))) ∙ same) (within k)
+    outside 0 made (ap (λ (p : Plan). p.dst_file) (one_plan (suc (suc k))) ∙ same) (within k)
   where
     here : (3 ≤ place) × (place < 3 + 2)
     here = ⊎_elim (λ (e : place ≡ 3). (omega arith, omega arith)) (λ (e : place ≡ 4). (omega arith, omega arith)) two
@@ -155,6 +155,20 @@ clear_outside (suc (suc k)) file place outside =
     committed : IsClear at_commit.dest at_commit.bare file place
     committed = clear_of (file_at safe 1) file place zero_now zero_now
 
+completes : (j k : ℕ) → IsCompletedBy good j k → IsCompletedBy good j (suc k)
+completes zero zero completed = absurd (false≢true completed)
+completes zero (suc zero) completed = absurd (false≢true completed)
+completes zero (suc (suc zero)) completed = absurd (false≢true completed)
+completes zero (suc (suc (suc zero))) completed = absurd (false≢true completed)
+completes zero (suc (suc (suc (suc k)))) completed =
+    each_moment (λ m. (m.copy 0).completed ≡ true) (at_report ∷ at_crash ∷ []) at_rest (refl, (refl, tt)) refl k
+completes (suc j) k completed = absurd (false≢true (sym (ap (λ (c : Copy). c.completed) (others_wait k j)) ∙ completed))
+
+reports : (j k : ℕ) → IsStableBy good j k → IsStableBy good j (suc k)
+reports zero k stable =
+    since_report (λ m. (m.copy 0).stable ≡ true) refl refl refl (suc k) (let late = stable_late k stable in omega arith)
+reports (suc j) k stable = absurd (false≢true (sym (ap (λ (c : Copy). c.stable) (others_wait k j)) ∙ stable))
+
 pub good_kept : IsKept good
 good_kept = record {
   whole = stable_whole;
@@ -163,4 +177,6 @@ good_kept = record {
   zeros = λ k file place outside unwritten x shows.
       let clear = clear_outside k file place outside in
       shows_only (good k).dest file place 0 clear.now clear.safe clear.certain x shows;
+  completes = completes;
+  reports = reports;
 }

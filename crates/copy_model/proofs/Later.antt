@@ -3,7 +3,7 @@ use Rattle.std.proofs.Common.{◌≡◌, ◌⊎◌, inl, inr, ⊎_elim, ℕ, zer
 use Rattle.std.proofs.lemmas.Bool.{both_ways, false_from_ne_true}
 use Rattle.copy_model.specs.Job.{Plan}
 use Rattle.copy_model.specs.Moment.{History}
-use Rattle.copy_model.specs.Promise.{InRange, IsAcceptedBy, IsCompletedBy, IsStoppedBy, IsDuring, IsTouched}
+use Rattle.copy_model.specs.Promise.{InRange, IsAcceptedBy, IsCompletedBy, IsStableBy, IsStoppedBy, IsDuring, IsTouched}
 use Rattle.copy_model.specs.Laws.{Progress, IsLawfulRun}
 
 at_or_before : (i k : ℕ) → i ≤ suc k → (i ≤ k) ⊎ (i ≡ suc k)
@@ -32,6 +32,10 @@ module _ (h : History) (progress : ℕ → ℕ → Progress) (lawful : IsLawfulR
   stopped_on j i k le stopped =
       from_on (λ n. IsStoppedBy h j n) i stopped (λ n after so_far. ((lawful.steps n).copies j ((lawful.moments n).stopped_made j so_far)).stopped so_far) k le
 
+  pub stable_on : (j k : ℕ) → IsStableBy h j k → IsStableBy h j (suc k)
+  stable_on j k stable =
+      ((lawful.steps k).copies j ((lawful.moments k).completed_made j ((lawful.moments k).durable j ((lawful.moments k).stable j stable)))).stable stable
+
   pub plan_on : (j i k : ℕ) → i ≤ k → IsAcceptedBy h j i → ((h k).copy j).plan ≡ ((h i).copy j).plan
   plan_on j i k le accepted =
       from_on (λ n. ((h n).copy j).plan ≡ ((h i).copy j).plan) i refl (λ n after so_far. ((lawful.steps n).copies j (accepted_on j i n after accepted)).plan ∙ so_far) k le
@@ -51,7 +55,7 @@ module _ (h : History) (progress : ℕ → ℕ → Progress) (lawful : IsLawfulR
 
   pub range_grows : (j i k place : ℕ) → i ≤ k → IsAcceptedBy h j i → InRange ((h i).copy j) place → InRange ((h k).copy j) place
   range_grows j i k place le accepted within =
-      let same = ap (λ (p : Plan). p.to) (plan_on j i k le accepted) in
+      let same = ap (λ (p : Plan). p.dst_off) (plan_on j i k le accepted) in
       let longer = len_grows j i k le accepted in
       (omega arith, omega arith)
 
@@ -64,4 +68,4 @@ module _ (h : History) (progress : ℕ → ℕ → Progress) (lawful : IsLawfulR
   pub touched_on : (j : ℕ) (plan : Plan) (place i k : ℕ) → i ≤ k → IsTouched h j plan place i → IsTouched h j plan place k
   touched_on j plan place i k le (inl written) = inl (written.0, omega arith, written.2, written.3)
   touched_on j plan place i k le (inr later) =
-      inr (later.0, later.1, accepted_on later.0 i k le later.2, ap (λ (p : Plan). p.file) (plan_on later.0 i k le later.2) ∙ later.3, range_grows later.0 i k place le later.2 later.4)
+      inr (later.0, later.1, accepted_on later.0 i k le later.2, ap (λ (p : Plan). p.dst_file) (plan_on later.0 i k le later.2) ∙ later.3, range_grows later.0 i k place le later.2 later.4)

@@ -43,7 +43,7 @@ writes_nothing Crashed file place no_write writes = writes
 pub untouched : (h : History) (n : ℕ) → PassesBefore h n is_alone → (plan : Plan) (place k : ℕ) → k < n → IsTouched h 0 plan place k → ⊥
 untouched h n alone plan place k before (inl written) =
     let m = h (suc written.0) in
-    writes_nothing m.did plan.file place (and_parts (is_no_write m.did) (nat_le m.made 1) (passes_at h n is_alone alone (suc written.0) (omega arith))).0 written.3
+    writes_nothing m.did plan.dst_file place (and_parts (is_no_write m.did) (nat_le m.made 1) (passes_at h n is_alone alone (suc written.0) (omega arith))).0 written.3
 untouched h n alone plan place k before (inr later) =
     let m = h k in
     let few : m.made ≤ 1 = leb-true m.made 1 (and_parts (is_no_write m.did) (nat_le m.made 1) (passes_at h n is_alone alone k before)).1 in

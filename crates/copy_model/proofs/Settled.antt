@@ -27,50 +27,50 @@ module _ (h : History) (progress : ℕ → ℕ → Progress) (lawful : IsLawfulR
 
   -- no step reaches an untouched place of a completed copy
   completed_unreached : (j i k place : ℕ) → i ≤ k → IsCompletedBy h j i → InRange ((h i).copy j) place
-      → (IsTouched h j ((h i).copy j).plan place (suc k) → ⊥) → Reaches (h (suc k)) ((h i).copy j).plan.file place → ⊥
+      → (IsTouched h j ((h i).copy j).plan place (suc k) → ⊥) → Reaches (h (suc k)) ((h i).copy j).plan.dst_file place → ⊥
   completed_unreached j i k place le completed within =
       let accepted = (lawful.moments i).completed_made j completed in
       subst
-      (λ (p : Plan). (IsTouched h j p place (suc k) → ⊥) → Reaches (h (suc k)) p.file place → ⊥)
+      (λ (p : Plan). (IsTouched h j p place (suc k) → ⊥) → Reaches (h (suc k)) p.dst_file place → ⊥)
       (plan_on h progress lawful j i (suc k) (omega arith) accepted)
       (λ untouched. unreached h progress lawful j k place (accepted_on h progress lawful j i k le accepted) (range_grows h progress lawful j i (suc k) place (omega arith) accepted within) untouched (completed_rests j k place (completed_on h progress lawful j i k le completed)))
 
   -- what a place of a completed copy shows at i is all that it shows later, while it is untouched
   stays_on : (j i place value : ℕ) → IsCompletedBy h j i → InRange ((h i).copy j) place
-      → ((x : ℕ) → Shows (h i).dest ((h i).copy j).plan.file place x → x ≡ value)
+      → ((x : ℕ) → Shows (h i).dest ((h i).copy j).plan.dst_file place x → x ≡ value)
       → (k : ℕ) → i ≤ k → (IsTouched h j ((h i).copy j).plan place k → ⊥)
-      → (x : ℕ) → Shows (h k).dest ((h i).copy j).plan.file place x → x ≡ value
+      → (x : ℕ) → Shows (h k).dest ((h i).copy j).plan.dst_file place x → x ≡ value
   stays_on j i place value completed within here =
       let plan = ((h i).copy j).plan in
       from_on
-      (λ n. (IsTouched h j plan place n → ⊥) → (x : ℕ) → Shows (h n).dest plan.file place x → x ≡ value)
+      (λ n. (IsTouched h j plan place n → ⊥) → (x : ℕ) → Shows (h n).dest plan.dst_file place x → x ≡ value)
       i
       (λ untouched. here)
       (λ n after so_far untouched x shows.
       so_far
       (λ touched. untouched (touched_on h progress lawful j plan place n (suc n) (omega arith) touched))
       x
-      ((lawful.steps n).shown plan.file place x (completed_unreached j i n place after completed within untouched) shows))
+      ((lawful.steps n).shown plan.dst_file place x (completed_unreached j i n place after completed within untouched) shows))
 
   -- where the source file stood still, one held value is the value of each moment
   same_always : (j place value : ℕ) (plan : Plan) → Held h j plan place value → IsStill h j plan
       → (i : ℕ) → IsDuring h j i → (h i).source.broken ≡ false → source_byte (h i) plan place ≡ value
   same_always j place value plan held still i during readable =
-      lawful.same_change i held.moment plan.source_file _ readable held.readable (still i held.moment during held.during) ∙ held.byte
+      lawful.same_change i held.moment plan.src_file _ readable held.readable (still i held.moment during held.during) ∙ held.byte
 
   -- a byte is settled by the step that makes its copy durable
   settles_byte : (j k q : ℕ) → (progress k j).durable ≡ false → (progress (suc k) j).durable ≡ true
       → q < ((h (suc k)).copy j).len
-      → (s : ℕ) → k < s → (IsTouched h j ((h (suc k)).copy j).plan (((h (suc k)).copy j).plan.to + q) s → ⊥)
-      → IsSettled h j ((h (suc k)).copy j).plan s (((h (suc k)).copy j).plan.to + q)
+      → (s : ℕ) → k < s → (IsTouched h j ((h (suc k)).copy j).plan (((h (suc k)).copy j).plan.dst_off + q) s → ⊥)
+      → IsSettled h j ((h (suc k)).copy j).plan s (((h (suc k)).copy j).plan.dst_off + q)
   settles_byte j k q not_yet durable within s after untouched =
       let plan = ((h (suc k)).copy j).plan in
-      let place = plan.to + q in
-      let value = (h k).dest.now plan.file place in
+      let place = plan.dst_off + q in
+      let value = (h k).dest.now plan.dst_file place in
       let completed = (lawful.moments (suc k)).durable j durable in
       let law = (lawful.steps k).settles j not_yet durable in
       let accepted = was_accepted completed in
-      let held_before = subst (λ (p : Plan). (IsTouched h j p (p.to + q) k → ⊥) → Held h j p (p.to + q) ((h k).dest.now p.file (p.to + q))) (sym ((lawful.steps k).copies j accepted).plan) (landed_held h progress lawful k j q accepted law.intact law.readable (law.landed q within)) in
+      let held_before = subst (λ (p : Plan). (IsTouched h j p (p.dst_off + q) k → ⊥) → Held h j p (p.dst_off + q) ((h k).dest.now p.dst_file (p.dst_off + q))) (sym ((lawful.steps k).copies j accepted).plan) (landed_held h progress lawful k j q accepted law.intact law.readable (law.landed q within)) in
       let held = held_before (λ touched. untouched (touched_on h progress lawful j plan place k s (omega arith) touched)) in
       record {
         value = value;
@@ -92,8 +92,8 @@ module _ (h : History) (progress : ℕ → ℕ → Progress) (lawful : IsLawfulR
       let same_plan = plan_on h progress lawful j (suc step.0) s step.1 accepted in
       let same_len = len_fixed h progress lawful j (suc step.0) s step.1 completed in
       let plan = ((h s).copy j).plan in
-      let there : plan.to + (place - plan.to) ≡ place = omega arith in
-      let below : place - plan.to < ((h (suc step.0)).copy j).len = omega arith in
-      let untouched_there : IsTouched h j plan (plan.to + (place - plan.to)) s → ⊥ = λ touched. untouched (touched_on h progress lawful j plan place s k le (subst (λ p. IsTouched h j plan p s) there touched)) in
-      let settled = subst (λ (p : Plan). ((q : ℕ) → q < ((h (suc step.0)).copy j).len → (IsTouched h j p (p.to + q) s → ⊥) → IsSettled h j p s (p.to + q))) (sym same_plan) (λ q less. settles_byte j step.0 q step.2 step.3 less s step.1) in
-      subst (IsSettled h j plan s) there (settled (place - plan.to) below untouched_there)
+      let there : plan.dst_off + (place - plan.dst_off) ≡ place = omega arith in
+      let below : place - plan.dst_off < ((h (suc step.0)).copy j).len = omega arith in
+      let untouched_there : IsTouched h j plan (plan.dst_off + (place - plan.dst_off)) s → ⊥ = λ touched. untouched (touched_on h progress lawful j plan place s k le (subst (λ p. IsTouched h j plan p s) there touched)) in
+      let settled = subst (λ (p : Plan). ((q : ℕ) → q < ((h (suc step.0)).copy j).len → (IsTouched h j p (p.dst_off + q) s → ⊥) → IsSettled h j p s (p.dst_off + q))) (sym same_plan) (λ q less. settles_byte j step.0 q step.2 step.3 less s step.1) in
+      subst (IsSettled h j plan s) there (settled (place - plan.dst_off) below untouched_there)

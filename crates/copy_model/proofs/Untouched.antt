@@ -24,7 +24,7 @@ module _ (h : History) (progress : ℕ → ℕ → Progress) (lawful : IsLawfulR
   pub unreached : (j k place : ℕ) → IsAcceptedBy h j k → InRange ((h (suc k)).copy j) place
       → (IsTouched h j ((h (suc k)).copy j).plan place (suc k) → ⊥)
       → (LandsAt (h (suc k)).did j ((h (suc k)).copy j).plan place → ⊥)
-      → Reaches (h (suc k)) ((h (suc k)).copy j).plan.file place → ⊥
+      → Reaches (h (suc k)) ((h (suc k)).copy j).plan.dst_file place → ⊥
   unreached j k place accepted within untouched not_own (inl written) =
       untouched (inl (k, omega arith, accepted, written))
   unreached j k place accepted within untouched not_own (inr landing) =
@@ -38,7 +38,7 @@ module _ (h : History) (progress : ℕ → ℕ → Progress) (lawful : IsLawfulR
 
   -- a byte that this step lands was read at a moment during the copy
   landed_now : (j k place : ℕ) → LandsAt (h (suc k)).did j ((h (suc k)).copy j).plan place
-      → Held h j ((h (suc k)).copy j).plan place ((h (suc k)).dest.now ((h (suc k)).copy j).plan.file place)
+      → Held h j ((h (suc k)).copy j).plan place ((h (suc k)).dest.now ((h (suc k)).copy j).plan.dst_file place)
   landed_now j k place lands =
       let law = (lawful.steps k).lands j place lands in
       let live = ((lawful.steps k).live j (lands_of (h (suc k)).did j _ place lands)).1 in
@@ -51,20 +51,20 @@ module _ (h : History) (progress : ℕ → ℕ → Progress) (lawful : IsLawfulR
 
   abbrev IsHeldAt : ℕ → ℕ → ℕ → Plan → Type 0
   IsHeldAt k j q plan =
-      (IsTouched h j plan (plan.to + q) k → ⊥) → Held h j plan (plan.to + q) ((h k).dest.now plan.file (plan.to + q))
+      (IsTouched h j plan (plan.dst_off + q) k → ⊥) → Held h j plan (plan.dst_off + q) ((h k).dest.now plan.dst_file (plan.dst_off + q))
 
   -- a byte that had landed before is still what it was
   landed_before : (j k q : ℕ) → IsAcceptedBy h j k → (progress (suc k) j).intact ≡ true → (h (suc k)).dest.broken ≡ false
       → (progress (suc k) j).landed q ≡ true
-      → (LandsAt (h (suc k)).did j ((h (suc k)).copy j).plan (((h (suc k)).copy j).plan.to + q) → ⊥)
+      → (LandsAt (h (suc k)).did j ((h (suc k)).copy j).plan (((h (suc k)).copy j).plan.dst_off + q) → ⊥)
       → ((h k).dest.broken ≡ false → IsHeldAt k j q ((h k).copy j).plan)
       → IsHeldAt (suc k) j q ((h (suc k)).copy j).plan
   landed_before j k q accepted intact readable landed not_own so_far untouched =
       let plan = ((h (suc k)).copy j).plan in
-      let place = plan.to + q in
+      let place = plan.dst_off + q in
       let within = (lawful.moments (suc k)).within j q landed in
       let no_crash = λ (crash : IsCrash (h (suc k)).did). both_ways _ ((lawful.steps k).crash j crash) intact in
-      let same = (lawful.steps k).quiet plan.file place (unreached j k place accepted (omega arith, omega arith) untouched not_own) no_crash readable in
+      let same = (lawful.steps k).quiet plan.dst_file place (unreached j k place accepted (omega arith, omega arith) untouched not_own) no_crash readable in
       let was = subst (IsHeldAt k j q) (sym ((lawful.steps k).copies j accepted).plan) (so_far same.0) in
       subst (Held h j plan place) (sym same.1) (was (λ touched. untouched (touched_on h progress lawful j plan place k (suc k) (omega arith) touched)))
 

@@ -7,7 +7,7 @@ use Rattle.copy_model.specs.Moment.{Copy, Did, Rested, Landed, Crashed, Moment, 
 
 -- The source's file 1 holds the bytes 7 and 8. They go to offset 3 of the destination's file 1.
 abbrev pub plan : Plan
-plan = record { source_file = 1; from = 0; file = 1; to = 3; count = 2; consecutive = true }
+plan = record { src_file = 1; src_off = 0; dst_file = 1; dst_off = 3; count = 2; consecutive = true }
 
 abbrev pub source : Volume
 source = write (formatted 1 64) 1 0 (7 ∷ 8 ∷ [])

@@ -3,14 +3,14 @@
 use Rattle.std.specs.Prelude.{◌≡◌, ℕ, zero, suc, ◌+◌, ◌-◌, ◌*◌, ◌/◌, ◌<◌, Bool, true, false, ◌==◌, Option, None, Some, List, [], ◌∷◌, take, min, sum_by, slice_get, if◌then◌else◌}
 use Rattle.std.specs.List.{list_any}
 
--- What COPY asked for: count bytes from offset from of the source's file to offset to of the
--- destination's. A count of 0 goes to the end of the source file. A consecutive job lands its chunks
--- in order.
+-- What COPY asked for: count bytes from offset src_off of the source's file to offset dst_off of the
+-- destination's. A count of 0 goes to the end of the source file. A consecutive job lands its chunks in
+-- order.
 pub record Plan : Type 0 where
-  pub source_file : ℕ
-  pub from : ℕ
-  pub file : ℕ
-  pub to : ℕ
+  pub src_file : ℕ
+  pub src_off : ℕ
+  pub dst_file : ℕ
+  pub dst_off : ℕ
   pub count : ℕ
   pub consecutive : Bool
 

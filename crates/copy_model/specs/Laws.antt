@@ -30,6 +30,7 @@ pub record CopyLaws (before now : Copy) (earlier later : Progress) : Type 0 wher
   pub fixed : before.completed ≡ true → now.len ≡ before.len
   pub completed : before.completed ≡ true → now.completed ≡ true
   pub stopped : before.stopped ≡ true → now.stopped ≡ true
+  pub stable : before.stable ≡ true → now.stable ≡ true
   pub durable : earlier.durable ≡ true → later.durable ≡ true
   pub live : later.live ≡ true → earlier.live ≡ true
   pub intact : later.intact ≡ true → earlier.intact ≡ true
@@ -43,8 +44,8 @@ pub record LandingLaws (h : History) (k j place : ℕ) : Type 0 where
   pub in_time : read ≤ suc k
   pub accepted : IsAcceptedBy h j read
   pub readable : (h read).source.broken ≡ false
-  pub byte : (h (suc k)).dest.now ((h (suc k)).copy j).plan.file place ≡ source_byte (h read) ((h (suc k)).copy j).plan place
-  pub apart : (l : ℕ) → j < l → IsAcceptedBy h l (suc k) → ((h (suc k)).copy l).plan.file ≡ ((h (suc k)).copy j).plan.file
+  pub byte : (h (suc k)).dest.now ((h (suc k)).copy j).plan.dst_file place ≡ source_byte (h read) ((h (suc k)).copy j).plan place
+  pub apart : (l : ℕ) → j < l → IsAcceptedBy h l (suc k) → ((h (suc k)).copy l).plan.dst_file ≡ ((h (suc k)).copy j).plan.dst_file
       → InRange ((h (suc k)).copy l) place → ⊥
 
 -- what a step owes that makes a copy durable: all its bytes had landed and stood, and the destination
@@ -54,8 +55,8 @@ pub record SettlingLaws (h : History) (progress : ℕ → ℕ → Progress) (k j
   pub readable : (h k).dest.broken ≡ false
   pub landed : (q : ℕ) → q < ((h (suc k)).copy j).len → (progress k j).landed q ≡ true
   pub shows : (q x : ℕ) → q < ((h (suc k)).copy j).len
-      → Shows (h (suc k)).dest ((h (suc k)).copy j).plan.file (((h (suc k)).copy j).plan.to + q) x
-      → x ≡ (h k).dest.now ((h (suc k)).copy j).plan.file (((h (suc k)).copy j).plan.to + q)
+      → Shows (h (suc k)).dest ((h (suc k)).copy j).plan.dst_file (((h (suc k)).copy j).plan.dst_off + q) x
+      → x ≡ (h k).dest.now ((h (suc k)).copy j).plan.dst_file (((h (suc k)).copy j).plan.dst_off + q)
 
 -- laws of the step from moment k to the next
 pub record StepLaws (h : History) (progress : ℕ → ℕ → Progress) (k : ℕ) : Type 0 where
@@ -65,8 +66,8 @@ pub record StepLaws (h : History) (progress : ℕ → ℕ → Progress) (k : ℕ
   pub fresh : (j : ℕ) → ((h k).made ≤ j) → ((q : ℕ) → (progress (suc k) j).landed q ≡ false) × (((h (suc k)).copy j).completed ≡ false)
   -- a byte that has landed landed in this step, or before and not again in this step
   pub landed : (j q : ℕ) → (progress (suc k) j).landed q ≡ true
-      → LandsAt (h (suc k)).did j ((h (suc k)).copy j).plan (((h (suc k)).copy j).plan.to + q)
-      ⊎ (((progress k j).landed q ≡ true) × (LandsAt (h (suc k)).did j ((h (suc k)).copy j).plan (((h (suc k)).copy j).plan.to + q) → ⊥))
+      → LandsAt (h (suc k)).did j ((h (suc k)).copy j).plan (((h (suc k)).copy j).plan.dst_off + q)
+      ⊎ (((progress k j).landed q ≡ true) × (LandsAt (h (suc k)).did j ((h (suc k)).copy j).plan (((h (suc k)).copy j).plan.dst_off + q) → ⊥))
   -- only a live copy lands
   pub live : (j : ℕ) → LandsOf (h (suc k)).did j → IsAcceptedBy h j k × ((progress k j).live ≡ true)
   pub lands : (j place : ℕ) → LandsAt (h (suc k)).did j ((h (suc k)).copy j).plan place → LandingLaws h k j place
@@ -80,7 +81,7 @@ pub record StepLaws (h : History) (progress : ℕ → ℕ → Progress) (k : ℕ
   -- after a crash of the destination nothing that landed before stands for sure
   pub crash : (j : ℕ) → IsCrash (h (suc k)).did → (progress (suc k) j).intact ≡ false
   -- but for landings the destination goes on as its bare volume does
-  pub bare : (file place : ℕ) → ((j : ℕ) → LandsAt (h (suc k)).did j ((h (suc k)).copy j).plan place → ((h (suc k)).copy j).plan.file ≡ file → ⊥)
+  pub bare : (file place : ℕ) → ((j : ℕ) → LandsAt (h (suc k)).did j ((h (suc k)).copy j).plan place → ((h (suc k)).copy j).plan.dst_file ≡ file → ⊥)
       → IsAlike (h k).dest (h k).bare file place → IsAlike (h (suc k)).dest (h (suc k)).bare file place
 
 -- the first moment: nothing is accepted, and each byte is 0

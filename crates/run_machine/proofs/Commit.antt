@@ -90,10 +90,10 @@ module _ (s d b : Volume) (c : Copying) (was : Did) (es : List Entry) (total : �
   after = record c { entries = es ++ Committed ∷ [] }
 
   abbrev dest : Volume
-  dest = commit d c.plan.file
+  dest = commit d c.plan.dst_file
 
   abbrev bare : Volume
-  bare = commit b c.plan.file
+  bare = commit b c.plan.dst_file
 
   abbrev before_moment : Moment
   before_moment = moment_of (world_of s d b (Some c) was)
@@ -115,7 +115,7 @@ module _ (s d b : Volume) (c : Copying) (was : Did) (es : List Entry) (total : �
         intact = not_from_false (has_ended c.entries) ready.live;
         readable = readable;
         landed = λ q below. sym (ready.same q) ∙ all_covered c.plan.consecutive es total q ready.sound ready.size all (omega (arith, long));
-        shows = λ q x below shows. shows_now d c.plan.file (c.plan.to + q) x certain shows;
+        shows = λ q x below shows. shows_now d c.plan.dst_file (c.plan.dst_off + q) x certain shows;
       }
   settles (suc j) not_yet durable = absurd (cc)
 
@@ -135,17 +135,17 @@ module _ (s d b : Volume) (c : Copying) (was : Did) (es : List Entry) (total : �
           source = sound.source;
           dest = record {
             absent = λ none. absurd (let file = ready.there in omega (arith, ap (λ (v : Volume). length v.files) (sound.dest.absent none)));
-            full = λ n files. length-commit d c.plan.file ∙ sound.dest.full n files;
+            full = λ n files. length-commit d c.plan.dst_file ∙ sound.dest.full n files;
           };
           whole = λ goes. record { readable = readable; certain = certain };
           none = λ none. absurd (let never = sound.none none in cc);
           copy = record {
-            there = let file = ready.there in omega (arith, length-commit d c.plan.file);
+            there = let file = ready.there in omega (arith, length-commit d c.plan.dst_file);
             entries = sound_committed c.plan.consecutive es total ready.sound ready.size all ready.still;
           };
         };
         copies = refl;
         goes = λ file. goes_on (file_at s file);
-        laws = calm_lawful s d b s dest bare (Some c) (Some after) was (dest_commits d b c.plan.file readable) (copies_go_on c after refl ready.live (let grows = ready.grows in omega (arith, long))) landed settles;
+        laws = calm_lawful s d b s dest bare (Some c) (Some after) was (dest_commits d b c.plan.dst_file readable) (copies_go_on c after refl ready.live (let grows = ready.grows in omega (arith, long))) landed settles;
         marks = stable_lines lines there;
       }

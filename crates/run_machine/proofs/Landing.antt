@@ -30,10 +30,10 @@ module _ (s d b : Volume) (c : Copying) (was : Did) (es : List Entry) (total off
   after = record c { entries = es ++ Landed off len ∷ [] }
 
   abbrev piece : List ℕ
-  piece = bytes_at (file_at s c.plan.source_file).now (c.plan.from + off) len
+  piece = bytes_at (file_at s c.plan.src_file).now (c.plan.src_off + off) len
 
   abbrev dest : Volume
-  dest = write d c.plan.file (c.plan.to + off) piece
+  dest = write d c.plan.dst_file (c.plan.dst_off + off) piece
 
   abbrev before_moment : Moment
   before_moment = moment_of (world_of s d b (Some c) was)
@@ -45,13 +45,13 @@ module _ (s d b : Volume) (c : Copying) (was : Did) (es : List Entry) (total off
   long = len_at after.entries (Some total) (size_kept es (Landed off len) total ready.size)
 
   piece_long : length piece ≡ len
-  piece_long = length-bytes_at (file_at s c.plan.source_file).now (c.plan.from + off) len
+  piece_long = length-bytes_at (file_at s c.plan.src_file).now (c.plan.src_off + off) len
 
-  effect : HasWritten d dest c.plan.file (c.plan.to + off) piece
-  effect = has_written d c.plan.file (c.plan.to + off) piece ready.there
+  effect : HasWritten d dest c.plan.dst_file (c.plan.dst_off + off) piece
+  effect = has_written d c.plan.dst_file (c.plan.dst_off + off) piece ready.there
 
   -- a byte that isn't landed is as before
-  outside : (file place : ℕ) → (file ≡ c.plan.file → c.plan.to + off ≤ place → place < c.plan.to + off + len → ⊥)
+  outside : (file place : ℕ) → (file ≡ c.plan.dst_file → c.plan.dst_off + off ≤ place → place < c.plan.dst_off + off + len → ⊥)
       → (seen_dest dest).now file place ≡ (seen_dest d).now file place
   outside file place out =
       effect.outside file place (λ same from below. out same from (omega (arith, piece_long)))
@@ -64,7 +64,7 @@ module _ (s d b : Volume) (c : Copying) (was : Did) (es : List Entry) (total off
   shows_old file place x never (inr (inl safe)) = inr (inl (ap (λ l. byte_at l place) (sym (effect.safe file)) ∙ safe))
   shows_old file place x never (inr (inr doubt)) = inr (inr (subst (λ o. doubted o file place ≡ Some x) effect.doubt doubt))
 
-  alike : (file place : ℕ) → ((j : ℕ) → LandsAt (did.Landed 0 off len) j (copy_in (Some after) j).plan place → (copy_in (Some after) j).plan.file ≡ file → ⊥)
+  alike : (file place : ℕ) → ((j : ℕ) → LandsAt (did.Landed 0 off len) j (copy_in (Some after) j).plan place → (copy_in (Some after) j).plan.dst_file ≡ file → ⊥)
       → IsAlike (seen_dest d) (seen_dest b) file place → IsAlike (seen_dest dest) (seen_dest b) file place
   alike file place never so_far =
       let same = outside file place (λ equal from below. never 0 (refl, from, below) (sym equal)) in
@@ -76,8 +76,8 @@ module _ (s d b : Volume) (c : Copying) (was : Did) (es : List Entry) (total off
       }
 
   landed : (j q : ℕ) → (progress_in (Some after) j).landed q ≡ true
-      → LandsAt (did.Landed 0 off len) j (copy_in (Some after) j).plan ((copy_in (Some after) j).plan.to + q)
-      ⊎ (((progress_in (Some c) j).landed q ≡ true) × (LandsAt (did.Landed 0 off len) j (copy_in (Some after) j).plan ((copy_in (Some after) j).plan.to + q) → ⊥))
+      → LandsAt (did.Landed 0 off len) j (copy_in (Some after) j).plan ((copy_in (Some after) j).plan.dst_off + q)
+      ⊎ (((progress_in (Some c) j).landed q ≡ true) × (LandsAt (did.Landed 0 off len) j (copy_in (Some after) j).plan ((copy_in (Some after) j).plan.dst_off + q) → ⊥))
   landed zero q now =
       ⊎_elim
       (λ (before : q < off). inr (was_landed before, λ lands. absurd (omega arith)))
@@ -103,17 +103,17 @@ module _ (s d b : Volume) (c : Copying) (was : Did) (es : List Entry) (total off
   landed (suc j) q now = absurd (cc)
 
   -- the chunk has the source's bytes
-  from_source : (place : ℕ) → c.plan.to + off ≤ place → place < c.plan.to + off + len
-      → (seen_dest dest).now c.plan.file place ≡ source_byte now_moment c.plan place
+  from_source : (place : ℕ) → c.plan.dst_off + off ≤ place → place < c.plan.dst_off + off + len
+      → (seen_dest dest).now c.plan.dst_file place ≡ source_byte now_moment c.plan place
   from_source place from below =
-      let k = place - (c.plan.to + off) in
-      let there : c.plan.from + off + k ≡ c.plan.from + (place - c.plan.to) = omega arith in
-      effect.within place from (omega (arith, piece_long)) ∙ byte_at-bytes_at (file_at s c.plan.source_file).now (c.plan.from + off) len k (omega arith) ∙ ap (λ i. byte_at (file_at s c.plan.source_file).now i) there
+      let k = place - (c.plan.dst_off + off) in
+      let there : c.plan.src_off + off + k ≡ c.plan.src_off + (place - c.plan.dst_off) = omega arith in
+      effect.within place from (omega (arith, piece_long)) ∙ byte_at-bytes_at (file_at s c.plan.src_file).now (c.plan.src_off + off) len k (omega arith) ∙ ap (λ i. byte_at (file_at s c.plan.src_file).now i) there
 
-  lands_own : (place : ℕ) → c.plan.to + off ≤ place → place < c.plan.to + off + len
+  lands_own : (place : ℕ) → c.plan.dst_off + off ≤ place → place < c.plan.dst_off + off + len
       → LandingLaws (two before_moment now_moment) 0 0 place
   lands_own place from below =
-      let inside = chunk_within total off (place - c.plan.to) (unlanded-Some es total off first).chunk.within (omega arith) in
+      let inside = chunk_within total off (place - c.plan.dst_off) (unlanded-Some es total off first).chunk.within (omega arith) in
       record {
         within = (omega arith, omega (arith, long));
         read = 1;

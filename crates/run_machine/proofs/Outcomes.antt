@@ -52,13 +52,13 @@ module _ (P : Step → Type 0) (s : State) (choice : Choice) where
     on_moves total None no_landing land no_commit go = on_commits no_commit (go refl)
 
     -- the first step of a copy
-    pub on_starts : (s.source.broken ≡ false → P (sizes s choice c (sizing c.plan (length (file_at s.source c.plan.source_file).now) s.dest.capacity)))
+    pub on_starts : (s.source.broken ≡ false → P (sizes s choice c (sizing c.plan (length (file_at s.source c.plan.src_file).now) s.dest.capacity)))
         → P (starts s choice c)
     on_starts go =
         cond_both
         s.source.broken
         (stops s c DiskFault)
-        (sizes s choice c (sizing c.plan (length (file_at s.source c.plan.source_file).now) s.dest.capacity))
+        (sizes s choice c (sizing c.plan (length (file_at s.source c.plan.src_file).now) s.dest.capacity))
         P
         (λ broken. stop)
         go

@@ -103,7 +103,7 @@ pub record AreSound (consecutive : Bool) (es : List Entry) : Type 0 where
 
 -- what is known of the copy, whose file the destination has
 pub record IsSoundCopy (dest : Volume) (c : Copying) : Type 0 where
-  pub there : c.plan.file < length dest.files
+  pub there : c.plan.dst_file < length dest.files
   pub entries : AreSound c.plan.consecutive c.entries
 
 -- what is known of a server's volume: it isn't there until its line came

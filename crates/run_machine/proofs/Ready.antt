@@ -16,7 +16,7 @@ pub record IsReady (dest : Volume) (c : Copying) (es : List Entry) (total : ℕ)
   pub grows : len_of c.entries ≤ total
   pub same : (q : ℕ) → list_any (covers q) es ≡ list_any (covers q) c.entries
   pub sound : AreSound c.plan.consecutive es
-  pub there : c.plan.file < length dest.files
+  pub there : c.plan.dst_file < length dest.files
 
 pub ready_sized : (dest : Volume) (c : Copying) (total : ℕ) → IsSoundCopy dest c → has_ended c.entries ≡ false → size_of c.entries ≡ Some total
     → IsReady dest c c.entries total

@@ -23,7 +23,7 @@ use Rattle.run_machine.proofs.Steps.{absent}
 use Rattle.run_machine.proofs.Outcomes.{on_moves, on_starts, on_writes, on_shows}
 
 -- the range that sizing gives is what the plan asks for
-range_is : (plan : Plan) (size room : ℕ) → plan.from + plan.count ≤ size → plan.to + range_len plan size ≤ room → IsRangeOf plan size room (range_len plan size)
+range_is : (plan : Plan) (size room : ℕ) → plan.src_off + plan.count ≤ size → plan.dst_off + range_len plan size ≤ room → IsRangeOf plan size room (range_len plan size)
 range_is plan size room inside fits =
     record {
       counted = counted;
@@ -33,24 +33,24 @@ range_is plan size room inside fits =
     }
   where
     counted : (plan.count ≡ 0 → ⊥) → range_len plan size ≡ plan.count
-    counted some = cond-false (plan.count == 0) (size - plan.from) plan.count (ne_eqb plan.count 0 some)
+    counted some = cond-false (plan.count == 0) (size - plan.src_off) plan.count (ne_eqb plan.count 0 some)
 
-    to_end : plan.count ≡ 0 → plan.from + range_len plan size ≡ size
+    to_end : plan.count ≡ 0 → plan.src_off + range_len plan size ≡ size
     to_end none =
-        let rest : range_len plan size ≡ size - plan.from = cond-true (plan.count == 0) (size - plan.from) plan.count (eq-eqb plan.count 0 none) in
+        let rest : range_len plan size ≡ size - plan.src_off = cond-true (plan.count == 0) (size - plan.src_off) plan.count (eq-eqb plan.count 0 none) in
         omega arith
 
 sized_right : (plan : Plan) (size room total : ℕ) → sizing plan size room ≡ Ok total → IsRangeOf plan size room total
 sized_right plan size room total =
-    let last : Result ℕ Stop = if nat_lt room (plan.to + range_len plan size) then Err NoRoom else Ok (range_len plan size) in
+    let last : Result ℕ Stop = if nat_lt room (plan.dst_off + range_len plan size) then Err NoRoom else Ok (range_len plan size) in
     cond_both
-    (nat_lt size (plan.from + plan.count))
+    (nat_lt size (plan.src_off + plan.count))
     (Err PastEnd)
     last
     (λ r. r ≡ Ok total → IsRangeOf plan size room total)
     (λ past e. absurd (cc))
     (λ within. cond_both
-    (nat_lt room (plan.to + range_len plan size))
+    (nat_lt room (plan.dst_off + range_len plan size))
     (Err NoRoom)
     (Ok (range_len plan size))
     (λ r. r ≡ Ok total → IsRangeOf plan size room total)
@@ -60,7 +60,7 @@ sized_right plan size room total =
     subst
     (IsRangeOf plan size room)
     same
-    (range_is plan size room (ltb-false size (plan.from + plan.count) within) (ltb-false room (plan.to + range_len plan size) fits))))
+    (range_is plan size room (ltb-false size (plan.src_off + plan.count) within) (ltb-false room (plan.dst_off + range_len plan size) fits))))
 
 -- the line says a copy's length
 abbrev says_length : Line → Bool
@@ -96,7 +96,7 @@ module _ (s d : Volume) (choice : Choice) (c : Copying) where
   state = record { source = s; dest = d; copy = Some c }
 
   abbrev size : ℕ
-  size = length (file_at s c.plan.source_file).now
+  size = length (file_at s c.plan.src_file).now
 
   first_right : (total : ℕ) (lines : List Line) → sizing c.plan size d.capacity ≡ Ok total → list_any says_length lines ≡ false
       → (job : JobName) (len k : ℕ) → k < length (line.Note (note.Sized (job_name state) total) ∷ lines)

@@ -23,36 +23,36 @@ use Rattle.run_machine.proofs.Steps.{new_copy}
 -- the length is the one that the plan asks for, where the source file has this size
 pub record IsAsked (plan : Plan) (size len : ℕ) : Type 0 where
   pub counted : 0 < plan.count → len ≡ plan.count
-  pub to_end : plan.count ≡ 0 → plan.from + len ≡ size
+  pub to_end : plan.count ≡ 0 → plan.src_off + len ≡ size
 
-range_asked : (plan : Plan) (size : ℕ) → plan.from + plan.count ≤ size → IsAsked plan size (range_len plan size)
+range_asked : (plan : Plan) (size : ℕ) → plan.src_off + plan.count ≤ size → IsAsked plan size (range_len plan size)
 range_asked plan size inside =
     record {
-      counted = λ some. cond-false (plan.count == 0) (size - plan.from) plan.count (ne_eqb plan.count 0 (λ none. omega arith));
+      counted = λ some. cond-false (plan.count == 0) (size - plan.src_off) plan.count (ne_eqb plan.count 0 (λ none. omega arith));
       to_end = λ none.
-          let rest = cond-true (plan.count == 0) (size - plan.from) plan.count (eq-eqb plan.count 0 none) in
+          let rest = cond-true (plan.count == 0) (size - plan.src_off) plan.count (eq-eqb plan.count 0 none) in
           omega (arith, rest);
     }
 
 sizing_asked : (plan : Plan) (size capacity len : ℕ) → sizing plan size capacity ≡ Ok len → IsAsked plan size len
 sizing_asked plan size capacity len =
     let range : ℕ = range_len plan size in
-    let fitted : Result ℕ Stop = if nat_lt capacity (plan.to + range) then Err NoRoom else Ok range in
+    let fitted : Result ℕ Stop = if nat_lt capacity (plan.dst_off + range) then Err NoRoom else Ok range in
     cond_both
-    (nat_lt size (plan.from + plan.count))
+    (nat_lt size (plan.src_off + plan.count))
     (Err PastEnd)
     fitted
     (λ (r : Result ℕ Stop). r ≡ Ok len → IsAsked plan size len)
     (λ past never. absurd (cc))
     (λ inside. cond_both
-    (nat_lt capacity (plan.to + range))
+    (nat_lt capacity (plan.dst_off + range))
     (Err NoRoom)
     (Ok range)
     (λ (r : Result ℕ Stop). r ≡ Ok len → IsAsked plan size len)
     (λ full never. absurd (cc))
     (λ fits ok.
     let same : range ≡ len = cc in
-    subst (IsAsked plan size) same (range_asked plan size (ltb-false size (plan.from + plan.count) inside))))
+    subst (IsAsked plan size) same (range_asked plan size (ltb-false size (plan.src_off + plan.count) inside))))
 
 -- the copy has this plan, and was given this length
 abbrev pub HasLen : Option Copying → Plan → ℕ → Type 0
@@ -69,7 +69,7 @@ IsUnderWay (Some c) plan = (c.plan ≡ plan) × (has_ended c.entries ≡ false)
 abbrev pub IsLenGiven : State → Plan → ℕ → Type 0
 IsLenGiven s plan len =
     HasLen s.copy plan len
-    ⊎ (IsUnderWay s.copy plan × (s.source.broken ≡ false) × IsAsked plan (length (file_at s.source plan.source_file).now) len)
+    ⊎ (IsUnderWay s.copy plan × (s.source.broken ≡ false) × IsAsked plan (length (file_at s.source plan.src_file).now) len)
 
 -- so it is with the copy that a step leaves
 abbrev pub IsGiven : State → Option Copying → Type 0
@@ -116,7 +116,7 @@ module _ (s d : Volume) (c : Copying) where
   stops_given stop unsized = λ len size. absurd (let still = size_first c.entries Stopped unsized in cc)
 
   sizes_given : (choice : Choice) → has_ended c.entries ≡ false → size_of c.entries ≡ None → s.broken ≡ false → (size : Result ℕ Stop)
-      → sizing c.plan (length (file_at s c.plan.source_file).now) d.capacity ≡ size
+      → sizing c.plan (length (file_at s c.plan.src_file).now) d.capacity ≡ size
       → IsGiven state (sizes state choice c size).state.copy
   sizes_given choice live unsized readable (Ok len) ok =
       let es = c.entries ++ Sized len ∷ [] in
@@ -133,7 +133,7 @@ module _ (s d : Volume) (c : Copying) where
       choice
       c
       (stops_given DiskFault unsized)
-      (λ readable. sizes_given choice live unsized readable (sizing c.plan (length (file_at s c.plan.source_file).now) d.capacity) refl)
+      (λ readable. sizes_given choice live unsized readable (sizing c.plan (length (file_at s c.plan.src_file).now) d.capacity) refl)
 
 works_given : (s d : Volume) (choice : Choice) (c : Option Copying) → IsGiven (state_of s d c) (works (state_of s d c) choice c).state.copy
 works_given s d choice None = tt

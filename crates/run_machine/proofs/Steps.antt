@@ -34,11 +34,11 @@ AreLawful m n x y = StepLaws (two m n) (both x y) 0
 
 landing_at : (h : History) (k j place : ℕ)
     → InRange ((h (suc k)).copy j) place
-    → ((l : ℕ) → j < l → IsAcceptedBy h l (suc k) → ((h (suc k)).copy l).plan.file ≡ ((h (suc k)).copy j).plan.file → InRange ((h (suc k)).copy l) place → ⊥)
+    → ((l : ℕ) → j < l → IsAcceptedBy h l (suc k) → ((h (suc k)).copy l).plan.dst_file ≡ ((h (suc k)).copy j).plan.dst_file → InRange ((h (suc k)).copy l) place → ⊥)
     → (read : ℕ)
     → IsAcceptedBy (two (h k) (h (suc k))) j read
     → (two (h k) (h (suc k)) read).source.broken ≡ false
-    → (h (suc k)).dest.now ((h (suc k)).copy j).plan.file place ≡ source_byte (two (h k) (h (suc k)) read) ((h (suc k)).copy j).plan place
+    → (h (suc k)).dest.now ((h (suc k)).copy j).plan.dst_file place ≡ source_byte (two (h k) (h (suc k)) read) ((h (suc k)).copy j).plan place
     → LandingLaws h k j place
 landing_at h k j place within apart zero accepted readable byte =
     record { within = within; read = k; in_time = omega arith; accepted = accepted; readable = readable; byte = byte; apart = apart }
@@ -129,6 +129,7 @@ same_laws copy progress =
       fixed = λ completed. refl;
       completed = λ completed. completed;
       stopped = λ stopped. stopped;
+      stable = λ stable. stable;
       durable = λ durable. durable;
       live = λ live. live;
       intact = λ intact. intact;
@@ -179,6 +180,7 @@ live_laws c c' plan live grows zero there =
       fixed = λ completed. absurd (incomplete completed);
       completed = λ completed. absurd (incomplete completed);
       stopped = λ stopped. absurd (both_ways _ (not_stopped c.entries live) stopped);
+      stable = λ stable. absurd (incomplete stable);
       durable = λ durable. absurd (incomplete durable);
       live = λ later. not_from_false (has_ended c.entries) live;
       intact = λ later. not_from_false (has_ended c.entries) live;

@@ -86,7 +86,7 @@ pub record IsGoing (dest : Volume) (c : Copying) (es : List Entry) : Type 0 wher
   pub grows : len_of c.entries ≤ len_of es
   pub same : (q : ℕ) → list_any (covers q) es ≡ list_any (covers q) c.entries
   pub sound : AreSound c.plan.consecutive es
-  pub there : c.plan.file < length dest.files
+  pub there : c.plan.dst_file < length dest.files
 
 pub going_ready : (dest : Volume) (c : Copying) (es : List Entry) (total : ℕ) → IsReady dest c es total → IsGoing dest c es
 going_ready dest c es total ready =

@@ -152,7 +152,6 @@ module _ (choices : List Choice) (events : List Event) (admitted : IsAdmitted at
         to_end = λ none. record {
           moment = k;
           during = under_way_during k c.plan now.0;
-          readable = now.1;
           end_is = now.2.to_end none;
         };
       })
@@ -174,7 +173,7 @@ module _ (choices : List Choice) (events : List Event) (admitted : IsAdmitted at
         counted = extent.counted;
         to_end = λ none.
             let found = extent.to_end none in
-            record { moment = found.moment; during = found.during; readable = found.readable; end_is = found.end_is };
+            record { moment = found.moment; during = found.during; end_is = found.end_is };
       })
   completed_extent d (Some c) (suc j) sound full completed = absurd (cc)
 

@@ -91,7 +91,7 @@ module _ (context : Context) (s d b : Volume) (c : Copying) (was : Did) (choice 
 
     committing_fails_good : IsGoodAfter len before (committing_fails w.state sized)
     committing_fails_good =
-        stop_good context s d b _ _ c was es len _ sound going lens (dest_fails d b c.plan.file whole.readable) refl (silent_before before _ silent refl)
+        stop_good context s d b _ _ c was es len _ sound going lens (dest_fails d b c.plan.dst_file whole.readable) refl (silent_before before _ silent refl)
 
     landing_lands_good : (total off : ℕ) → IsReady d c es total → unlanded es total ≡ Some off → s.broken ≡ false → IsGoodAfter len before (landing w.state sized total off)
     landing_lands_good total off ready first readable =
@@ -160,7 +160,7 @@ module _ (context : Context) (s d b : Volume) (c : Copying) (was : Did) (choice 
   works_at_good : (size : Option ℕ) → size_of c.entries ≡ size → IsGoodStep context event.Work w (works_at w.state choice c size)
   works_at_good (Some total) size = moves_sized_before total size
   works_at_good None unsized =
-      on_starts (IsGoodStep context event.Work w) w.state choice c (unsized_stops DiskFault) (λ readable. sizes_good (sizing c.plan (length (file_at s c.plan.source_file).now) d.capacity) unsized)
+      on_starts (IsGoodStep context event.Work w) w.state choice c (unsized_stops DiskFault) (λ readable. sizes_good (sizing c.plan (length (file_at s c.plan.src_file).now) d.capacity) unsized)
 
 -- the worker's step is good
 pub works_good : (context : Context) (s d b : Volume) (c : Option Copying) (was : Did) (choice : Choice)

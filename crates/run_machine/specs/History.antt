@@ -33,7 +33,7 @@ pub record Seen : Type 0 where
 
 -- a plan that nothing asked for
 abbrev pub no_plan : Plan
-no_plan = record { source_file = 0; from = 0; file = 0; to = 0; count = 0; consecutive = false }
+no_plan = record { src_file = 0; src_off = 0; dst_file = 0; dst_off = 0; count = 0; consecutive = false }
 
 -- a copy that was just accepted, and one that wasn't
 abbrev pub fresh_copy : Plan → Copy

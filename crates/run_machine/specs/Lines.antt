@@ -20,14 +20,14 @@ lines_until choices events (suc k) = lines_until choices events k ++ lines_at ch
 -- size and the destination file room for so many bytes.
 pub record IsRangeOf (plan : Plan) (size room len : ℕ) : Type 0 where
   pub counted : (plan.count ≡ 0 → ⊥) → len ≡ plan.count
-  pub to_end : plan.count ≡ 0 → plan.from + len ≡ size
-  pub in_source : plan.from + len ≤ size
-  pub has_room : plan.to + len ≤ room
+  pub to_end : plan.count ≡ 0 → plan.src_off + len ≡ size
+  pub in_source : plan.src_off + len ≤ size
+  pub has_room : plan.dst_off + len ≤ room
 
 -- a copy may get this length in this state
 abbrev pub IsLengthIn : State → ℕ → Type 0
 IsLengthIn s len =
-    IsSomeAnd s.copy (λ c. IsRangeOf c.plan (length (file_at s.source c.plan.source_file).now) s.dest.capacity len)
+    IsSomeAnd s.copy (λ c. IsRangeOf c.plan (length (file_at s.source c.plan.src_file).now) s.dest.capacity len)
 
 -- what a line of the step from moment k says of a copy's length is right
 abbrev pub SizesRight : List Choice → List Event → ℕ → JobName → ℕ → Type 0

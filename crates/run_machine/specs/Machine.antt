@@ -127,10 +127,10 @@ client_writes s choice file off bytes =
 abbrev pub plan_of : CopySpec → Plan
 plan_of spec =
     record {
-      source_file = spec.src_file;
-      from = spec.src_off;
-      file = spec.dst_file;
-      to = spec.dst_off;
+      src_file = spec.src_file;
+      src_off = spec.src_off;
+      dst_file = spec.dst_file;
+      dst_off = spec.dst_off;
       count = spec.count;
       consecutive = spec.consecutive;
     }
@@ -148,15 +148,15 @@ asks s number spec =
 
 -- the length of the range, where the source file has this size
 abbrev pub range_len : Plan → ℕ → ℕ
-range_len plan size = if plan.count == 0 then size - plan.from else plan.count
+range_len plan size = if plan.count == 0 then size - plan.src_off else plan.count
 
 -- The length of the range, or why it can't be copied: it must lie within the source file, and fit the
 -- destination file.
 abbrev pub sizing : Plan → ℕ → ℕ → Result ℕ Stop
 sizing plan size capacity =
-    if nat_lt size (plan.from + plan.count)
+    if nat_lt size (plan.src_off + plan.count)
     then Err PastEnd
-    else if nat_lt capacity (plan.to + range_len plan size)
+    else if nat_lt capacity (plan.dst_off + range_len plan size)
     then Err NoRoom
     else Ok (range_len plan size)
 
@@ -175,14 +175,14 @@ stops s c stop =
 
 -- the bytes of the chunk that begins at off, as the source holds them now
 abbrev pub chunk_bytes : State → Copying → ℕ → ℕ → List ℕ
-chunk_bytes s c total off = bytes_at (file_at s.source c.plan.source_file).now (c.plan.from + off) (chunk_len total off)
+chunk_bytes s c total off = bytes_at (file_at s.source c.plan.src_file).now (c.plan.src_off + off) (chunk_len total off)
 
 -- the chunk that begins at off lands
 abbrev pub landing : State → Copying → ℕ → ℕ → Step
 landing s c total off =
     says
     (with_entry
-    (record s { dest = write s.dest c.plan.file (c.plan.to + off) (chunk_bytes s c total off) })
+    (record s { dest = write s.dest c.plan.dst_file (c.plan.dst_off + off) (chunk_bytes s c total off) })
     c
     (job.Landed off (chunk_len total off)))
     (note.Landed (job_name s) off (chunk_len total off))
@@ -209,16 +209,16 @@ fetches s choice c total off =
 abbrev pub committing : State → Copying → Step
 committing s c =
     record {
-      state = with_entry (record s { dest = commit s.dest c.plan.file }) c job.Committed;
+      state = with_entry (record s { dest = commit s.dest c.plan.dst_file }) c job.Committed;
       lines = line.Note (note.Committed (job_name s)) ∷ line.Note (note.Stable c.number) ∷ [];
-      committed = Some (record { file = c.plan.file; failed = false });
+      committed = Some (record { file = c.plan.dst_file; failed = false });
     }
 
 -- the commit of a copy failed
 abbrev pub committing_fails : State → Copying → Step
 committing_fails s c =
-    record (stops (record s { dest = fail_commit s.dest c.plan.file }) c DiskFault) {
-      committed = Some (record { file = c.plan.file; failed = true });
+    record (stops (record s { dest = fail_commit s.dest c.plan.dst_file }) c DiskFault) {
+      committed = Some (record { file = c.plan.dst_file; failed = true });
     }
 
 -- the last step of a copy: the file that it went to is committed
@@ -251,7 +251,7 @@ abbrev pub starts : State → Choice → Copying → Step
 starts s choice c =
     if s.source.broken
     then stops s c DiskFault
-    else sizes s choice c (sizing c.plan (length (file_at s.source c.plan.source_file).now) s.dest.capacity)
+    else sizes s choice c (sizing c.plan (length (file_at s.source c.plan.src_file).now) s.dest.capacity)
 
 abbrev pub works_at : State → Choice → Copying → Option ℕ → Step
 works_at s choice c (Some total) = moves s choice c total (unlanded c.entries total)

@@ -54,13 +54,13 @@ pub uncommitted_broken : (s : State) (choice : Choice) (c : machine.Copying) (to
 uncommitted_broken s choice c total broken = cc
 
 pub uncommitted_failed : (s : State) (c : machine.Copying) (total : ℕ) → s.dest.broken ≡ false
-    → ((moves s (FailedAt Dest) c total None).state ≡ (stops (record s { dest = fail_commit s.dest c.plan.file }) c DiskFault).state)
-    × ((moves s (FailedAt Dest) c total None).lines ≡ (stops (record s { dest = fail_commit s.dest c.plan.file }) c DiskFault).lines)
+    → ((moves s (FailedAt Dest) c total None).state ≡ (stops (record s { dest = fail_commit s.dest c.plan.dst_file }) c DiskFault).state)
+    × ((moves s (FailedAt Dest) c total None).lines ≡ (stops (record s { dest = fail_commit s.dest c.plan.dst_file }) c DiskFault).lines)
 uncommitted_failed s c total whole = (cc, cc)
 
 pub unsized_broken : (s : State) (choice : Choice) (c : machine.Copying) → s.source.broken ≡ true → starts s choice c ≡ stops s c DiskFault
 unsized_broken s choice c broken = cc
 
 pub unsized : (s : State) (choice : Choice) (c : machine.Copying) (cause : Stop) → s.source.broken ≡ false
-    → sizing c.plan (length (file_at s.source c.plan.source_file).now) s.dest.capacity ≡ Err cause → starts s choice c ≡ stops s c cause
+    → sizing c.plan (length (file_at s.source c.plan.src_file).now) s.dest.capacity ≡ Err cause → starts s choice c ≡ stops s c cause
 unsized s choice c cause whole is = cc

@@ -13,10 +13,10 @@ use Rattle.run_machine.specs.Machine as machine
 abbrev pub whole_plan : ℕ → JobPlan → Plan
 whole_plan source_file plan =
     record {
-      source_file = source_file;
-      from = plan.from;
-      file = plan.file;
-      to = plan.to;
+      src_file = source_file;
+      src_off = plan.from;
+      dst_file = plan.file;
+      dst_off = plan.to;
       count = plan.count;
       consecutive = plan.consecutive;
     }

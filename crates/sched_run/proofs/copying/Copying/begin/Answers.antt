@@ -26,7 +26,7 @@ returns-in-Err-clause-step g c = λ told.
     let copying = copying_of c.args.self.now in
     let s = state_of source dest c.args.self.now in
     let whole : source.broken ≡ false = search rules in
-    let is : sizing copying.plan (length (file_at s.source copying.plan.source_file).now) s.dest.capacity ≡ Err c.in-Err.cause = search rules in
+    let is : sizing copying.plan (length (file_at s.source copying.plan.src_file).now) s.dest.capacity ≡ Err c.in-Err.cause = search rules in
     let same = unsized s Went copying c.in-Err.cause whole is in
     stopped_in _ Went c.in-Err.cause (λ x. starts s x copying)
     source source dest dest c.args.self.now c.stop-in-Err.new.self
