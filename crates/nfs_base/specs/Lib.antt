@@ -1,3 +1,6 @@
 pub mod Answers
+pub mod Changed
+pub mod ChangedLaws
 pub mod Forms
+pub mod Locations
 pub mod Text

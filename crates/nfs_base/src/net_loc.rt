@@ -1,4 +1,6 @@
+ghost use Rattle.std.specs.Prelude.{◌≡◌, ◌↔◌, IfOk, true};
 ghost use Rattle.nfs_base.specs.Forms.{net_loc};
+ghost use Rattle.nfs_base.specs.Locations.{same_location};
 
 use crate::TEXT_LIMIT;
 use outcome::Mem;
@@ -16,6 +18,50 @@ pub enum NetLoc {
 
     /// By a network's name and an address there (netaddr4, RFC 8881 section 3.3.9).
     Addr { netid: Octets, addr: Octets },
+}
+
+impl NetLoc {
+    /// Whether it is the same location, byte for byte.
+    pub fn is_same(&self, other: &NetLoc) -> bool
+        ensures told { result ≡ same_location self.now other.now }
+        ensures equal { (result ≡ true) ↔ (self.now ≡ other.now) }
+    {
+        self.has_same_bytes(other)
+    }
+
+    fn has_same_bytes(&self, other: &NetLoc) -> bool
+        ensures { result ≡ same_location self.now other.now }
+    {
+        match (self, other) {
+            (NetLoc::Name(a), NetLoc::Name(b)) => a.as_slice() == b.as_slice(),
+            (NetLoc::Url(a), NetLoc::Url(b)) => a.as_slice() == b.as_slice(),
+            (
+                NetLoc::Addr { netid, addr },
+                NetLoc::Addr {
+                    netid: other_netid,
+                    addr: other_addr,
+                },
+            ) => {
+                netid.as_slice() == other_netid.as_slice()
+                    && addr.as_slice() == other_addr.as_slice()
+            }
+            _ => false,
+        }
+    }
+
+    /// The same location once more.
+    pub fn copy(&self) -> Mem<NetLoc>
+        ensures { IfOk result (λ copy. copy ≡ self.now) }
+    {
+        match self {
+            NetLoc::Name(name) => Ok(NetLoc::Name(name.copy()?)),
+            NetLoc::Url(url) => Ok(NetLoc::Url(url.copy()?)),
+            NetLoc::Addr { netid, addr } => Ok(NetLoc::Addr {
+                netid: netid.copy()?,
+                addr: addr.copy()?,
+            }),
+        }
+    }
 }
 
 impl Xdr for NetLoc {
