@@ -20,8 +20,8 @@ const MOST_BYTES: usize = 16_777_216;
 
 /// Puts the line `usage`.
 pub fn usage<K: Sink>(output: &mut K) -> Status
-    ensures puts { UsagePuts (K.taken output.old) (K.taken output.new) (K.faults output.old) (K.faults output.new) result }
-    ensures later { K.faults output.old ≤ K.faults output.new }
+    ensures puts { UsagePuts (K.takes output.old).taken (K.takes output.new).taken (K.takes output.old).faults (K.takes output.new).faults result }
+    ensures later { (K.takes output.old).faults ≤ (K.takes output.new).faults }
 {
     match put_all(output, usage_line()) {
         Ok(()) => Status::Usage,
@@ -39,11 +39,11 @@ pub fn run<S: Source, K: Sink, D: Disk + Drop>(
     requires source { is_some disks.old.source ≡ true }
     requires dest { is_some disks.old.dest ≡ true }
     ensures ends { RunEnds (disk_words D.Told D.faults D.size D.timeline)
-        (outside (S.left input.old) (K.taken output.old) (S.faults input.old) (K.faults output.old) disks.old.source disks.old.dest)
-        (outside (S.left input.new) (K.taken output.new) (S.faults input.new) (K.faults output.new) disks.new.source disks.new.dest)
+        (outside (S.gives input.old).left (K.takes output.old).taken (S.gives input.old).faults (K.takes output.old).faults disks.old.source disks.old.dest)
+        (outside (S.gives input.new).left (K.takes output.new).taken (S.gives input.new).faults (K.takes output.new).faults disks.new.source disks.new.dest)
         result }
-    ensures reads_later { S.faults input.old ≤ S.faults input.new }
-    ensures writes_later { K.faults output.old ≤ K.faults output.new }
+    ensures reads_later { (S.gives input.old).faults ≤ (S.gives input.new).faults }
+    ensures writes_later { (K.takes output.old).faults ≤ (K.takes output.new).faults }
 {
     every_run();
     schedule_lines();
@@ -65,10 +65,10 @@ fn run_text<K: Sink, D: Disk + Drop>(
     requires source { is_some disks.old.source ≡ true }
     requires dest { is_some disks.old.dest ≡ true }
     ensures ends { ParsedEnds (disk_words D.Told D.faults D.size D.timeline)
-        (outside None (K.taken output.old) 0 (K.faults output.old) disks.old.source disks.old.dest)
-        (outside None (K.taken output.new) 0 (K.faults output.new) disks.new.source disks.new.dest)
+        (outside None (K.takes output.old).taken 0 (K.takes output.old).faults disks.old.source disks.old.dest)
+        (outside None (K.takes output.new).taken 0 (K.takes output.new).faults disks.new.source disks.new.dest)
         (schedule_of text.now) result }
-    ensures later { K.faults output.old ≤ K.faults output.new }
+    ensures later { (K.takes output.old).faults ≤ (K.takes output.new).faults }
 {
     match Schedule::parse(alloc, text) {
         Ok(Ok(schedule)) => run_schedule(alloc, &schedule, output, disks),
@@ -90,10 +90,10 @@ fn run_schedule<K: Sink, D: Disk + Drop>(
     requires source { is_some disks.old.source ≡ true }
     requires dest { is_some disks.old.dest ≡ true }
     ensures ends { ParsedEnds (disk_words D.Told D.faults D.size D.timeline)
-        (outside None (K.taken output.old) 0 (K.faults output.old) disks.old.source disks.old.dest)
-        (outside None (K.taken output.new) 0 (K.faults output.new) disks.new.source disks.new.dest)
+        (outside None (K.takes output.old).taken 0 (K.takes output.old).faults disks.old.source disks.old.dest)
+        (outside None (K.takes output.new).taken 0 (K.takes output.new).faults disks.new.source disks.new.dest)
         (Ok schedule.now) result }
-    ensures later { K.faults output.old ≤ K.faults output.new }
+    ensures later { (K.takes output.old).faults ≤ (K.takes output.new).faults }
 {
     let mut system = System::new(Disks {
         source: disks.source.take(),
@@ -111,8 +111,8 @@ fn run_schedule<K: Sink, D: Disk + Drop>(
 
 /// Puts why a server's volume could not be made, where that isn't a fault of its disk.
 fn put_unmade<K: Sink>(alloc: Global, cause: Unmade, output: &mut K) -> Status
-    ensures puts { UnmadePut (K.taken output.old) (K.taken output.new) (K.faults output.old) (K.faults output.new) cause result }
-    ensures later { K.faults output.old ≤ K.faults output.new }
+    ensures puts { UnmadePut (K.takes output.old).taken (K.takes output.new).taken (K.takes output.old).faults (K.takes output.new).faults cause result }
+    ensures later { (K.takes output.old).faults ≤ (K.takes output.new).faults }
 {
     match cause {
         Unmade::DiskFailed => Status::DiskFault,
@@ -129,8 +129,8 @@ fn put_unmade<K: Sink>(alloc: Global, cause: Unmade, output: &mut K) -> Status
 
 /// Puts the last line of a run that ends with this status.
 fn put_last<K: Sink>(output: &mut K, line: &[u8], status: Status) -> Status
-    ensures puts { LastPut (K.taken output.old) (K.taken output.new) (K.faults output.old) (K.faults output.new) line.now status result }
-    ensures later { K.faults output.old ≤ K.faults output.new }
+    ensures puts { LastPut (K.takes output.old).taken (K.takes output.new).taken (K.takes output.old).faults (K.takes output.new).faults line.now status result }
+    ensures later { (K.takes output.old).faults ≤ (K.takes output.new).faults }
 {
     match put_all(output, line) {
         Ok(()) => status,

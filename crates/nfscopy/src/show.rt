@@ -11,11 +11,11 @@ use wire_show::{Shown, do_show};
 /// Puts the lines of a stream of records.
 pub fn show<S: Source, K: Sink>(alloc: Global, input: &mut S, output: &mut K) -> Status
     ensures ends { ShowEnds
-        (without_disks (S.left input.old) (K.taken output.old) (S.faults input.old) (K.faults output.old))
-        (without_disks (S.left input.new) (K.taken output.new) (S.faults input.new) (K.faults output.new))
+        (without_disks (S.gives input.old).left (K.takes output.old).taken (S.gives input.old).faults (K.takes output.old).faults)
+        (without_disks (S.gives input.new).left (K.takes output.new).taken (S.gives input.new).faults (K.takes output.new).faults)
         result }
-    ensures reads_later { S.faults input.old ≤ S.faults input.new }
-    ensures writes_later { K.faults output.old ≤ K.faults output.new }
+    ensures reads_later { (S.gives input.old).faults ≤ (S.gives input.new).faults }
+    ensures writes_later { (K.takes output.old).faults ≤ (K.takes output.new).faults }
 {
     match do_show(alloc, input, output) {
         Ok(Shown::Whole) => Status::Done,

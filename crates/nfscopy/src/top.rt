@@ -27,8 +27,8 @@ pub fn nfscopy<S: Source, K: Sink, D: Disk + Drop>(
 ) -> u8
     requires { HasDisks (command_of (map string_bytes words.now)) disks.old.source disks.old.dest }
     ensures { Ends (disk_words D.Told D.faults D.size D.timeline) (command_of (map string_bytes words.now))
-        (outside (S.left input.old) (K.taken output.old) (S.faults input.old) (K.faults output.old) disks.old.source disks.old.dest)
-        (outside (S.left input.new) (K.taken output.new) (S.faults input.new) (K.faults output.new) disks.new.source disks.new.dest)
+        (outside (S.gives input.old).left (K.takes output.old).taken (S.gives input.old).faults (K.takes output.old).faults disks.old.source disks.old.dest)
+        (outside (S.gives input.new).left (K.takes output.new).taken (S.gives input.new).faults (K.takes output.new).faults disks.new.source disks.new.dest)
         result }
 {
     let status = match Command::from_words(words) {

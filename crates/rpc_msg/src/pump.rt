@@ -79,15 +79,18 @@ pub fn pump_records<S: Source, K: Sink, H: Handler>(
     left: &mut u64,
 ) -> Mem<Pumped>
     ensures pumped { IfOk result (PumpIs H.answers feed.old feed.new handler.old handler.new
-        (K.taken sink.old) (K.taken sink.new) left.old left.new (S.left source.old) (S.left source.new) budget) }
+        (K.takes sink.old).taken (K.takes sink.new).taken left.old left.new (S.gives source.old).left (S.gives source.new).left budget) }
     ensures err { OnErr result (RanShort H.answers (state_of 0 feed.old) handler.old handler.new
-        (K.taken sink.old) (K.taken sink.new) left.old left.new (S.left source.old) (S.left source.new) budget feed.new) }
-    ensures cause { IfOk result (PumpHasCause (S.faults source.old) (S.faults source.new)
-        (K.faults sink.old) (K.faults sink.new)) }
-    ensures reads_later { S.faults source.old ≤ S.faults source.new }
-    ensures puts_later { K.faults sink.old ≤ K.faults sink.new }
-    ensures reads_failing { S.failing source.new ≡ S.failing source.old }
-    ensures puts_failing { K.failing sink.new ≡ K.failing sink.old }
+        (K.takes sink.old).taken (K.takes sink.new).taken left.old left.new (S.gives source.old).left (S.gives source.new).left budget feed.new) }
+    ensures cause { IfOk result (PumpHasCause (S.gives source.old).faults (S.gives source.new).faults
+        (K.takes sink.old).faults (K.takes sink.new).faults) }
+    ensures reads_later { (S.gives source.old).faults ≤ (S.gives source.new).faults }
+    ensures puts_later { (K.takes sink.old).faults ≤ (K.takes sink.new).faults }
+    ensures whole { (S.gives source.new).whole ≡ (S.gives source.old).whole }
+    ensures reads_failing { (S.gives source.new).failing ≡ (S.gives source.old).failing }
+    ensures puts_failing { (K.takes sink.new).failing ≡ (K.takes sink.old).failing }
+    ensures source_puts { S.takes source.new ≡ S.takes source.old }
+    ensures sink_gives { K.gives sink.new ≡ K.gives sink.old }
 {
     if *left == 0 {
         return Ok(Pumped::Enough);
@@ -129,14 +132,15 @@ fn serve<K: Sink, H: Handler>(
     left: &mut u64,
 ) -> Mem<Result<(), WriteFault>>
     requires { 0 < left.old }
-    ensures served { IfOk result (Served H.answers handler.old handler.new record_.now (K.taken sink.old) (K.taken sink.new)) }
+    ensures served { IfOk result (Served H.answers handler.old handler.new record_.now (K.takes sink.old).taken (K.takes sink.new).taken) }
     ensures counted { IfOk result (λ _. left.old ≡ left.new + 1) }
     ensures err_handler { OnErr result (handler.new ≡ handler.old) }
     ensures err_sink { OnErr result (sink.new ≡ sink.old) }
     ensures err_left { OnErr result (left.new ≡ left.old) }
-    ensures cause { IfOk result (HasCause (K.faults sink.old) (K.faults sink.new)) }
-    ensures later { K.faults sink.old ≤ K.faults sink.new }
-    ensures failing { K.failing sink.new ≡ K.failing sink.old }
+    ensures cause { IfOk result (HasCause (K.takes sink.old).faults (K.takes sink.new).faults) }
+    ensures later { (K.takes sink.old).faults ≤ (K.takes sink.new).faults }
+    ensures failing { (K.takes sink.new).failing ≡ (K.takes sink.old).failing }
+    ensures gives { K.gives sink.new ≡ K.gives sink.old }
 {
     let mut piece = Vec::with_capacity(alloc, MARKED_ROOM)?;
     let reply = handler.on(alloc, record_)?;
@@ -163,13 +167,14 @@ fn pump_piece<K: Sink, H: Handler>(
     requires some { 0 < left.old }
     requires fits { rest + length piece.now < 2 ^ 64 }
     ensures passed { IfOk result (PieceIs H.answers (Open rest feed.old.under) feed.new handler.old handler.new
-        (K.taken sink.old) (K.taken sink.new) left.old left.new piece.now) }
+        (K.takes sink.old).taken (K.takes sink.new).taken left.old left.new piece.now) }
     ensures err { OnErr result (StopsFront H.answers (Open rest feed.old.under) handler.old handler.new
-        (K.taken sink.old) (K.taken sink.new) left.old left.new piece.now feed.new) }
+        (K.takes sink.old).taken (K.takes sink.new).taken left.old left.new piece.now feed.new) }
     ensures within { IfOk result (RestWithin (rest + length piece.now)) }
-    ensures cause { IfOk result (PieceHasCause (K.faults sink.old) (K.faults sink.new)) }
-    ensures later { K.faults sink.old ≤ K.faults sink.new }
-    ensures failing { K.failing sink.new ≡ K.failing sink.old }
+    ensures cause { IfOk result (PieceHasCause (K.takes sink.old).faults (K.takes sink.new).faults) }
+    ensures later { (K.takes sink.old).faults ≤ (K.takes sink.new).faults }
+    ensures failing { (K.takes sink.new).failing ≡ (K.takes sink.old).failing }
+    ensures gives { K.gives sink.new ≡ K.gives sink.old }
 {
     let mut rest = rest;
     let mut at = 0;

@@ -1,6 +1,7 @@
 ghost use Rattle.std.specs.Prelude.{◌≡◌, ◌<◌, ◌≤◌, false, [], List, ℕ, ◌++◌};
 ghost use Rattle.std.specs.Borrow.{Lends, sem};
 ghost use Rattle.rpc_msg.specs.contracts.watched.Watched.{the_row};
+ghost use Rattle.streams.specs.Stream.{left_of, faults_of, with_piece};
 ghost use Rattle.streams.specs.Sink.{PutsWithin, PutsBytes, PutHasCause};
 ghost use Rattle.rpc_msg.specs.Records.{records_of};
 ghost use Rattle.rpc_msg.specs.Underway.{IsFresh, fresh};
@@ -10,7 +11,7 @@ ghost use Rattle.rpc_msg.specs.Watching.{bytes_limit, Watch, Signs, no_signs, is
 
 use crate::records::{Fed, RecordFeed};
 use std::marker::Model;
-use streams::{Put, Sink, Source, Take};
+use streams::{Put, Sink, Source, Stream, Take};
 
 // How many bytes are asked for at a time.
 const ROOM: usize = 4096;
@@ -200,13 +201,15 @@ impl<L: Source + Sink> Watched<L> {
     }
 
     /// Takes the next record. The link is asked for bytes only where those that it gave before hold
-    /// no record; once it is down it isn't asked, and nothing changes.
+    /// no record; once it is down it isn't asked, and nothing changes. What the link took stays.
     pub fn next(&mut self) -> Got
-        ensures next { NextIs L.left L.Source.faults self.old self.new result }
+        ensures next { NextIs (left_of L.gives) (faults_of L.gives) self.old self.new result }
         ensures down { result ≡ got_of self.new.signs }
         ensures unasked { wants self.old ≡ false → self.new.link ≡ self.old.link }
-        ensures later { L.Source.faults self.old.link ≤ L.Source.faults self.new.link }
-        ensures failing { L.Source.failing self.new.link ≡ L.Source.failing self.old.link }
+        ensures later { (L.gives self.old.link).faults ≤ (L.gives self.new.link).faults }
+        ensures whole { (L.gives self.new.link).whole ≡ (L.gives self.old.link).whole }
+        ensures failing { (L.gives self.new.link).failing ≡ (L.gives self.old.link).failing }
+        ensures puts { L.takes self.new.link ≡ L.takes self.old.link }
     {
         if self.is_down() {
             return Got::Down;
@@ -229,10 +232,12 @@ impl<L: Source + Sink> Watched<L> {
         requires up { self.old.signs ≡ no_signs }
         requires read { self.old.unread ≡ [] }
         requires few { self.old.count < bytes_limit }
-        ensures next { NextIs L.left L.Source.faults self.old self.new result }
+        ensures next { NextIs (left_of L.gives) (faults_of L.gives) self.old self.new result }
         ensures down { result ≡ got_of self.new.signs }
-        ensures later { L.Source.faults self.old.link ≤ L.Source.faults self.new.link }
-        ensures failing { L.Source.failing self.new.link ≡ L.Source.failing self.old.link }
+        ensures later { (L.gives self.old.link).faults ≤ (L.gives self.new.link).faults }
+        ensures whole { (L.gives self.new.link).whole ≡ (L.gives self.old.link).whole }
+        ensures failing { (L.gives self.new.link).failing ≡ (L.gives self.old.link).failing }
+        ensures puts { L.takes self.new.link ≡ L.takes self.old.link }
     {
         'takes: loop {
             match self.ask_once() {
@@ -251,9 +256,11 @@ impl<L: Source + Sink> Watched<L> {
     fn ask_once(&mut self) -> Asked
         requires up { self.old.signs ≡ no_signs }
         requires read { self.old.unread ≡ [] }
-        ensures asked { Asks L.left L.Source.faults self.old self.new result }
-        ensures later { L.Source.faults self.old.link ≤ L.Source.faults self.new.link }
-        ensures failing { L.Source.failing self.new.link ≡ L.Source.failing self.old.link }
+        ensures asked { Asks (left_of L.gives) (faults_of L.gives) self.old self.new result }
+        ensures later { (L.gives self.old.link).faults ≤ (L.gives self.new.link).faults }
+        ensures whole { (L.gives self.new.link).whole ≡ (L.gives self.old.link).whole }
+        ensures failing { (L.gives self.new.link).failing ≡ (L.gives self.old.link).failing }
+        ensures puts { L.takes self.new.link ≡ L.takes self.old.link }
     {
         match self.link.take(&mut self.room) {
             Take::Took(count) => {
@@ -302,18 +309,20 @@ impl<L: Source + Sink> Watched<L> {
     }
 }
 
+impl<L: Source + Sink> Stream for Watched<L> {
+    ghost gives = { λ w. L.gives w.link };
+
+    ghost takes = { λ w. L.takes w.link };
+}
+
 impl<L: Source + Sink> Sink for Watched<L> {
-    ghost taken = { λ w. L.taken w.link };
-
-    ghost faults = { λ w. L.Sink.faults w.link };
-
-    ghost failing = { λ w. L.Sink.failing w.link };
-
     fn put(&mut self, piece: &[u8]) -> Put
         ensures within { PutsWithin result piece.now }
-        ensures bytes { PutsBytes (L.taken self.old.link) (L.taken self.new.link) result piece.now }
-        ensures cause { PutHasCause (L.Sink.faults self.old.link) (L.Sink.faults self.new.link) result }
-        ensures failing { L.Sink.failing self.new.link ≡ L.Sink.failing self.old.link }
+        ensures bytes { PutsBytes (L.takes self.old.link).taken (L.takes self.new.link).taken result piece.now }
+        ensures pieces { (L.takes self.new.link).pieces ≡ with_piece (L.takes self.old.link).pieces piece.now }
+        ensures cause { PutHasCause (L.takes self.old.link).faults (L.takes self.new.link).faults result }
+        ensures failing { (L.takes self.new.link).failing ≡ (L.takes self.old.link).failing }
+        ensures gives { L.gives self.new.link ≡ L.gives self.old.link }
         ensures through { PutsThrough self.old self.new result }
     {
         let answer = self.link.put(piece);
@@ -330,11 +339,11 @@ impl<L: Source + Sink> Sink for Watched<L> {
 /// a put that leaves the link's bytes changes nothing of it, and all that was told are the records of
 /// the bytes read (RFC 5531 section 11), which are those given but for the unread ones.
 pub fn nexts_join<L: Source>()
-    ensures start { (now : Watch L) → now.unread ≡ [] → now.count ≡ 0 → IsFresh now.feed → HasTold L.left now.link now [] }
-    ensures more { (start : L) (old new : Watch L) (records others : List (List ℕ)) → HasTold L.left start old records
-        → Reads L.left old new others (standing new) → HasTold L.left start new (records ++ others) }
-    ensures put { (start : L) (old new : Watch L) (records : List (List ℕ)) (said : Put) → HasTold L.left start old records
-        → PutsThrough old new said → Keeps (L.left old.link) (L.left new.link) → HasTold L.left start new records }
-    ensures records { (start : L) (now : Watch L) (records : List (List ℕ)) (told : HasTold L.left start now records)
+    ensures start { (now : Watch L) → now.unread ≡ [] → now.count ≡ 0 → IsFresh now.feed → HasTold (left_of L.gives) now.link now [] }
+    ensures more { (start : L) (old new : Watch L) (records others : List (List ℕ)) → HasTold (left_of L.gives) start old records
+        → Reads (left_of L.gives) old new others (standing new) → HasTold (left_of L.gives) start new (records ++ others) }
+    ensures put { (start : L) (old new : Watch L) (records : List (List ℕ)) (said : Put) → HasTold (left_of L.gives) start old records
+        → PutsThrough old new said → Keeps (L.gives old.link).left (L.gives new.link).left → HasTold (left_of L.gives) start new records }
+    ensures records { (start : L) (now : Watch L) (records : List (List ℕ)) (told : HasTold (left_of L.gives) start now records)
         → (records_of told.bytes).records ≡ records }
 {}

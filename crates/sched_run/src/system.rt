@@ -296,10 +296,10 @@ impl<D: Disk + Drop> System<D> {
     pub fn run<K: Sink>(&mut self, alloc: Global, schedule: &Schedule, out: &mut K) -> Mem<Ran>
         requires rest { self.old ≡ at_rest self.old.source self.old.dest }
         requires disks { HasDisks self.old }
-        ensures ran { IfOk result (RanIs D.Told D.faults D.size schedule.now self.old self.new (K.taken out.old) (K.taken out.new)) }
-        ensures err { OnErr result (RanOut D.Told (first_small (size_in D.size self.old.source) (size_in D.size self.old.dest) schedule.now) schedule.now (K.taken out.old) (K.taken out.new)) }
-        ensures later { K.faults out.old ≤ K.faults out.new }
-        ensures cause { IfOk result (RanHasCause D.faults self.old self.new (K.faults out.old) (K.faults out.new)) }
+        ensures ran { IfOk result (RanIs D.Told D.faults D.size schedule.now self.old self.new (K.takes out.old).taken (K.takes out.new).taken) }
+        ensures err { OnErr result (RanOut D.Told (first_small (size_in D.size self.old.source) (size_in D.size self.old.dest) schedule.now) schedule.now (K.takes out.old).taken (K.takes out.new).taken) }
+        ensures later { (K.takes out.old).faults ≤ (K.takes out.new).faults }
+        ensures cause { IfOk result (RanHasCause D.faults self.old self.new (K.takes out.old).faults (K.takes out.new).faults) }
     {
         for event in schedule.events() {
             let text = match self.step(alloc, event)? {

@@ -1,9 +1,9 @@
-ghost use Rattle.std.specs.Prelude.{◌+◌, Some};
+ghost use Rattle.std.specs.Prelude.{◌+◌, None, Some};
 ghost use Rattle.outcome.specs.Plan.{planned_faults};
 
 use std::alloc::Global;
 use std::test::Fail;
-use streams::{MemSink, MemSource, Put, Sink, Source, Take};
+use streams::{MemSink, MemSource, Put, Sink, Source, Stream, Take};
 
 // A link in memory that gives at most so many bytes at a time.
 #[derive(Drop)]
@@ -29,11 +29,23 @@ pub fn cut_link(
     })
 }
 
+impl Stream for CutLink {
+    ghost gives = { λ l. record {
+      left = Some l.source.left;
+      whole = Some l.source.whole;
+      faults = planned_faults l.source.plan;
+      failing = l.source.plan.failing;
+    } };
+
+    ghost takes = { λ l. record {
+      taken = Some l.sink.taken;
+      pieces = None;
+      faults = planned_faults l.sink.plan + l.sink.starved;
+      failing = l.sink.plan.failing;
+    } };
+}
+
 impl Source for CutLink {
-    ghost left = { λ l. Some l.source.left };
-
-    ghost faults = { λ l. planned_faults l.source.plan };
-
     fn take(&mut self, buf: &mut [u8]) -> Take {
         if self.most == 0 {
             return self.source.take(buf);
@@ -44,10 +56,6 @@ impl Source for CutLink {
 }
 
 impl Sink for CutLink {
-    ghost taken = { λ l. Some l.sink.taken };
-
-    ghost faults = { λ l. planned_faults l.sink.plan + l.sink.starved };
-
     fn put(&mut self, piece: &[u8]) -> Put {
         self.sink.put(piece)
     }

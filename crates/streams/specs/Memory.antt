@@ -7,9 +7,10 @@ use Rattle.streams.specs.declared.source.Take.TheVariants.{Took, End, Failed}
 use Rattle.streams.specs.declared.sink.Put.{Put}
 use Rattle.streams.specs.declared.sink.Put.TheVariants as puts
 
--- A source in memory: the bytes that it has left, and its calls.
+-- A source in memory: the bytes that it has left, all that it was made of, and its calls.
 pub record SourceState : Type 0 where
   pub left : List ℕ
+  pub whole : List ℕ
   pub plan : Plan
 
 -- What it answers where the buffer has this much room: as many bytes as there are, up to the room.

@@ -1,8 +1,9 @@
 -- What one call of a sink may answer, and what it leaves. Own definitions.
-use Rattle.std.specs.Prelude.{ℕ, ◌<◌, ◌≤◌, List, length, take, ⊤}
+use Rattle.std.specs.Prelude.{◌≡◌, ℕ, ◌<◌, ◌≤◌, List, [], ◌∷◌, length, take, drop, ⊤}
 use Rattle.std.specs.declared.option.Option.{Option}
 use Rattle.std.specs.Io.KnownBytes.{Keeps, Appends}
 use Rattle.outcome.specs.Causes.{Rose}
+use Rattle.streams.specs.Stream.{with_pieces}
 use Rattle.streams.specs.declared.sink.Put.{Put}
 use Rattle.streams.specs.declared.sink.Put.TheVariants as puts
 
@@ -26,3 +27,18 @@ pub record AppendsFront (old new : Option (List ℕ)) (bytes : List ℕ) : Type 
   pub count : ℕ
   pub within : count ≤ length bytes
   pub appended : Appends old new (take count bytes)
+
+-- The pieces by which bytes were offered, from the first place on: each is all that stands from its place on,
+-- and the next place is behind it.
+abbrev pub OffersFrom : List ℕ → ℕ → List (List ℕ) → Type 0
+OffersFrom bytes place [] = ⊤
+OffersFrom bytes place (piece ∷ pieces) =
+    (place < length bytes) × (piece ≡ drop place bytes) × (next : ℕ) × (place < next) × OffersFrom bytes next pieces
+
+-- The bytes were offered as one piece: the first put had all of them, and each further one what was left of
+-- them. Where there are none, nothing was put.
+pub record Offers (old new : Option (List (List ℕ))) (bytes : List ℕ) : Type 0 where
+  pub pieces : List (List ℕ)
+  pub told : new ≡ with_pieces old pieces
+  pub whole : OffersFrom bytes 0 pieces
+  pub some : 0 < length bytes → 0 < length pieces

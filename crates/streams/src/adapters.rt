@@ -1,10 +1,11 @@
-ghost use Rattle.std.specs.Prelude.{◌≡◌};
+ghost use Rattle.std.specs.Prelude.{◌≡◌, [], None};
 ghost use Rattle.std.specs.Io.{ReadsAtMost, WritesAtMost};
 ghost use Rattle.std.specs.Io.KnownBytes.{ReadConsumes, WriteAppends};
 ghost use Rattle.streams.specs.Adapters.{reader_of, writer_of, read_faults, write_faults};
 
 use crate::sink::{Put, Sink};
 use crate::source::{Source, Take};
+use crate::stream::Stream;
 use std::io::{self, ErrorKind, Read, Write};
 
 // How often in a row a read or a write is tried again where a signal interrupted it.
@@ -43,11 +44,11 @@ impl<R: Read> Reading<R> {
     }
 }
 
+impl<R: Read> Stream for Reading<R> {
+    ghost gives = { λ s. record { left = R.remaining (reader_of s); whole = None; faults = read_faults s; failing = [] } };
+}
+
 impl<R: Read> Source for Reading<R> {
-    ghost left = { λ s. R.remaining (reader_of s) };
-
-    ghost faults = { read_faults };
-
     fn take(&mut self, buf: &mut [u8]) -> Take {
         if buf.is_empty() {
             return Take::Took(0);
@@ -97,11 +98,11 @@ impl<W: Write> Writing<W> {
     }
 }
 
+impl<W: Write> Stream for Writing<W> {
+    ghost takes = { λ s. record { taken = W.contents (writer_of s); pieces = None; faults = write_faults s; failing = [] } };
+}
+
 impl<W: Write> Sink for Writing<W> {
-    ghost taken = { λ s. W.contents (writer_of s) };
-
-    ghost faults = { write_faults };
-
     fn put(&mut self, piece: &[u8]) -> Put {
         if piece.is_empty() {
             return Put::Put(0);

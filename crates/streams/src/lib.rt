@@ -13,6 +13,7 @@ mod draws;
 mod memory;
 mod sink;
 mod source;
+mod stream;
 mod whole;
 
 pub use adapters::{Reading, Writing};
@@ -21,4 +22,5 @@ pub use draws::{CountDraws, Drawn, Draws, MemDraws};
 pub use memory::{MemSink, MemSource};
 pub use sink::{Put, Sink};
 pub use source::{Source, Take};
+pub use stream::Stream;
 pub use whole::{Whole, WriteFault, put_all, puts_join, read_whole, take_some};

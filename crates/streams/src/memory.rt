@@ -1,4 +1,4 @@
-ghost use Rattle.std.specs.Prelude.{◌≡◌, ◌+◌, ◌≤◌, Some, [], min, take, drop, length, ◌++◌};
+ghost use Rattle.std.specs.Prelude.{◌≡◌, ◌+◌, ◌≤◌, None, Some, [], min, take, drop, length, ◌++◌};
 ghost use Rattle.streams.specs.Source.{TakesWithin, TakesBytes, TakeHasCause};
 ghost use Rattle.streams.specs.Sink.{PutsWithin, PutsBytes, PutHasCause};
 ghost use Rattle.outcome.specs.Plan.{Plan, planned_faults, after_call};
@@ -6,6 +6,7 @@ ghost use Rattle.streams.specs.Memory.{SourceState, SinkState, take_of, PutIs};
 
 use crate::sink::{Put, Sink};
 use crate::source::{Source, Take};
+use crate::stream::Stream;
 use outcome::Planned;
 use std::alloc::Global;
 use std::marker::Model;
@@ -24,7 +25,7 @@ impl Model for MemSource {
 
     ghost Value = { SourceState };
 
-    ghost view = { λ s. record { left = drop s.at s.bytes.items; plan = s.plan } };
+    ghost view = { λ s. record { left = drop s.at s.bytes.items; whole = s.bytes.items; plan = s.plan } };
 
     ghost invariant = { λ s. s.at ≤ length s.bytes.items };
 }
@@ -34,6 +35,7 @@ impl MemSource {
     /// order; the first call is number 1.
     pub fn new(bytes: Vec<u8>, failing: Vec<u64>) -> MemSource
         ensures left { result.left ≡ bytes.items }
+        ensures whole { result.whole ≡ bytes.items }
         ensures plan { result.plan ≡ record { calls = 0; failing = failing.items } }
     {
         MemSource {
@@ -58,18 +60,22 @@ impl MemSource {
     }
 }
 
+impl Stream for MemSource {
+    ghost gives = { λ s. record {
+      left = Some s.left;
+      whole = Some s.whole;
+      faults = planned_faults s.plan;
+      failing = s.plan.failing;
+    } };
+}
+
 impl Source for MemSource {
-    ghost left = { λ s. Some s.left };
-
-    ghost faults = { λ s. planned_faults s.plan };
-
-    ghost failing = { λ s. s.plan.failing };
-
     fn take(&mut self, buf: &mut [u8]) -> Take
         ensures within { TakesWithin result buf.new }
         ensures bytes { TakesBytes (Some self.old.left) (Some self.new.left) result buf.new }
         ensures cause { TakeHasCause (planned_faults self.old.plan) (planned_faults self.new.plan) result }
         ensures failing { self.new.plan.failing ≡ self.old.plan.failing }
+        ensures whole { self.new.whole ≡ self.old.whole }
         ensures answer { result ≡ take_of self.old (length buf.old) }
         ensures plan { self.new.plan ≡ after_call self.old.plan }
     {
@@ -149,13 +155,16 @@ impl MemSink {
     }
 }
 
+impl Stream for MemSink {
+    ghost takes = { λ s. record {
+      taken = Some s.taken;
+      pieces = None;
+      faults = planned_faults s.plan + s.starved;
+      failing = s.plan.failing;
+    } };
+}
+
 impl Sink for MemSink {
-    ghost taken = { λ s. Some s.taken };
-
-    ghost faults = { λ s. planned_faults s.plan + s.starved };
-
-    ghost failing = { λ s. s.plan.failing };
-
     fn put(&mut self, piece: &[u8]) -> Put
         ensures within { PutsWithin result piece.now }
         ensures bytes { PutsBytes (Some self.old.taken) (Some self.new.taken) result piece.now }

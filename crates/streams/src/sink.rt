@@ -1,6 +1,8 @@
-ghost use Rattle.std.specs.Prelude.{◌≡◌, ℕ, List, []};
-ghost use Rattle.std.specs.declared.option.Option.{Option};
+ghost use Rattle.std.specs.Prelude.{◌≡◌};
+ghost use Rattle.streams.specs.Stream.{with_piece};
 ghost use Rattle.streams.specs.Sink.{PutsWithin, PutsBytes, PutHasCause};
+
+use crate::stream::Stream;
 
 /// What a sink answers to one call.
 #[derive(Clone, Copy, Debug, PartialEq, Eq)]
@@ -12,20 +14,15 @@ pub enum Put {
 }
 
 /// Where bytes go, in their order.
-pub trait Sink {
-    // The bytes that were taken so far, where the sink tells them.
-    ghost taken: { Self → Option (List ℕ) };
-
-    // How many calls failed. The count stops at the end of its type.
-    ghost faults: { Self → ℕ };
-
-    // The numbers of the calls that are to fail, where that was planned. They stay as they are.
-    ghost failing: { Self → List ℕ } = { λ _. [] };
-
-    /// Gives the sink a piece, of which it takes as many bytes from the front as it cares to.
+pub trait Sink: Stream {
+    /// Gives the sink a piece, of which it takes as many bytes from the front as it cares to. The puts
+    /// that are to fail are the same always, and an object that is a source too stands as a source as
+    /// before.
     fn put(&mut self, piece: &[u8]) -> Put
         ensures within { PutsWithin result piece.now }
-        ensures bytes { PutsBytes (taken self.old) (taken self.new) result piece.now }
-        ensures cause { PutHasCause (faults self.old) (faults self.new) result }
-        ensures failing { failing self.new ≡ failing self.old };
+        ensures bytes { PutsBytes (Self.takes self.old).taken (Self.takes self.new).taken result piece.now }
+        ensures pieces { (Self.takes self.new).pieces ≡ with_piece (Self.takes self.old).pieces piece.now }
+        ensures cause { PutHasCause (Self.takes self.old).faults (Self.takes self.new).faults result }
+        ensures failing { (Self.takes self.new).failing ≡ (Self.takes self.old).failing }
+        ensures takes { Self.gives self.new ≡ Self.gives self.old };
 }

@@ -1,6 +1,7 @@
-ghost use Rattle.std.specs.Prelude.{◌≡◌, ℕ, List, []};
-ghost use Rattle.std.specs.declared.option.Option.{Option};
+ghost use Rattle.std.specs.Prelude.{◌≡◌};
 ghost use Rattle.streams.specs.Source.{TakesWithin, TakesBytes, TakeHasCause};
+
+use crate::stream::Stream;
 
 /// What a source answers to one call.
 #[derive(Clone, Copy, Debug, PartialEq, Eq)]
@@ -14,20 +15,15 @@ pub enum Take {
 }
 
 /// Where bytes come from, in their order.
-pub trait Source {
-    // The bytes that are left, where the source tells them.
-    ghost left: { Self → Option (List ℕ) };
-
-    // How many calls failed. The count stops at the end of its type.
-    ghost faults: { Self → ℕ };
-
-    // The numbers of the calls that are to fail, where that was planned. They stay as they are.
-    ghost failing: { Self → List ℕ } = { λ _. [] };
-
-    /// Takes bytes from the source into the front of `buf`, as many as the source cares to give.
+pub trait Source: Stream {
+    /// Takes bytes from the source into the front of `buf`, as many as the source cares to give. What
+    /// it ever gives and the takes that are to fail are the same always, and an object that is a sink
+    /// too stands as a sink as before.
     fn take(&mut self, buf: &mut [u8]) -> Take
         ensures within { TakesWithin result buf.new }
-        ensures bytes { TakesBytes (left self.old) (left self.new) result buf.new }
-        ensures cause { TakeHasCause (faults self.old) (faults self.new) result }
-        ensures failing { failing self.new ≡ failing self.old };
+        ensures bytes { TakesBytes (Self.gives self.old).left (Self.gives self.new).left result buf.new }
+        ensures cause { TakeHasCause (Self.gives self.old).faults (Self.gives self.new).faults result }
+        ensures whole { (Self.gives self.new).whole ≡ (Self.gives self.old).whole }
+        ensures failing { (Self.gives self.new).failing ≡ (Self.gives self.old).failing }
+        ensures puts { Self.takes self.new ≡ Self.takes self.old };
 }

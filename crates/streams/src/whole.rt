@@ -3,7 +3,7 @@ ghost use Rattle.std.specs.declared.option.Option.{Option};
 ghost use Rattle.std.specs.Io.KnownBytes.{Appends};
 ghost use Rattle.outcome.specs.Causes.{HasCause};
 ghost use Rattle.streams.specs.Source.{TookWithin, TakesBytes, TakeHasCause};
-ghost use Rattle.streams.specs.Sink.{AppendsFront};
+ghost use Rattle.streams.specs.Sink.{AppendsFront, Offers};
 ghost use Rattle.streams.specs.Whole.{WholeIs, WholeHasCause, TakesFront};
 
 use crate::sink::{Put, Sink};
@@ -46,9 +46,11 @@ pub fn take_some<S: Source>(source: &mut S, room: &mut [u8], most: u64) -> Take
     requires some { 0 < most }
     requires room { 0 < length room.old }
     ensures within { TookWithin most result room.new }
-    ensures bytes { TakesBytes (S.left source.old) (S.left source.new) result room.new }
-    ensures cause { TakeHasCause (S.faults source.old) (S.faults source.new) result }
-    ensures failing { S.failing source.new ≡ S.failing source.old }
+    ensures bytes { TakesBytes (S.gives source.old).left (S.gives source.new).left result room.new }
+    ensures cause { TakeHasCause (S.gives source.old).faults (S.gives source.new).faults result }
+    ensures same_whole { (S.gives source.new).whole ≡ (S.gives source.old).whole }
+    ensures failing { (S.gives source.new).failing ≡ (S.gives source.old).failing }
+    ensures puts { S.takes source.new ≡ S.takes source.old }
 {
     let count = room.len().min(most as usize);
     source.take(&mut room[..count])
@@ -56,11 +58,13 @@ pub fn take_some<S: Source>(source: &mut S, room: &mut [u8], most: u64) -> Take
 
 /// Takes all that a source has left, if that is at most `limit` bytes.
 pub fn read_whole<S: Source>(alloc: Global, source: &mut S, limit: usize) -> Mem<Whole>
-    ensures whole { IfOk result (WholeIs (S.left source.old) (S.left source.new) limit) }
-    ensures err { OnErr result (TakesFront (S.left source.old) (S.left source.new)) }
-    ensures later { S.faults source.old ≤ S.faults source.new }
-    ensures cause { IfOk result (WholeHasCause (S.faults source.old) (S.faults source.new)) }
-    ensures failing { S.failing source.new ≡ S.failing source.old }
+    ensures whole { IfOk result (WholeIs (S.gives source.old).left (S.gives source.new).left limit) }
+    ensures err { OnErr result (TakesFront (S.gives source.old).left (S.gives source.new).left) }
+    ensures later { (S.gives source.old).faults ≤ (S.gives source.new).faults }
+    ensures cause { IfOk result (WholeHasCause (S.gives source.old).faults (S.gives source.new).faults) }
+    ensures same_whole { (S.gives source.new).whole ≡ (S.gives source.old).whole }
+    ensures failing { (S.gives source.new).failing ≡ (S.gives source.old).failing }
+    ensures puts { S.takes source.new ≡ S.takes source.old }
 {
     let mut text = Vec::new(alloc);
     let mut room = [0; ROOM];
@@ -74,12 +78,15 @@ pub fn read_whole<S: Source>(alloc: Global, source: &mut S, limit: usize) -> Mem
     Ok(Whole::TooMuch)
 }
 
-/// Puts all of the bytes. After a fault a front of them was put.
+/// Puts all of the bytes, as one piece: a further put comes only for what the sink left of it. After a
+/// fault a front of them was put.
 pub fn put_all<K: Sink>(sink: &mut K, bytes: &[u8]) -> Result<(), WriteFault>
-    ensures ok { OnOk result (Appends (K.taken sink.old) (K.taken sink.new) bytes.now) }
-    ensures err { OnErr result (AppendsFront (K.taken sink.old) (K.taken sink.new) bytes.now) }
-    ensures cause { HasCause (K.faults sink.old) (K.faults sink.new) result }
-    ensures failing { K.failing sink.new ≡ K.failing sink.old }
+    ensures ok { OnOk result (Appends (K.takes sink.old).taken (K.takes sink.new).taken bytes.now) }
+    ensures err { OnErr result (AppendsFront (K.takes sink.old).taken (K.takes sink.new).taken bytes.now) }
+    ensures pieces { Offers (K.takes sink.old).pieces (K.takes sink.new).pieces bytes.now }
+    ensures cause { HasCause (K.takes sink.old).faults (K.takes sink.new).faults result }
+    ensures failing { (K.takes sink.new).failing ≡ (K.takes sink.old).failing }
+    ensures takes { K.gives sink.new ≡ K.gives sink.old }
 {
     let mut at = 0;
     'puts: while at < bytes.len() {

@@ -28,9 +28,9 @@ pub(crate) fn put_lines<K: Sink>(
     lines: &[Line],
     output: &mut K,
 ) -> Mem<Result<(), WriteFault>>
-    ensures puts { PutsText (K.taken output.old) (K.taken output.new) (lines_text lines.now) result }
-    ensures cause { IfOk result (HasCause (K.faults output.old) (K.faults output.new)) }
-    ensures later { K.faults output.old ≤ K.faults output.new }
+    ensures puts { PutsText (K.takes output.old).taken (K.takes output.new).taken (lines_text lines.now) result }
+    ensures cause { IfOk result (HasCause (K.takes output.old).faults (K.takes output.new).faults) }
+    ensures later { (K.takes output.old).faults ≤ (K.takes output.new).faults }
 {
     let text = Line::text_of(alloc, lines)?;
     Ok(put_all(output, text.as_bytes()))
@@ -43,9 +43,9 @@ fn show_record<K: Sink>(
     bytes: &[u8],
     output: &mut K,
 ) -> Mem<Result<(), WriteFault>>
-    ensures puts { PutsText (K.taken output.old) (K.taken output.new) (lines_text (record_lines number bytes.now)) result }
-    ensures cause { IfOk result (HasCause (K.faults output.old) (K.faults output.new)) }
-    ensures later { K.faults output.old ≤ K.faults output.new }
+    ensures puts { PutsText (K.takes output.old).taken (K.takes output.new).taken (lines_text (record_lines number bytes.now)) result }
+    ensures cause { IfOk result (HasCause (K.takes output.old).faults (K.takes output.new).faults) }
+    ensures later { (K.takes output.old).faults ≤ (K.takes output.new).faults }
 {
     let lines = record_lines(alloc, number, bytes)?;
     put_lines(alloc, &lines, output)
@@ -64,11 +64,11 @@ pub(crate) fn show_piece<K: Sink>(
     requires open_now { feed.old.large ≡ None }
     requires fits { rest + length piece.now < 2 ^ 64 }
     requires numbers { number.old + length piece.now < 2 ^ 64 }
-    ensures passed { PieceIs (Open rest feed.old.under) feed.new (K.taken output.old) (K.taken output.new) number.old number.new piece.now result }
+    ensures passed { PieceIs (Open rest feed.old.under) feed.new (K.takes output.old).taken (K.takes output.new).taken number.old number.new piece.now result }
     ensures within { IfOk result (RestWithin (rest + length piece.now)) }
     ensures few { number.new ≤ number.old + length piece.now }
-    ensures cause { IfOk result (PieceHasCause (K.faults output.old) (K.faults output.new)) }
-    ensures later { K.faults output.old ≤ K.faults output.new }
+    ensures cause { IfOk result (PieceHasCause (K.takes output.old).faults (K.takes output.new).faults) }
+    ensures later { (K.takes output.old).faults ≤ (K.takes output.new).faults }
 {
     let mut rest = rest;
     let mut at = 0;

@@ -34,10 +34,10 @@ pub enum Shown {
 /// exactly where the input ended before that, unless a read, a put or memory fails. After such a failure a
 /// front of the lines was put.
 pub fn do_show<S: Source, K: Sink>(alloc: Global, input: &mut S, output: &mut K) -> Mem<Shown>
-    ensures shown { ShowIs (S.left input.old) (S.left input.new) (K.taken output.old) (K.taken output.new) result }
-    ensures cause { IfOk result (ShowHasCause (S.faults input.old) (S.faults input.new) (K.faults output.old) (K.faults output.new)) }
-    ensures reads_later { S.faults input.old ≤ S.faults input.new }
-    ensures puts_later { K.faults output.old ≤ K.faults output.new }
+    ensures shown { ShowIs (S.gives input.old).left (S.gives input.new).left (K.takes output.old).taken (K.takes output.new).taken result }
+    ensures cause { IfOk result (ShowHasCause (S.gives input.old).faults (S.gives input.new).faults (K.takes output.old).faults (K.takes output.new).faults) }
+    ensures reads_later { (S.gives input.old).faults ≤ (S.gives input.new).faults }
+    ensures puts_later { (K.takes output.old).faults ≤ (K.takes output.new).faults }
 {
     let mut feed = RecordFeed::new(alloc)?;
     let mut room = [0; ROOM];
@@ -69,9 +69,9 @@ pub fn do_show<S: Source, K: Sink>(alloc: Global, input: &mut S, output: &mut K)
 
 // Puts the last line.
 fn put_last<K: Sink>(alloc: Global, output: &mut K, line: Line, refused: bool) -> Mem<Shown>
-    ensures last { LastIs refused (K.taken output.old) (K.taken output.new) (lines_text (line ∷ [])) result }
-    ensures cause { IfOk result (LastHasCause (K.faults output.old) (K.faults output.new)) }
-    ensures later { K.faults output.old ≤ K.faults output.new }
+    ensures last { LastIs refused (K.takes output.old).taken (K.takes output.new).taken (lines_text (line ∷ [])) result }
+    ensures cause { IfOk result (LastHasCause (K.takes output.old).faults (K.takes output.new).faults) }
+    ensures later { (K.takes output.old).faults ≤ (K.takes output.new).faults }
 {
     match put_lines(alloc, &[line], output)? {
         Ok(()) if refused => Ok(Shown::Refused),

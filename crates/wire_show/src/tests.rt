@@ -1,6 +1,6 @@
 use crate::{Shown, do_show};
 use outcome::Mem;
-use rpc_msg::{MemSink, MemSource, Source, Take, mark};
+use rpc_msg::{MemSink, MemSource, Source, Stream, Take, mark};
 use std::alloc::Global;
 use std::fmt::Write;
 use std::process::Abort;
@@ -28,13 +28,9 @@ struct Halves<'a> {
     cut: usize,
 }
 
+impl Stream for Halves<'_> {}
+
 impl Source for Halves<'_> {
-    ghost use Rattle.std.specs.Prelude.{None};
-
-    ghost left = { λ _. None };
-
-    ghost faults = { λ _. 0 };
-
     fn take(&mut self, buf: &mut [u8]) -> Take {
         let end = if self.at < self.cut {
             self.cut.min(self.bytes.len())

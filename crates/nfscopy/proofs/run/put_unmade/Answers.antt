@@ -7,7 +7,7 @@ use Rattle.nfscopy.proofs.run.put_unmade.Goals as goal
 pub returns-in-Ok-not_volume_line-clause-puts : goal.returns-in-Ok-not_volume_line-clause-puts
 returns-in-Ok-not_volume_line-clause-puts g c =
     let put = c.put_last-in-Ok-not_volume_line in
-    subst (λ (u : Unmade). UnmadePut (g.K.Sink.taken c.args.output.now) (g.K.Sink.taken put.new.output) (g.K.Sink.faults c.args.output.now) (g.K.Sink.faults put.new.output) u put.result)
+    subst (λ (u : Unmade). UnmadePut (g.K.Stream.takes c.args.output.now).taken (g.K.Stream.takes put.new.output).taken (g.K.Stream.takes c.args.output.now).faults (g.K.Stream.takes put.new.output).faults u put.result)
     (sym c.in-NotVolume.is)
-    (inl (subst (λ (line : List ℕ). LastPut (g.K.Sink.taken c.args.output.now) (g.K.Sink.taken put.new.output) (g.K.Sink.faults c.args.output.now) (g.K.Sink.faults put.new.output) line NoVolume put.result)
+    (inl (subst (λ (line : List ℕ). LastPut (g.K.Stream.takes c.args.output.now).taken (g.K.Stream.takes put.new.output).taken (g.K.Stream.takes c.args.output.now).faults (g.K.Stream.takes put.new.output).faults line NoVolume put.result)
     (c.as_bytes-in-Ok-not_volume_line.ensures.value ∙ c.in-Ok-not_volume_line.ensures) put.ensures.puts))

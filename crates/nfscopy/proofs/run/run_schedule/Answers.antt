@@ -11,8 +11,8 @@ returns-in-Ok-Unmade-clause-ends g c =
     let how = rw is at c.run-ran.ensures.ran in
     let cause = rw is at c.run-ran.ensures.cause in
     unmade_ends (disk_words g.D.Disk.Told g.D.Disk.faults g.D.Disk.size g.D.Disk.timeline)
-    (outside None (g.K.Sink.taken c.args.output.now) 0 (g.K.Sink.faults c.args.output.now) c.args.disks.now.source c.args.disks.now.dest)
-    (outside None (g.K.Sink.taken c.put_unmade.new.output) 0 (g.K.Sink.faults c.put_unmade.new.output) c.hand_back.result.source c.hand_back.result.dest)
-    c.args.schedule.now c.new-system.result c.run-ran.new.self (g.K.Sink.taken c.run-ran.new.out) (g.K.Sink.faults c.run-ran.new.out)
+    (outside None (g.K.Stream.takes c.args.output.now).taken 0 (g.K.Stream.takes c.args.output.now).faults c.args.disks.now.source c.args.disks.now.dest)
+    (outside None (g.K.Stream.takes c.put_unmade.new.output).taken 0 (g.K.Stream.takes c.put_unmade.new.output).faults c.hand_back.result.source c.hand_back.result.dest)
+    c.args.schedule.now c.new-system.result c.run-ran.new.self (g.K.Stream.takes c.run-ran.new.out).taken (g.K.Stream.takes c.run-ran.new.out).faults
     (search rules) (search rules) c.hand_back.ensures.source c.hand_back.ensures.dest c.run-ran.ensures.later
     c.in-Ok-Unmade.cause c.put_unmade.result how cause c.put_unmade.ensures.puts

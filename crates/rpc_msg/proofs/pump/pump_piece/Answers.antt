@@ -10,7 +10,7 @@ use Rattle.rpc_msg.proofs.pump.pump_piece.Goals as goal
 
 pub feeds-init : goal.feeds-init
 feeds-init g c =
-    (passed_quiet _ _ _ _ _ _ _ (flow-nil _), omega arith, c.requires.open_now, c.requires.some, omega arith, refl, omega arith)
+    (passed_quiet _ _ _ _ _ _ _ (flow-nil _), omega arith, c.requires.open_now, c.requires.some, omega arith, refl, omega arith, refl)
 
 pub feeds-preserved-in-Need : goal.feeds-preserved-in-Need
 feeds-preserved-in-Need g c =
@@ -24,6 +24,7 @@ feeds-preserved-in-Need g c =
       kept.4,
       kept.5,
       omega (arith, kept.6),
+      kept.7,
     )
 
 pub returns-in-TooLarge-clause-passed : goal.returns-in-TooLarge-clause-passed
@@ -82,6 +83,7 @@ feeds-preserved g c =
       omega (arith, kept.4, calls.later),
       calls.failing ∙ kept.5,
       omega arith,
+      calls.gives ∙ kept.7,
     )
 
 pub returns-in_err-serve-in-Whole-clause-err : goal.returns-in_err-serve-in-Whole-clause-err
@@ -90,7 +92,7 @@ returns-in_err-serve-in-Whole-clause-err g c =
     let fed = c.feed-count.ensures.exact in
     let calls = c.in_err-serve-in-Whole.ensures in
     let short : StopsFront g.H.Handler.answers (Open c.args.rest c.args.feed.now.under) c.args.handler.now c.serve.new.handler
-    (g.K.Sink.taken c.args.sink.now) (g.K.Sink.taken c.serve.new.sink) c.args.left.now c.serve.new.left c.args.piece.now c.feed-count.new.self =
+    (g.K.Stream.takes c.args.sink.now).taken (g.K.Stream.takes c.serve.new.sink).taken c.args.left.now c.serve.new.left c.args.piece.now c.feed-count.new.self =
     rw (calls.err_handler, calls.err_sink, calls.err_left) (record {
       count = c.feeds.at + c.feed-count.result.0;
       within = within_now _ _ _ kept.1 c.feed-count.ensures.within;

@@ -36,6 +36,9 @@ takes-init g c =
       refl,
       omega arith,
       refl,
+      refl,
+      refl,
+      refl,
     )
 
 pub takes-preserved : goal.takes-preserved
@@ -53,6 +56,9 @@ takes-preserved g c =
       c.take_some.ensures.failing ∙ kept.2,
       omega (arith, kept.3, calls.later),
       calls.failing ∙ kept.4,
+      c.take_some.ensures.same_whole ∙ kept.5,
+      c.take_some.ensures.puts ∙ kept.6,
+      calls.gives ∙ kept.7,
     )
 
 pub returns-in-TooLarge-clause-pumped : goal.returns-in-TooLarge-clause-pumped

@@ -4,8 +4,11 @@ use Rattle.streams.proofs.whole.read_whole.Given as goal
 
 abbrev pub invariant-takes : goal.invariant-takes
 invariant-takes g l =
-    HasTaken (g.S.Source.left l.initial.source) (g.S.Source.left l.source) (g.S.Source.faults l.initial.source) (g.S.Source.faults l.source) l.text.items
-    × (g.S.Source.failing l.source ≡ g.S.Source.failing l.initial.source)
+    HasTaken (g.S.Stream.gives l.initial.source).left (g.S.Stream.gives l.source).left
+    (g.S.Stream.gives l.initial.source).faults (g.S.Stream.gives l.source).faults l.text.items
+    × ((g.S.Stream.gives l.source).whole ≡ (g.S.Stream.gives l.initial.source).whole)
+    × ((g.S.Stream.gives l.source).failing ≡ (g.S.Stream.gives l.initial.source).failing)
+    × (g.S.Stream.takes l.source ≡ g.S.Stream.takes l.initial.source)
 
 abbrev pub decreases-takes : goal.decreases-takes
 decreases-takes g l = l.limit + 1 - length l.text.items

@@ -6,9 +6,9 @@ use Rattle.wire_show.proofs.piece.show_piece.Given as goal
 
 abbrev pub invariant-feeds : goal.invariant-feeds
 invariant-feeds g l =
-    Passed (Open l.initial.rest l.initial.feed.under) (Open l.rest l.feed.under) (g.K.Sink.taken l.initial.output) (g.K.Sink.taken l.output)
+    Passed (Open l.initial.rest l.initial.feed.under) (Open l.rest l.feed.under) (g.K.Stream.takes l.initial.output).taken (g.K.Stream.takes l.output).taken
     l.initial.number l.number (take l.at l.piece)
-    × (l.at ≤ length l.piece) × (l.feed.large ≡ None) × (g.K.Sink.faults l.initial.output ≤ g.K.Sink.faults l.output)
+    × (l.at ≤ length l.piece) × (l.feed.large ≡ None) × ((g.K.Stream.takes l.initial.output).faults ≤ (g.K.Stream.takes l.output).faults)
     × (l.rest ≤ l.initial.rest + l.at) × (l.number ≤ l.initial.number + l.at)
 
 abbrev pub decreases-feeds : goal.decreases-feeds

@@ -4,9 +4,9 @@ use Rattle.wire_show.proofs.show.do_show.Given as goal
 
 abbrev pub invariant-takes : goal.invariant-takes
 invariant-takes g l =
-    Running l.rest l.feed (g.K.Sink.taken l.initial.output) (g.K.Sink.taken l.output) l.number
-    (g.S.Source.left l.initial.input) (g.S.Source.left l.input) l.unspent
-    × (g.S.Source.faults l.initial.input ≤ g.S.Source.faults l.input) × (g.K.Sink.faults l.initial.output ≤ g.K.Sink.faults l.output)
+    Running l.rest l.feed (g.K.Stream.takes l.initial.output).taken (g.K.Stream.takes l.output).taken l.number
+    (g.S.Stream.gives l.initial.input).left (g.S.Stream.gives l.input).left l.unspent
+    × ((g.S.Stream.gives l.initial.input).faults ≤ (g.S.Stream.gives l.input).faults) × ((g.K.Stream.takes l.initial.output).faults ≤ (g.K.Stream.takes l.output).faults)
 
 abbrev pub decreases-takes : goal.decreases-takes
 decreases-takes g l = l.unspent

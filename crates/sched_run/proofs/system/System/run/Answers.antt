@@ -18,19 +18,19 @@ loop-event-init g c = record {
 
 pub returns-in_err-text-clause-err : goal.returns-in_err-text-clause-err
 returns-in_err-text-clause-err g c =
-    on_err _ _ (subst (λ (es : List Event). RanOut g.D.Disk.Told (small_in g.D.Disk.size c.args.self.now es) es (g.K.Sink.taken c.args.out.now) (g.K.Sink.taken c.loop-event.out))
+    on_err _ _ (subst (λ (es : List Event). RanOut g.D.Disk.Told (small_in g.D.Disk.size c.args.self.now es) es (g.K.Stream.takes c.args.out.now).taken (g.K.Stream.takes c.loop-event.out).taken)
     c.events-event-items.ensures.same
     (starved _ _ _ _ _ _ _ _ _ c.loop-event.invariant.ran c.loop-event.invariant.admitted))
 
 pub returns-in-Err-clause-ran : goal.returns-in-Err-clause-ran
 returns-in-Err-clause-ran g c =
     let step : IsCarriedOut g.D.Disk.Told g.D.Disk.faults g.D.Disk.size c.loop-event.self c.step.new.self c.event-item.result c.in-Went.choice _ = rw c.in-Went.is at c.in_ok-text.ensures in
-    subst (λ (es : List Event). RanIs g.D.Disk.Told g.D.Disk.faults g.D.Disk.size es c.args.self.now c.step.new.self (g.K.Sink.taken c.args.out.now) (g.K.Sink.taken c.put_all.new.sink) _)
+    subst (λ (es : List Event). RanIs g.D.Disk.Told g.D.Disk.faults g.D.Disk.size es c.args.self.now c.step.new.self (g.K.Stream.takes c.args.out.now).taken (g.K.Stream.takes c.put_all.new.sink).taken _)
     c.events-event-items.ensures.same
     (failed_put _ _ _ _ _ _ _ _ _ _ _ _ _ _
     (run_at _ _ _ _ _ _ _ _ _ _ c.loop-event-test.true c.event-item.is c.loop-event.invariant.ran)
     (admitted_item _ _ _ _ c.loop-event-test.true c.event-item.is c.loop-event.invariant.admitted)
-    step (subst (λ (b : List ℕ). AppendsFront (g.K.Sink.taken c.loop-event.out) (g.K.Sink.taken c.put_all.new.sink) b) c.as_bytes.ensures.value c.in-Err.ensures.err))
+    step (subst (λ (b : List ℕ). AppendsFront (g.K.Stream.takes c.loop-event.out).taken (g.K.Stream.takes c.put_all.new.sink).taken b) c.as_bytes.ensures.value c.in-Err.ensures.err))
 
 pub loop-event-preserved : goal.loop-event-preserved
 loop-event-preserved g c =
@@ -39,7 +39,7 @@ loop-event-preserved g c =
     record {
       ran = went _ _ _ _ _ _ _ _ _ _ _ _ _ _
           (run_at _ _ _ _ _ _ _ _ _ _ c.loop-event-test.true c.event-item.is c.loop-event.invariant.ran) step
-          (subst (λ (b : List ℕ). Appends (g.K.Sink.taken c.loop-event.out) (g.K.Sink.taken c.put_all.new.sink) b) c.as_bytes.ensures.value c.in-Ok.ensures.ok);
+          (subst (λ (b : List ℕ). Appends (g.K.Stream.takes c.loop-event.out).taken (g.K.Stream.takes c.put_all.new.sink).taken b) c.as_bytes.ensures.value c.in-Ok.ensures.ok);
       admitted = admitted_along _ _ _ borne.context
           (admitted_item _ _ _ _ c.loop-event-test.true c.event-item.is c.loop-event.invariant.admitted).1;
       disks = disks_later _ _ _ _ _ _ c.loop-event.invariant.disks borne.source borne.dest;
@@ -48,13 +48,13 @@ loop-event-preserved g c =
 
 pub returns-in_err-last-clause-err : goal.returns-in_err-last-clause-err
 returns-in_err-last-clause-err g c =
-    on_err _ _ (subst (λ (es : List Event). RanOut g.D.Disk.Told (small_in g.D.Disk.size c.args.self.now es) es (g.K.Sink.taken c.args.out.now) (g.K.Sink.taken c.loop-event.out))
+    on_err _ _ (subst (λ (es : List Event). RanOut g.D.Disk.Told (small_in g.D.Disk.size c.args.self.now es) es (g.K.Stream.takes c.args.out.now).taken (g.K.Stream.takes c.loop-event.out).taken)
     c.events-event-items.ensures.same
     (starved _ _ _ _ _ _ _ _ _ c.loop-event.invariant.ran c.loop-event.invariant.admitted))
 
 pub returns-in-Ok-put_all-clause-ran : goal.returns-in-Ok-put_all-clause-ran
 returns-in-Ok-put_all-clause-ran g c =
-    subst (λ (es : List Event). RanIs g.D.Disk.Told g.D.Disk.faults g.D.Disk.size es c.args.self.now c.loop-event.self (g.K.Sink.taken c.args.out.now) (g.K.Sink.taken c.put_all-2.new.sink) _)
+    subst (λ (es : List Event). RanIs g.D.Disk.Told g.D.Disk.faults g.D.Disk.size es c.args.self.now c.loop-event.self (g.K.Stream.takes c.args.out.now).taken (g.K.Stream.takes c.put_all-2.new.sink).taken _)
     c.events-event-items.ensures.same
     (whole _ _ _ _ _ _ _ _ _ _
     (run_end _ _ _ _ _ _ _ _ _ c.loop-event-test.false c.loop-event.invariant.ran)
@@ -62,7 +62,7 @@ returns-in-Ok-put_all-clause-ran g c =
 
 pub returns-clause-ran : goal.returns-clause-ran
 returns-clause-ran g c =
-    subst (λ (es : List Event). RanIs g.D.Disk.Told g.D.Disk.faults g.D.Disk.size es c.args.self.now c.loop-event.self (g.K.Sink.taken c.args.out.now) (g.K.Sink.taken c.put_all-2.new.sink) _)
+    subst (λ (es : List Event). RanIs g.D.Disk.Told g.D.Disk.faults g.D.Disk.size es c.args.self.now c.loop-event.self (g.K.Stream.takes c.args.out.now).taken (g.K.Stream.takes c.put_all-2.new.sink).taken _)
     c.events-event-items.ensures.same
     (failed_end _ _ _ _ _ _ _ _ _ _
     (run_end _ _ _ _ _ _ _ _ _ c.loop-event-test.false c.loop-event.invariant.ran)
