@@ -5,7 +5,7 @@ use Rattle.std.proofs.Math.Seq.{drop-append_seam, take-length}
 use Rattle.std.proofs.lemmas.List.{append-nil, length-append, length-drop}
 use Rattle.wire_xdr.specs.Words.{word_bytes, fixed_bytes, opaque_bytes, padding}
 use Rattle.gss_ctx.specs.Seals.{sealed_body}
-use Rattle.gss_ctx.proofs.SealLemmas.{length-word}
+use Rattle.wire_xdr.specs.LengthLaws.{word_length}
 
 padding_four : (n : ℕ) → padding (n + 4) ≡ padding n
 padding_four n = omega arith
@@ -22,7 +22,7 @@ unfolding opaque_bytes fixed_bytes
 message_is code head payload made i1 i2 i3 i4 i5 i6 i7 seq e1 e2 e3 e4 em len e5 e6 e7 =
     let n : ℕ = length payload in
     let text : List ℕ = word_bytes seq ++ payload in
-    let size : length text ≡ n + 4 = omega (arith, length-append (word_bytes seq) payload, length-word seq) in
+    let size : length text ≡ n + 4 = omega (arith, length-append (word_bytes seq) payload, word_length seq) in
     let whole : i4 ≡ i2 ++ text = e4 ∙ ap (λ (x : List ℕ). x ++ payload) e3 ∙ append_assoc i2 (word_bytes seq) payload in
     let made_is : made ≡ code text = em ∙ ap (λ (x : List ℕ). code (drop (length i2) x)) whole ∙ ap code (drop-append_seam i2 text) in
     let pad : padding (length text) ≡ padding n = ap (λ (m : ℕ). padding m) size ∙ padding_four n in

@@ -1,13 +1,14 @@
 -- A body carries what is told of it exactly where it is that, spelled and sealed.
-use Rattle.std.specs.Prelude.{◌≡◌, ◌↔◌, ℕ, ◌+◌, ◌<◌, ◌≤◌, Bool, true, false, if◌then◌else◌, List, [], ◌++◌, length, take, drop, bytes_eq, Option, None, Some, refl}
+use Rattle.std.specs.Prelude.{◌≡◌, ◌↔◌, ℕ, ◌+◌, ◌<◌, ◌≤◌, Bool, true, false, if◌then◌else◌, List, ◌++◌, length, take, drop, bytes_eq, Option, None, Some, refl}
 use Rattle.std.proofs.Common.{sym, ◌∙◌, ap, arith}
-use Rattle.std.proofs.lemmas.List.{take-append-drop, length-append, append-nil}
+use Rattle.std.proofs.lemmas.List.{take-append-drop, length-append}
 use Rattle.std.proofs.lemmas.Slice.Eq.{bytes_eq-Decides}
 use Rattle.wire_xdr.specs.Cursor.{IsBytes}
-use Rattle.wire_xdr.specs.Form.{Form, Spells}
+use Rattle.wire_xdr.specs.Form.{Spells}
 use Rattle.wire_xdr.specs.Words.{word_bytes, opaque_bytes}
-use Rattle.gss_mech.specs.Whole.{whole_of, whole_read}
-use Rattle.gss_mech.specs.WholeLaws.{whole_spelled}
+use Rattle.wire_xdr.specs.All.{value_of}
+use Rattle.wire_xdr.specs.AllLaws.{value_spelled}
+use Rattle.wire_xdr.specs.LengthLaws.{word_length}
 use Rattle.gss_ctx.specs.Seals.{sealed_body, two_opaques, payload_of, unsealed}
 
 pub word_front : (seq : ℕ) (bytes : List ℕ) → take 4 (word_bytes seq ++ bytes) ≡ word_bytes seq
@@ -17,10 +18,6 @@ word_front seq bytes = refl
 pub word_behind : (seq : ℕ) (bytes : List ℕ) → drop 4 (word_bytes seq ++ bytes) ≡ bytes
 unfolding word_bytes
 word_behind seq bytes = refl
-
-pub length-word : (seq : ℕ) → length (word_bytes seq) ≡ 4
-unfolding word_bytes
-length-word seq = refl
 
 same_bytes : (xs : List ℕ) → bytes_eq xs xs ≡ true
 same_bytes xs = (bytes_eq-Decides xs xs).1 refl
@@ -42,9 +39,9 @@ from_parts code seq (Some p) carried h =
 carries : (code : List ℕ → List ℕ) (seq : ℕ) (body carried : List ℕ) → IsBytes body → unsealed code seq body ≡ Some carried → body ≡ sealed_body code seq carried
 unfolding unsealed two_opaques
 carries code seq body carried fits h =
-    let parts = from_parts code seq (whole_of two_opaques body) carried h in
+    let parts = from_parts code seq (value_of two_opaques body) carried h in
     let p = parts.0 in
-    let spelled : Spells two_opaques p body = (whole_spelled two_opaques p body fits).0 parts.1 in
+    let spelled : Spells two_opaques p body = (value_spelled two_opaques p body fits).0 parts.1 in
     let code_is : p.1 ≡ code (word_bytes seq ++ carried) = parts.3 ∙ ap code parts.2 in
     spelled.1 ∙ ap (λ (b : List ℕ). opaque_bytes b ++ opaque_bytes p.1) parts.2 ∙ ap (λ (b : List ℕ). opaque_bytes (word_bytes seq ++ carried) ++ opaque_bytes b) code_is
 
@@ -58,16 +55,10 @@ unfolding unsealed two_opaques
 carried_by code seq body carried sized fits small e =
     let text = word_bytes seq ++ carried in
     let p : List ℕ × List ℕ = (text, code text) in
-    let short : length text ≤ 4294967295 = omega (arith, length-append (word_bytes seq) carried, length-word seq) in
-    let whole : whole_of two_opaques body ≡ Some p = (whole_spelled two_opaques p body fits).1 ((short, omega (arith, sized text)), e) in
+    let short : length text ≤ 4294967295 = omega (arith, length-append (word_bytes seq) carried, word_length seq) in
+    let whole : value_of two_opaques body ≡ Some p = (value_spelled two_opaques p body fits).1 ((short, omega (arith, sized text)), e) in
     ap (payload_of code seq) whole ∙ told code seq carried
 
 pub sealed_is : (code : List ℕ → List ℕ) (seq : ℕ) (body carried : List ℕ) → ((bytes : List ℕ) → length (code bytes) ≡ 32) → IsBytes body → length carried + 4 < 4294967296
     → (unsealed code seq body ≡ Some carried) ↔ (body ≡ sealed_body code seq carried)
 sealed_is code seq body carried sized fits small = (λ h. carries code seq body carried fits h, λ e. carried_by code seq body carried sized fits small e)
-
--- what is spelled is read whole
-pub spelled_whole : {A : Type 0} (form : Form A) (v : A) → form.Fits v → whole_of form (form.spell v) ≡ Some v
-unfolding whole_of
-spelled_whole form v fits =
-    ap (λ (b : List ℕ). whole_read (form.read (record { at = 0; rest = b }))) (sym (append-nil (form.spell v))) ∙ ap whole_read (form.lawful.again 0 v [] fits)

@@ -9,7 +9,7 @@ use Rattle.rpc_msg.specs.declared.reply.Stat.{Stat}
 use Rattle.rpc_msg.specs.declared.reply.Stat.TheVariants.{Success}
 use Rattle.rpc_msg.specs.declared.reply.ReplyHead.{ReplyHead}
 use Rattle.rpc_msg.specs.declared.reply.ReplyHead.TheVariants as heads
-use Rattle.gss_mech.specs.Whole.{whole_of}
+use Rattle.wire_xdr.specs.All.{value_of}
 use Rattle.gss_ctx.specs.declared.begin.Begun.{Begun}
 use Rattle.gss_ctx.specs.declared.begin.Begun.TheVariants as begun
 use Rattle.gss_ctx.specs.declared.begin.InitResult.{InitResult}
@@ -60,7 +60,7 @@ begun_with mic finish verf (Some made) =
     else begun.Refused made.major
 
 abbrev pub begun_stat : Mic → (List ℕ → Option (List ℕ)) → List ℕ → Auth → Stat → Begun
-begun_stat mic finish body verf Success = begun_with mic finish verf (whole_of init_result body)
+begun_stat mic finish body verf Success = begun_with mic finish verf (value_of init_result body)
 begun_stat mic finish body verf stat = begun.Failed stat
 
 abbrev pub begun_head : Mic → (List ℕ → Option (List ℕ)) → ℕ → List ℕ → ReplyHead → Begun

@@ -12,7 +12,7 @@ use Rattle.rpc_msg.specs.declared.call.CallHead.{CallHead}
 use Rattle.rpc_msg.specs.declared.gss_cred.GssCred.{GssCred}
 use Rattle.rpc_msg.specs.declared.reply.Stat.TheVariants.{Success}
 use Rattle.rpc_msg.specs.declared.reply.ReplyHead.TheVariants.{Accepted}
-use Rattle.gss_mech.specs.Whole.{whole_of}
+use Rattle.wire_xdr.specs.All.{value_of}
 
 -- how codes are made: of a key, a side and bytes
 abbrev pub Mic : Type 0
@@ -20,7 +20,7 @@ Mic = List ℕ → ℕ → List ℕ → List ℕ
 
 -- the RPCSEC_GSS credential of a head, where it has one
 abbrev pub cred_of : CallHead → Option GssCred
-cred_of head = if head.cred.flavor == 6 then whole_of gss_cred head.cred.body else None
+cred_of head = if head.cred.flavor == 6 then value_of gss_cred head.cred.body else None
 
 -- The header of a call: from the xid through the credential. The message type is 0, and 1 where the code
 -- of the reply is made of it.
@@ -49,7 +49,7 @@ payload_of code seq (Some parts) =
 
 -- what a body carries, where it has the right code and the right sequence number
 unfoldable pub unsealed : (List ℕ → List ℕ) → ℕ → List ℕ → Option (List ℕ)
-unsealed code seq body = payload_of code seq (whole_of two_opaques body)
+unsealed code seq body = payload_of code seq (value_of two_opaques body)
 
 -- The verifier's code of a reply. Of a call of version 1 it is made of the sequence number (RFC 2203 section
 -- 5.3.3.2), of version 3 of the call's header with message type 1 (RFC 7861 section 2.3).

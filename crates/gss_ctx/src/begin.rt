@@ -7,11 +7,11 @@ ghost use Rattle.gss_ctx.specs.Replies.{begun_of, begun_with};
 
 use crate::caller::call_head;
 use crate::sealing::{ACCEPTOR, is_code};
-use gss_mech::{Mechanism, read_whole};
+use gss_mech::Mechanism;
 use outcome::Mem;
 use rpc_msg::{Auth, Denial, ReplyHead, Stat, read_reply};
 use std::alloc::Global;
-use wire_xdr::{Octets, ReadError, Reader, Writer, Xdr};
+use wire_xdr::{Octets, ReadError, Reader, Writer, Xdr, read_all};
 
 /// What became of INIT.
 #[derive(Debug, Drop)]
@@ -104,7 +104,7 @@ pub fn init_reply<M: Mechanism>(
             if stat != Stat::Success {
                 return Ok(Begun::Failed(stat));
             }
-            let made = read_whole::<InitResult>(alloc, &record_[body..])?;
+            let made = read_all::<InitResult>(alloc, &record_[body..])?.ok();
             Ok(made_by(principal, nonce, &verf, made, mech))
         }
         ReplyHead::Denied { xid: of, why } => {

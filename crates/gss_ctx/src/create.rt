@@ -1,11 +1,10 @@
 ghost use Rattle.std.specs.Prelude.{◌≡◌, ◌≤◌, length, IfOk, MatchOption, None, Some};
-ghost use Rattle.gss_mech.specs.Whole.{whole_of};
+ghost use Rattle.wire_xdr.specs.All.{value_of};
 ghost use Rattle.gss_ctx.specs.Forms.{create, create_result};
 
-use gss_mech::read_whole;
 use outcome::Mem;
 use std::alloc::Global;
-use wire_xdr::{Octets, ReadError, Reader, Writer, Xdr, write};
+use wire_xdr::{Octets, ReadError, Reader, Writer, Xdr, read_all, write_all};
 
 /// The argument of CREATE: the name of a privilege, and its bytes.
 #[derive(Debug, Drop)]
@@ -81,16 +80,14 @@ pub fn write_create(alloc: Global, name: &[u8], privilege: &[u8]) -> Mem<Octets>
         name: Octets::from_slice(alloc, name)?,
         privilege: Octets::from_slice(alloc, privilege)?,
     };
-    let mut writer = Writer::new(alloc)?;
-    write(alloc, &mut writer, &create)?;
-    Ok(writer.finish())
+    write_all(alloc, &create)
 }
 
 /// Reads the argument of CREATE, a name and a privilege. None exactly where all of the bytes don't spell one.
 pub fn read_create(alloc: Global, args: &[u8]) -> Mem<Option<(Octets, Octets)>>
-    ensures { IfOk result (λ told. MatchOption told (whole_of create args.now ≡ None) (λ v. whole_of create args.now ≡ Some (record { name = v.0; privilege = v.1 }))) }
+    ensures { IfOk result (λ told. MatchOption told (value_of create args.now ≡ None) (λ v. value_of create args.now ≡ Some (record { name = v.0; privilege = v.1 }))) }
 {
-    let Some(create) = read_whole::<Create>(alloc, args)? else {
+    let Some(create) = read_all::<Create>(alloc, args)?.ok() else {
         return Ok(None);
     };
     Ok(Some((create.name, create.privilege)))
@@ -101,14 +98,12 @@ pub fn write_create_result(alloc: Global, result_: &CreateResult) -> Mem<Octets>
     requires { create_result.Fits result_.now }
     ensures { IfOk result (λ body. body ≡ create_result.spell result_.now) }
 {
-    let mut writer = Writer::new(alloc)?;
-    write(alloc, &mut writer, result_)?;
-    Ok(writer.finish())
+    write_all(alloc, result_)
 }
 
 /// Reads the result of CREATE. None exactly where all of the bytes don't spell one.
 pub fn read_create_result(alloc: Global, body: &[u8]) -> Mem<Option<CreateResult>>
-    ensures { IfOk result (λ told. told ≡ whole_of create_result body.now) }
+    ensures { IfOk result (λ told. told ≡ value_of create_result body.now) }
 {
-    read_whole(alloc, body)
+    Ok(read_all(alloc, body)?.ok())
 }

@@ -8,8 +8,8 @@ use crate::contexts::{Contexts, handle_of, is_live};
 use gss_mech::Mechanism;
 use nfs_base::WINDOW_SIZE;
 use outcome::Mem;
-use streams::{Drawn, Draws};
 use std::alloc::Global;
+use streams::{Drawn, Draws};
 use wire_xdr::Octets;
 
 /// The kind of key that a child has, derived from its parent's.

@@ -2,16 +2,16 @@ ghost use Rattle.std.specs.Prelude.{◌≡◌, ◌<◌, ◌++◌, length, take, 
 ghost use Rattle.std.specs.Option.{option_copied};
 ghost use Rattle.rpc_msg.specs.Heads.{call};
 ghost use Rattle.wire_xdr.specs.Words.{padding, word_bytes};
-ghost use Rattle.gss_mech.specs.Whole.{whole_of};
+ghost use Rattle.wire_xdr.specs.All.{value_of};
 ghost use Rattle.gss_ctx.specs.Table.{context_of};
 ghost use Rattle.gss_ctx.specs.Seals.{cred_of, header_of, code_auth, is_code, sealed_body, two_opaques, unsealed, is_first_version, reply_code, sealed_reply};
 
 use crate::contexts::Contexts;
-use gss_mech::{Mechanism, read_whole};
+use gss_mech::Mechanism;
 use outcome::Mem;
 use rpc_msg::{Auth, CallHead, GssCred, ReplyHead, Stat};
 use std::alloc::Global;
-use wire_xdr::{Octets, Reader, Writer, Xdr, put_four};
+use wire_xdr::{Octets, Reader, Writer, Xdr, put_four, read_all};
 
 /// The flavor of RPCSEC_GSS.
 pub(crate) const GSS: u32 = 6;
@@ -32,7 +32,7 @@ pub(crate) fn read_cred(alloc: Global, head: &CallHead) -> Mem<Option<GssCred>>
     if head.cred.flavor != GSS {
         return Ok(None);
     }
-    read_whole(alloc, head.cred.body.as_slice())
+    Ok(read_all(alloc, head.cred.body.as_slice())?.ok())
 }
 
 /// The header of a call with this message type: from the xid through the credential.
@@ -108,9 +108,9 @@ fn push_word(bytes: &mut Vec<u8>, word: u32) -> Mem<()>
 }
 
 /// The two parts of an integrity body: the sealed bytes and the code. They are lent.
-#[tactic(auto, unfolding(crate::specs::Seals::two_opaques, gss_mech::specs::Whole::whole_of, wire_xdr::specs::WordReads::opaque_read))]
+#[tactic(auto, unfolding(crate::specs::Seals::two_opaques, wire_xdr::specs::All::all_of, wire_xdr::specs::WordReads::opaque_read))]
 fn parts_of(body: &[u8]) -> Option<(&[u8], &[u8])>
-    ensures { MatchOption result (whole_of two_opaques body.now ≡ None) (λ parts. whole_of two_opaques body.now ≡ Some (parts.0.now, parts.1.now)) }
+    ensures { MatchOption result (value_of two_opaques body.now ≡ None) (λ parts. value_of two_opaques body.now ≡ Some (parts.0.now, parts.1.now)) }
 {
     let mut reader = Reader::new(body);
     let Ok(sealed) = reader.opaque(u32::MAX) else {

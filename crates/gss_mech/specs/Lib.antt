@@ -3,5 +3,3 @@ pub mod Opening
 pub mod Realm
 pub mod RealmLaws
 pub mod Tokens
-pub mod Whole
-pub mod WholeLaws

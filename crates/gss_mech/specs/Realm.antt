@@ -5,7 +5,7 @@ use Rattle.gss_mech.specs.declared.mechanism.Accepted.{Accepted}
 use Rattle.gss_mech.specs.declared.token.Opening.{Opening}
 use Rattle.gss_mech.specs.Hmac.{hmac}
 use Rattle.gss_mech.specs.Opening.{opening}
-use Rattle.gss_mech.specs.Whole.{whole_of}
+use Rattle.wire_xdr.specs.All.{value_of}
 
 -- names and keys
 abbrev pub Keys : Type 0
@@ -66,7 +66,7 @@ taken keys acceptor (Some token) = taken_under token acceptor (key_of keys token
 
 -- a token that spells one, of a principal of the realm, with the code under its key
 unfoldable pub realm_accepted : Keys → List ℕ → List ℕ → Option Accepted
-realm_accepted keys bytes acceptor = taken keys acceptor (whole_of opening bytes)
+realm_accepted keys bytes acceptor = taken keys acceptor (value_of opening bytes)
 
 abbrev pub finished_under : List ℕ → List ℕ → Option (List ℕ)
 finished_under key code = if bytes_eq code (reply_code key) then Some key else None

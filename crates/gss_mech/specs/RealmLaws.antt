@@ -1,17 +1,19 @@
 -- The realm's tokens agree: its laws as a mechanism.
-use Rattle.std.specs.Prelude.{◌≡◌, ℕ, ◌+◌, ◌<◌, ◌≤◌, nat_lt, if◌then◌else◌, Bool, true, false, List, [], ◌∷◌, ◌++◌, length, take, drop, replicate, bytes_eq, Option, None, Some, option_map, is_some, IfSome, refl}
-use Rattle.std.proofs.Common.{sym, ap, ◌∙◌, subst, arith, rules}
-use Rattle.std.proofs.lemmas.List.{append-nil, length-append, length-replicate}
+use Rattle.std.specs.Prelude.{◌≡◌, ℕ, ◌+◌, ◌≤◌, nat_lt, if◌then◌else◌, Bool, true, false, List, [], ◌∷◌, ◌++◌, length, take, drop, bytes_eq, Option, None, Some, option_map, is_some, IfSome, refl}
+use Rattle.std.proofs.Common.{subst, arith, rules}
+use Rattle.std.proofs.lemmas.List.{length-append}
 use Rattle.std.proofs.Math.Seq.{take-append_seam, drop-append_seam}
 use Rattle.std.proofs.lemmas.Slice.Eq.{bytes_eq-Decides}
 use Rattle.sha2.proofs.Facts256.{length-sha256}
-use Rattle.wire_xdr.specs.Words.{word_bytes, fixed_bytes, opaque_bytes, padding}
+use Rattle.wire_xdr.specs.Words.{word_bytes, fixed_bytes, opaque_bytes}
 use Rattle.gss_mech.specs.declared.mechanism.Accepted.{Accepted}
 use Rattle.gss_mech.specs.declared.token.Opening.{Opening}
 use Rattle.gss_mech.specs.Hmac.{hmac}
 use Rattle.gss_mech.specs.Tokens.{IsNonce, IsMet, IsAgreed, IsSized}
 use Rattle.gss_mech.specs.Opening.{opening}
-use Rattle.gss_mech.specs.Whole.{whole_of, whole_read}
+use Rattle.wire_xdr.specs.All.{value_of}
+use Rattle.wire_xdr.specs.AllLaws.{spelled_value}
+use Rattle.wire_xdr.specs.LengthLaws.{word_length, fixed_length, padding_below}
 use Rattle.gss_mech.specs.Realm.{realm_mic, Keys, key_of, listed_key, opening_of, opening_code, context_key, reply_code, reply_token, taken, taken_under, taken_by, finished_by, realm_started, realm_accepted, realm_finished}
 
 length-hmac : (key text : List ℕ) → length (hmac key text) ≡ 32
@@ -37,7 +39,7 @@ steady_taken keys one other (Some t) = steady_under t one other (key_of keys t.p
 
 steady : (keys : Keys) (token one other : List ℕ) → is_some (realm_accepted keys token one) ≡ is_some (realm_accepted keys token other)
 unfolding realm_accepted
-steady keys token one other = steady_taken keys one other (whole_of opening token)
+steady keys token one other = steady_taken keys one other (value_of opening token)
 
 -- ---- a principal's name has at most 64 bytes
 
@@ -53,12 +55,6 @@ short_name keys name key h = let b = short_if (nat_lt 64 (length name)) (listed_
 opening_fits : (p ni key : List ℕ) → length p ≤ 64 → IsNonce ni → opening.Fits (opening_of p ni key)
 unfolding opening
 opening_fits p ni key small nonce = (small, (nonce, length-hmac key _))
-
--- a token that was spelled is read whole
-spelled_whole : (v : Opening) → opening.Fits v → whole_of opening (opening.spell v) ≡ Some v
-unfolding whole_of
-spelled_whole v fits =
-    ap (λ (b : List ℕ). whole_read (opening.read (record { at = 0; rest = b }))) (sym (append-nil (opening.spell v))) ∙ ap whole_read (opening.lawful.again 0 v [] fits)
 
 finish_met : (key na : List ℕ) (initiator : List ℕ) → IsNonce na
     → finished_by (Some key) initiator (reply_token (context_key key initiator na) na) ≡ Some (context_key key initiator na)
@@ -76,12 +72,12 @@ met_under keys p ni na key one other is =
 
 met_of : (keys : Keys) (p token ni na : List ℕ) → IsNonce ni → IsNonce na → (key : Option (List ℕ)) → key_of keys p ≡ key
     → option_map (λ k. opening.spell (opening_of p ni k)) key ≡ Some token
-    → IsMet p (λ t. finished_by (key_of keys p) ni t) (taken keys na (whole_of opening token))
+    → IsMet p (λ t. finished_by (key_of keys p) ni t) (taken keys na (value_of opening token))
 met_of keys p token ni na one other None is h = let wrong : ⊥ = cc in absurd wrong
 met_of keys p token ni na one other (Some key) is h =
     let v = opening_of p ni key in
     let spelled : opening.spell v ≡ token = cc in
-    let whole : whole_of opening token ≡ Some v = subst (λ (t : List ℕ). whole_of opening t ≡ Some v) spelled (spelled_whole v (opening_fits p ni key (short_name keys p key is) one)) in
+    let whole : value_of opening token ≡ Some v = subst (λ (t : List ℕ). value_of opening t ≡ Some v) spelled (spelled_value opening v (opening_fits p ni key (short_name keys p key is) one)) in
     rw whole (met_under keys p ni na key one other is)
 
 met : (keys : Keys) (p token ni na : List ℕ) → IsNonce ni → IsNonce na → realm_started keys p ni ≡ Some token → IsMet p (realm_finished keys p ni) (realm_accepted keys token na)
@@ -90,24 +86,13 @@ met keys p token ni na one other h = met_of keys p token ni na one other (key_of
 
 -- ---- the tokens' lengths
 
-padding_below : (n : ℕ) → padding n < 4
-padding_below n = omega arith
-
-length-word : (n : ℕ) → length (word_bytes n) ≡ 4
-unfolding word_bytes
-length-word n = refl
-
-length-fixed : (bytes : List ℕ) → length (fixed_bytes bytes) < length bytes + 4
-unfolding fixed_bytes
-length-fixed bytes = omega (arith, length-append bytes (replicate (padding (length bytes)) 0), length-replicate {A = ℕ} (padding (length bytes)) 0, padding_below (length bytes))
-
 length-parts : (a b c d : List ℕ) → length (a ++ b ++ (c ++ d)) ≡ length a + length b + (length c + length d)
 length-parts a b c d = omega (arith, length-append (a ++ b) (c ++ d), length-append a b, length-append c d)
 
 opening_within : (p ni key : List ℕ) → length p ≤ 64 → IsNonce ni → length (opening.spell (opening_of p ni key)) ≤ 4096
 unfolding opening opaque_bytes
 opening_within p ni key small nonce =
-    omega (arith, length-parts (word_bytes (length p)) (fixed_bytes p) (fixed_bytes ni) (fixed_bytes (opening_code key p ni)), length-word (length p), length-fixed p, length-fixed ni, length-fixed (opening_code key p ni), length-hmac key (1 ∷ (p ++ ni)))
+    omega (arith, length-parts (word_bytes (length p)) (fixed_bytes p) (fixed_bytes ni) (fixed_bytes (opening_code key p ni)), word_length (length p), fixed_length p, fixed_length ni, fixed_length (opening_code key p ni), padding_below (length p), padding_below (length ni), padding_below (length (opening_code key p ni)), length-hmac key (1 ∷ (p ++ ni)))
 
 started_within : (keys : Keys) (p ni : List ℕ) → IsNonce ni → (key : Option (List ℕ)) → key_of keys p ≡ key
     → IfSome (option_map (λ k. opening.spell (opening_of p ni k)) key) (λ token. length token ≤ 4096)
@@ -135,7 +120,7 @@ within_taken keys na nonce (Some t) = within_under t na nonce (key_of keys t.pri
 
 accept_within : (keys : Keys) (token na : List ℕ) → IsNonce na → IfSome (realm_accepted keys token na) (λ a. length a.token ≤ 4096)
 unfolding realm_accepted
-accept_within keys token na nonce = within_taken keys na nonce (whole_of opening token)
+accept_within keys token na nonce = within_taken keys na nonce (value_of opening token)
 
 pub realm_agreed : IsAgreed realm_started realm_accepted realm_finished
 realm_agreed = record {

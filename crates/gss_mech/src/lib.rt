@@ -12,12 +12,7 @@ mod hmac;
 mod mechanism;
 mod realm;
 mod token;
-mod whole;
 
 pub use hmac::hmac_sha256;
 pub use mechanism::{Accepted, Mechanism, tokens_agree};
 pub use realm::Realm;
-pub use whole::{read_whole, whole_is_spelled};
-
-#[cfg(test)]
-mod tests;

@@ -6,11 +6,10 @@ ghost use Rattle.gss_mech.specs.RealmLaws.{realm_agreed, realm_sized};
 use crate::hmac::hmac_of_parts;
 use crate::mechanism::{Accepted, Mechanism};
 use crate::token::Opening;
-use crate::whole::read_whole;
 use outcome::Mem;
 use std::alloc::Global;
 use std::marker::Model;
-use wire_xdr::{Octets, Writer, write};
+use wire_xdr::{Octets, Writer, read_all, write_all};
 
 /// Principals and the key that each shares with every server. Contracts see the list. A principal is of
 /// the realm where its name has at most 64 bytes and stands in the list, and its key is that of the first
@@ -126,14 +125,12 @@ impl Mechanism for Realm {
             nonce: *nonce,
             code: opening_code(key, principal, nonce),
         };
-        let mut writer = Writer::new(alloc)?;
-        write(alloc, &mut writer, &token)?;
-        Ok(Some(writer.finish()))
+        Ok(Some(write_all(alloc, &token)?))
     }
 
     #[tactic(auto, unfolding(crate::specs::Realm::realm_accepted))]
     fn accept(&self, alloc: Global, token: &[u8], nonce: &[u8; 32]) -> Mem<Option<Accepted>> {
-        let Some(opening) = read_whole::<Opening>(alloc, token)? else {
+        let Some(opening) = read_all::<Opening>(alloc, token)?.ok() else {
             return Ok(None);
         };
         let Opening {

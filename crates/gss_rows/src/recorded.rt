@@ -9,10 +9,10 @@ use gss_ctx::{
 };
 use gss_mech::Mechanism;
 use nfs_base::End;
-use streams::CountDraws;
 use std::alloc::Global;
 use std::process::Abort;
 use std::test::Fail;
+use streams::CountDraws;
 use wire_xdr::Octets;
 
 #[test]

@@ -1,10 +1,10 @@
 use crate::asked::Asked;
 use crate::ends::{Init, Server, Told};
 use gss_ctx::Inited;
-use streams::MemDraws;
 use std::alloc::Global;
 use std::process::Abort;
 use std::test::Fail;
+use streams::MemDraws;
 use wire_xdr::Octets;
 
 /// Makes a child of a context, which carries 77. The carry comes back where no room is left.

@@ -1,2 +1,3 @@
 pub mod Whole
 pub mod Loop
+pub mod All

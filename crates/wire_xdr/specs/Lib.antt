@@ -11,5 +11,6 @@ pub mod PartLaws
 pub mod ArmLaws
 pub mod Forms
 pub mod Reads
+pub mod All
+pub mod AllLaws
 pub mod LengthLaws
-pub mod Samples

@@ -1,5 +1,6 @@
 //! Types that have a form: read and written field by field, and their calls and laws.
 
+mod all;
 mod bad;
 mod chosen;
 mod items;
@@ -8,6 +9,7 @@ mod option;
 mod words;
 mod xdr;
 
+pub use all::{all_is_spelled, read_all, write_all};
 pub use bad::{BadXdr, ReadError};
 pub use chosen::{XdrBy, read_by, write_by};
 pub use items::Items;

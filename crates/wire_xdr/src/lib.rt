@@ -7,7 +7,7 @@
 //! exactly where the bytes begin with its spelling, a refusal names the first place that fails, and the
 //! reader then stands where it stood. [`one_spelling`] and [`no_prefix`] are the laws of every form.
 //!
-//! How to add a type T (`src/sample.rt` and `specs/Samples.antt` have one of each kind):
+//! How to add a type T (`sample.rt` of crate `xdr_rows` and its forms have one of each kind):
 //!
 //! 1. Write the struct or enum with `#[derive(Debug, Drop)]`: u32, u64, i64, bool, `[u8; N]`, [`Octets`],
 //!    [`Items`], `Option` and types that have a form.
@@ -28,7 +28,8 @@
 //! 6. `put` writes each field by `self.x.put(writer)?`; a variant writes its number first, and one that holds
 //!    nothing ends with `writer.void()`. With more than seven fields write four at a time by [`put_four`].
 //! 7. A type whose number stands elsewhere: `impl XdrBy`, with `number_of t_case` and a line for `own`.
-//! 8. No proof file is needed. Callers use `read::<T>` and `write::<T>`, or `read_by` and `write_by`.
+//! 8. No proof file is needed. Callers use `read::<T>` and `write::<T>`, or `read_by` and `write_by`, and
+//!    `read_all::<T>` and `write_all` where nothing stands before or behind the value.
 #![tactic(auto)]
 
 mod fault;
@@ -36,19 +37,15 @@ mod form;
 mod octets;
 mod page;
 mod reader;
-mod sample;
 mod writer;
 
 pub use fault::XdrFault;
 pub use form::{
-    BadXdr, Items, ReadError, Xdr, XdrBy, is_form, no_prefix, no_prefix_by, one_spelling,
-    one_spelling_by, parse_count, put_four, read, read_by, refused_within, word_lengths,
-    words_are_forms, write, write_by,
+    BadXdr, Items, ReadError, Xdr, XdrBy, all_is_spelled, is_form, no_prefix, no_prefix_by,
+    one_spelling, one_spelling_by, parse_count, put_four, read, read_all, read_by, refused_within,
+    word_lengths, words_are_forms, write, write_all, write_by,
 };
 pub use octets::Octets;
 pub use page::Page;
 pub use reader::Reader;
 pub use writer::Writer;
-
-#[cfg(test)]
-mod tests;

@@ -1,14 +1,11 @@
 //! The example of RFC 4506 section 7, and a few types more: how types are read and written by the forms
 //! that `specs/Samples.antt` gives them.
 
-ghost use Rattle.wire_xdr.specs.Samples.{file_kind, file, label, folder, outcome, request, request_number, request_own};
+ghost use Rattle.xdr_rows.specs.Samples.{file_kind, file, label, folder, outcome, request, request_number, request_own};
 
-use crate::form::{Items, ReadError, Xdr, XdrBy};
-use crate::octets::Octets;
-use crate::reader::Reader;
-use crate::writer::Writer;
 use outcome::Mem;
 use std::alloc::Global;
+use wire_xdr::{Items, Octets, ReadError, Reader, Writer, Xdr, XdrBy};
 
 /// What a file is, a union with a tag: any other tag is refused.
 #[derive(Drop)]

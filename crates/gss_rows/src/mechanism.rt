@@ -1,4 +1,4 @@
-use crate::{Mechanism, Realm, hmac_sha256, read_whole, tokens_agree, whole_is_spelled};
+use gss_mech::{Mechanism, Realm, hmac_sha256, tokens_agree};
 use hex::FromHex;
 use outcome::Mem;
 use std::alloc::Global;
@@ -6,7 +6,7 @@ use std::process::Abort;
 use std::test::Fail;
 use wire_xdr::Octets;
 
-// RFC 4231 sections 4.2 to 4.5: key, text and code.
+/// RFC 4231 sections 4.2 to 4.5: key, text and code.
 const VECTORS: [(&str, &str, &str); 4] = [
     (
         "0b0b0b0b0b0b0b0b0b0b0b0b0b0b0b0b0b0b0b0b",
@@ -42,12 +42,12 @@ fn codes_are_those_of_rfc_4231(rt: HostRuntime) -> Result<(), Fail> {
     Ok(())
 }
 
-// A realm of one principal.
+/// A realm of one principal.
 fn realm_of(alloc: Global, name: &[u8], key: u8) -> Mem<Realm> {
     Realm::new(alloc, &[(Octets::from_slice(alloc, name)?, [key; 32])])
 }
 
-// Makes a context as both of its ends do, of any mechanism.
+/// Makes a context as both of its ends do, of any mechanism.
 fn check_context<M: Mechanism>(rt: &impl Abort, alloc: Global, mech: M) -> Result<(), Fail> {
     let Some(token) = mech.start(alloc, b"user", &[7; 32])? else {
         panic!(rt; "not of the realm");
@@ -81,7 +81,7 @@ fn both_ends_come_to_one_key(rt: HostRuntime) -> Result<(), Fail> {
     check_context(&rt, rt.alloc(), realm)
 }
 
-// The first token of the wire's worked run: it is accepted, and with one bit changed it isn't.
+/// The first token of the wire's worked run: it is accepted, and with one bit changed it isn't.
 const OPENING: &str =
     "0000000475736572af5570f5a1810b7af78caf4bc70a660f0df51e42baf91d4de5b2328de0e83dfcd53d916b213790dd0ada90a9ac77f65e0753ea99eb35bc7152a0f4ae0872e0c2";
 
@@ -102,15 +102,6 @@ fn a_changed_token_is_refused(rt: HostRuntime) -> Result<(), Fail> {
 }
 
 #[test]
-fn laws_are_called() {
+fn laws_of_mechanisms_are_called() {
     tokens_agree::<Realm>();
-    whole_is_spelled::<u32>();
-}
-
-#[test]
-fn a_word_is_read_whole(rt: HostRuntime) -> Result<(), Fail> {
-    assert_eq!(rt; read_whole::<u32>(rt.alloc(), &[0, 0, 1, 0])?, Some(256));
-    assert_eq!(rt; read_whole::<u32>(rt.alloc(), &[0, 0, 1, 0, 0])?, None);
-    assert_eq!(rt; read_whole::<u32>(rt.alloc(), &[0, 0, 1])?, None);
-    Ok(())
 }

@@ -1,10 +1,10 @@
-use crate::form::{
-    BadXdr, is_form, no_prefix, no_prefix_by, one_spelling, one_spelling_by, put_four, read,
-    read_by, words_are_forms, write, write_by,
-};
 use crate::sample::{File, FileKind, Folder, Label, Outcome, Request};
-use crate::*;
 use std::test::Fail;
+use wire_xdr::{
+    BadXdr, Page, Reader, Writer, XdrFault, all_is_spelled, is_form, no_prefix, no_prefix_by,
+    one_spelling, one_spelling_by, put_four, read, read_all, read_by, refused_within, word_lengths,
+    words_are_forms, write, write_all, write_by,
+};
 
 /// The file of RFC 4506 section 7: `sillyprog`, to be run by `lisp`, of `john`, with `(quit)` in it.
 const FILE: [u8; 48] = [
@@ -67,6 +67,36 @@ fn a_file_is_read_and_written(rt: HostRuntime) -> Result<(), Fail> {
     let mut writer = Writer::new(rt.alloc())?;
     write(rt.alloc(), &mut writer, &file)?;
     assert_eq!(rt; writer.finish().as_slice(), FILE.as_slice());
+    Ok(())
+}
+
+#[test]
+fn all_of_the_bytes(rt: HostRuntime) -> Result<(), Fail> {
+    let alloc = rt.alloc();
+    let file = read_all::<File>(alloc, &FILE)??;
+    let bytes = write_all(alloc, &file)?;
+    assert_eq!(rt; bytes.as_slice(), FILE.as_slice());
+    let more = [0, 0, 0, 7, 1];
+    assert_eq!(rt; read_all::<u32>(alloc, &more)?, Err(BadXdr { at: 4 }));
+    assert_eq!(rt; read_all::<u32>(alloc, &more[..4])?, Ok(7));
+    assert_eq!(rt; read_all::<u32>(alloc, &more[..3])?, Err(BadXdr { at: 0 }));
+    Ok(())
+}
+
+#[test]
+fn words_on_a_page(rt: HostRuntime) -> Result<(), Fail> {
+    let mut page = Page::new(rt.alloc(), 64)?;
+    page.u32(1);
+    page.u64(2);
+    page.flag(true);
+    page.opaque(b"abcde");
+    page.append(b"f");
+    assert_eq!(rt; page.len(), page.as_slice().len());
+    let want = [
+        0, 0, 0, 1, 0, 0, 0, 0, 0, 0, 0, 2, 0, 0, 0, 1, 0, 0, 0, 5, 97, 98, 99, 100, 101, 0, 0, 0,
+        102,
+    ];
+    assert_eq!(rt; page.finish().as_slice(), want.as_slice());
     Ok(())
 }
 
@@ -165,11 +195,18 @@ fn unions_and_numbers(rt: HostRuntime) -> Result<(), Fail> {
     write_by(rt.alloc(), &mut writer, &request)?;
     put_four(&mut writer, &1u32, &2u64, &true, &[0u8; 3])?;
     assert_eq!(rt; writer.finish().as_slice().len(), 32);
+    Ok(())
+}
+
+#[test]
+fn laws_are_called() {
     words_are_forms();
+    word_lengths();
     is_form::<FileKind>();
+    refused_within::<FileKind>();
     one_spelling::<FileKind>();
     no_prefix::<FileKind>();
+    all_is_spelled::<FileKind>();
     one_spelling_by::<Request>();
     no_prefix_by::<Request>();
-    Ok(())
 }
