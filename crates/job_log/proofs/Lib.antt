@@ -1,0 +1,6 @@
+pub mod BitRows
+pub mod Lawful
+pub mod Entries
+pub mod Counts
+pub mod Order
+pub mod Steps

@@ -1,0 +1,3 @@
+pub mod Bits
+pub mod Log
+pub mod Kept
