@@ -1,5 +1,5 @@
 -- A volume that is open: what it stands for, and what a crash may leave of it. Own definitions.
-use Rattle.std.specs.Prelude.{◌≡◌, ℕ, ◌+◌, ◌-◌, ◌*◌, ◌%◌, ◌<◌, ◌≤◌, ◌^◌, Bool, false, ◌==◌, Option, None, Some, List, nat_lt, length, take, drop, replicate, slice_index, if◌then◌else◌, ◌⊎◌}
+use Rattle.std.specs.Prelude.{◌≡◌, ℕ, ◌+◌, ◌-◌, ◌*◌, ◌%◌, ◌<◌, ◌≤◌, ◌^◌, Bool, false, ◌==◌, Option, None, Some, List, nat_lt, length, take, drop, replicate, slice_index, slice_set, if◌then◌else◌, ◌⊎◌}
 use Rattle.copy_model.specs.Volume.{File, Volume, Doubt, Kept, Old, New, no_file, crash}
 use Rattle.disk_model.specs.Disk.{Image, DiskState, MayLeave}
 use Rattle.disk_model.specs.Elapsed.{Timeline, present}
@@ -44,6 +44,10 @@ MayBeLeft size tag homes v image = (kept : Kept) × Leaves size tag homes v kept
 -- a volume's homes, by number
 abbrev pub homes_by : List ℕ → ℕ → ℕ
 homes_by homes j = slice_index homes j
+
+-- the homes once a file's table is put
+abbrev pub turned : List ℕ → ℕ → List ℕ
+turned homes file = slice_set homes file (1 - homes_by homes file)
 
 -- What a crash now may leave of an open volume's disk is what may be left of the volume.
 abbrev pub StandsFor : {D : Type 0} → (D → Timeline) → (D → ℕ) → Opened D → Type 0

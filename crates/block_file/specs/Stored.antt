@@ -1,10 +1,10 @@
 -- What an image of a disk holds, read as a volume of format 1: plain bytes, and no state of a program.
 -- Own definitions.
-use Rattle.std.specs.Prelude.{◌≡◌, ℕ, ◌+◌, ◌-◌, ◌*◌, ◌<◌, ◌≤◌, Bool, false, not, nat_lt, ◌==◌, ◌||◌, Option, None, Some, List, [], ◌∷◌, zero, suc, take, drop, replicate, if◌then◌else◌}
+use Rattle.std.specs.Prelude.{◌≡◌, ℕ, ◌+◌, ◌-◌, ◌*◌, ◌<◌, ◌≤◌, Bool, false, not, nat_lt, ◌==◌, ◌||◌, Option, None, Some, List, [], ◌∷◌, zero, suc, take, drop, replicate, if◌then◌else◌, ◌⊎◌}
 use Rattle.std.specs.Str.{bytes_eq}
 use Rattle.std.specs.Option.{option_or, option_map}
 use Rattle.copy_model.specs.Volume.{File, Volume, no_file, formatted}
-use Rattle.disk_model.specs.Disk.{Image}
+use Rattle.disk_model.specs.Disk.{Image, DiskState}
 use Rattle.block_file.specs.Cell.{gate_of}
 use Rattle.block_file.specs.Layout.{letters, head_files, head_blocks, head_tag, cell_at, data_at, blocks_of, boot_in, size_in, change_in, home_in, table_of}
 use Rattle.block_file.specs.Lists.{numbered, joined}
@@ -115,3 +115,16 @@ pub record IsFormatted (size files blocks tag : ℕ) (image : Image) : Type 0 wh
 pub record IsCleared (files blocks : ℕ) (image : Image) : Type 0 where
   pub slots : (slot : ℕ) → slot < files * blocks → image (4 + 3 * files + 2 * slot) ≡ replicate 4096 0
   pub cells : (j : ℕ) → j < files + 1 → (image (1 + 3 * j) ≡ replicate 4096 0) × (image (2 + 3 * j) ≡ replicate 4096 0)
+
+-- a crash leaves block 0 as a read gives it, where it was safe
+abbrev pub HasHead : DiskState → Image → Type 0
+HasHead s image = s.is_open 0 ≡ false → image 0 ≡ s.reads 0
+
+-- Block 0 reads as before, and is safe if it was.
+pub record KeepsHead (old new : DiskState) : Type 0 where
+  pub reads : new.reads 0 ≡ old.reads 0
+  pub kept : old.is_open 0 ≡ false → new.is_open 0 ≡ false
+
+-- What a crash during a format may leave: block 0 as it was, or all other blocks as they are laid out.
+abbrev pub LeftByFormat : (files blocks : ℕ) → DiskState → Image → Type 0
+LeftByFormat files blocks s image = HasHead s image ⊎ IsCleared files blocks image

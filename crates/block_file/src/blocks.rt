@@ -1,5 +1,6 @@
 ghost use Rattle.std.specs.Prelude.{◌≡◌, ◌≢◌, ℕ, ◌+◌, ◌-◌, ◌*◌, ◌<◌, ◌≤◌, List, ◌⊎◌};
 ghost use Rattle.outcome.specs.Causes.{Rose};
+ghost use Rattle.disk_model.specs.declared.fuse.Fuse.TheVariants.{Unset};
 ghost use Rattle.disk_model.specs.Disk.{IsSettled};
 ghost use Rattle.disk_model.specs.Elapsed.{present, contents};
 ghost use Rattle.disk_model.specs.Passes.{Passes};
@@ -54,6 +55,7 @@ pub fn write_block<D: Disk>(
     ensures elsewhere { D.Told → (b : ℕ) → b ≢ next_place shape table.now file number
         → contents (D.timeline disk.new) b ≡ contents (D.timeline disk.old) b }
     ensures size { D.size disk.new ≡ D.size disk.old }
+    ensures unset { D.fuse disk.old ≡ Unset → D.fuse disk.new ≡ Unset }
     ensures faults { D.faults disk.old ≤ D.faults disk.new }
     ensures cause { result ≡ Io.Failed → Rose (D.faults disk.old) (D.faults disk.new) }
 {
@@ -87,6 +89,7 @@ pub fn put_table<D: Disk>(
         → Passes (D.fuse disk.old) (D.fuse disk.new) (D.timeline disk.old) (D.timeline disk.new)
         (λ image. Holds shape safe before image ⊎ Holds shape (with_table safe number table.now) after image) }
     ensures size { D.size disk.new ≡ D.size disk.old }
+    ensures unset { D.fuse disk.old ≡ Unset → D.fuse disk.new ≡ Unset }
     ensures faults { D.faults disk.old ≤ D.faults disk.new }
     ensures cause { result ≡ Io.Failed → Rose (D.faults disk.old) (D.faults disk.new) }
 {

@@ -1,5 +1,6 @@
 ghost use Rattle.std.specs.Prelude.{◌≡◌, ◌+◌, ◌-◌, ◌<◌, ◌≤◌, None, IfSome, OnSome};
 ghost use Rattle.outcome.specs.Causes.{Rose};
+ghost use Rattle.disk_model.specs.declared.fuse.Fuse.TheVariants.{Unset};
 ghost use Rattle.disk_model.specs.Disk.{IsSettled};
 ghost use Rattle.disk_model.specs.Elapsed.{present, contents};
 ghost use Rattle.disk_model.specs.Passes.{Passes};
@@ -29,6 +30,7 @@ impl GatedCell {
         ensures block { D.Told → OnSome result (out.new ≡ cell_of (contents (D.timeline disk.old)) at) }
         ensures same { D.Told → D.timeline disk.new ≡ D.timeline disk.old }
         ensures size { D.size disk.new ≡ D.size disk.old }
+        ensures unset { D.fuse disk.old ≡ Unset → D.fuse disk.new ≡ Unset }
         ensures fuse { D.fuse disk.new ≡ D.fuse disk.old }
         ensures faults { D.faults disk.old ≤ D.faults disk.new }
         ensures cause { result ≡ None → Rose (D.faults disk.old) (D.faults disk.new) }
@@ -63,6 +65,7 @@ impl GatedCell {
             → Passes (D.fuse disk.old) (D.fuse disk.new) (D.timeline disk.old) (D.timeline disk.new)
             (OldOrNew self.old.at (present (D.timeline disk.old)) (cell_of (contents (D.timeline disk.old)) self.old.at) block.now) }
         ensures size { D.size disk.new ≡ D.size disk.old }
+        ensures unset { D.fuse disk.old ≡ Unset → D.fuse disk.new ≡ Unset }
         ensures faults { D.faults disk.old ≤ D.faults disk.new }
         ensures cause { result ≡ Io.Failed → Rose (D.faults disk.old) (D.faults disk.new) }
     {
@@ -90,6 +93,7 @@ fn land<D: Disk>(disk: &mut D, at: u64, block: &Block) -> Io
     ensures any_moment { D.Told → Passes (D.fuse disk.old) (D.fuse disk.new) (D.timeline disk.old) (D.timeline disk.new)
         (Spares at (present (D.timeline disk.old))) }
     ensures size { D.size disk.new ≡ D.size disk.old }
+    ensures unset { D.fuse disk.old ≡ Unset → D.fuse disk.new ≡ Unset }
     ensures faults { D.faults disk.old ≤ D.faults disk.new }
     ensures cause { result ≡ Io.Failed → Rose (D.faults disk.old) (D.faults disk.new) }
 {

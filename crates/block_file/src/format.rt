@@ -1,9 +1,11 @@
 ghost use Rattle.std.specs.Prelude.{◌≡◌, ◌≢◌, ℕ, ◌+◌, ◌*◌, ◌≤◌, ◌<◌, replicate, IfOk, IsOk, MatchResult};
 ghost use Rattle.outcome.specs.Causes.{Rose};
+ghost use Rattle.disk_model.specs.declared.fuse.Fuse.TheVariants.{Unset};
 ghost use Rattle.disk_model.specs.Disk.{Image, MayLeave, IsSettled};
 ghost use Rattle.disk_model.specs.Elapsed.{present, contents};
+ghost use Rattle.disk_model.specs.Passes.{Passes};
 ghost use Rattle.block_file.specs.Layout.{blocks_of};
-ghost use Rattle.block_file.specs.Stored.{IsFormatted, IsCleared};
+ghost use Rattle.block_file.specs.Stored.{IsFormatted, IsCleared, HasHead, KeepsHead, LeftByFormat};
 ghost use Rattle.block_file.specs.Opened.{HeadIs};
 
 use crate::faults::FormatFault;
@@ -16,7 +18,8 @@ use outcome::Mem;
 
 impl<D: Disk + Drop> Volume<D> {
     /// Makes a volume of so many files of so many blocks of a disk. Each file is empty. The boot number is
-    /// 0, and the first opening raises it to 1. Answered first: the disk has too few blocks.
+    /// 0, and the first opening raises it to 1. Answered first: the disk has too few blocks; it is as it was
+    /// then. A crash at any moment leaves block 0 as it was, or all other blocks as they are laid out.
     pub fn format(disk: D, files: u32, blocks: u32, tag: u64) -> Mem<Result<D, (D, FormatFault)>>
         requires some_files { 1 ≤ files }
         requires few_files { files ≤ MOST_FILES }
@@ -30,6 +33,11 @@ impl<D: Disk + Drop> Volume<D> {
         ensures formatted { D.Told → IfOk result (λ answer. MatchResult answer
             (λ made. (image : Image) → MayLeave (present (D.timeline made)) image → IsFormatted (D.size made) files blocks tag image)
             (λ fault. Unit {0})) }
+        ensures untouched { D.size disk < blocks_of files blocks → IfOk result (λ answer. MatchResult answer (λ made. Unit {0}) (λ fault. fault.0 ≡ disk)) }
+        ensures unset { D.fuse disk ≡ Unset → IfOk result (λ answer. MatchResult answer (λ made. D.fuse made ≡ Unset) (λ fault. D.fuse fault.0 ≡ Unset)) }
+        ensures any_moment { D.Told → IfOk result (λ answer. MatchResult answer
+            (λ made. Passes (D.fuse disk) (D.fuse made) (D.timeline disk) (D.timeline made) (LeftByFormat files blocks (present (D.timeline disk))))
+            (λ fault. Passes (D.fuse disk) (D.fuse fault.0) (D.timeline disk) (D.timeline fault.0) (LeftByFormat files blocks (present (D.timeline disk))))) }
         ensures size { IfOk result (λ answer. MatchResult answer (λ made. D.size made ≡ D.size disk) (λ fault. D.size fault.0 ≡ D.size disk)) }
         ensures faults { IfOk result (λ answer. MatchResult answer (λ made. D.faults disk ≤ D.faults made) (λ fault. D.faults disk ≤ D.faults fault.0)) }
         ensures cause { IfOk result (λ answer. MatchResult answer (λ made. Unit {0})
@@ -56,7 +64,10 @@ fn lay_out<D: Disk>(disk: &mut D, shape: Shape, tag: u64, size: u64) -> Io
     ensures head { D.Told → result ≡ Io.Done → HeadIs size shape tag (contents (D.timeline disk.new) 0) }
     ensures cleared { D.Told → result ≡ Io.Done → IsCleared shape.files shape.blocks (contents (D.timeline disk.new)) }
     ensures settled { D.Told → result ≡ Io.Done → IsSettled (present (D.timeline disk.new)) }
+    ensures any_moment { D.Told → Passes (D.fuse disk.old) (D.fuse disk.new) (D.timeline disk.old) (D.timeline disk.new)
+        (LeftByFormat shape.files shape.blocks (present (D.timeline disk.old))) }
     ensures size { D.size disk.new ≡ D.size disk.old }
+    ensures unset { D.fuse disk.old ≡ Unset → D.fuse disk.new ≡ Unset }
     ensures faults { D.faults disk.old ≤ D.faults disk.new }
     ensures cause { result ≡ Io.Failed → Rose (D.faults disk.old) (D.faults disk.new) }
 {
@@ -80,7 +91,11 @@ fn lay_out<D: Disk>(disk: &mut D, shape: Shape, tag: u64, size: u64) -> Io
 fn clear<D: Disk>(disk: &mut D, shape: Shape) -> Io
     requires { blocks_of shape.files shape.blocks ≤ D.size disk.old }
     ensures cleared { D.Told → result ≡ Io.Done → IsCleared shape.files shape.blocks (contents (D.timeline disk.new)) }
+    ensures keeps { D.Told → KeepsHead (present (D.timeline disk.old)) (present (D.timeline disk.new)) }
+    ensures any_moment { D.Told → Passes (D.fuse disk.old) (D.fuse disk.new) (D.timeline disk.old) (D.timeline disk.new)
+        (HasHead (present (D.timeline disk.old))) }
     ensures size { D.size disk.new ≡ D.size disk.old }
+    ensures unset { D.fuse disk.old ≡ Unset → D.fuse disk.new ≡ Unset }
     ensures faults { D.faults disk.old ≤ D.faults disk.new }
     ensures cause { result ≡ Io.Failed → Rose (D.faults disk.old) (D.faults disk.new) }
 {
@@ -109,7 +124,11 @@ fn clear_cell<D: Disk>(disk: &mut D, cell: u64) -> Io
     ensures home { D.Told → result ≡ Io.Done → contents (D.timeline disk.new) (2 + 3 * cell) ≡ replicate 4096 0 }
     ensures elsewhere { D.Told → (b : ℕ) → b ≢ 1 + 3 * cell → b ≢ 2 + 3 * cell
         → contents (D.timeline disk.new) b ≡ contents (D.timeline disk.old) b }
+    ensures keeps { D.Told → KeepsHead (present (D.timeline disk.old)) (present (D.timeline disk.new)) }
+    ensures any_moment { D.Told → Passes (D.fuse disk.old) (D.fuse disk.new) (D.timeline disk.old) (D.timeline disk.new)
+        (HasHead (present (D.timeline disk.old))) }
     ensures size { D.size disk.new ≡ D.size disk.old }
+    ensures unset { D.fuse disk.old ≡ Unset → D.fuse disk.new ≡ Unset }
     ensures faults { D.faults disk.old ≤ D.faults disk.new }
     ensures cause { result ≡ Io.Failed → Rose (D.faults disk.old) (D.faults disk.new) }
 {

@@ -1,5 +1,6 @@
 ghost use Rattle.std.specs.Prelude.{◌≡◌, ℕ, ◌+◌, ◌*◌, ◌<◌, ◌≤◌, ◌^◌, [], length, false, slice_index, slice_index_or, IfOk, IfErr, IsOk, MatchResult, Ok, None, ◌⊎◌};
 ghost use Rattle.outcome.specs.Causes.{Rose};
+ghost use Rattle.disk_model.specs.declared.fuse.Fuse.TheVariants.{Unset};
 ghost use Rattle.disk_model.specs.Disk.{Image, MayLeave, IsSettled};
 ghost use Rattle.disk_model.specs.Elapsed.{present, contents};
 ghost use Rattle.disk_model.specs.Passes.{Passes};
@@ -53,6 +54,7 @@ pub fn start<D: Disk>(alloc: Global, disk: &mut D) -> Mem<Result<Loaded, OpenFau
         → contents (D.timeline disk.new) ≡ contents (D.timeline disk.old))) }
     ensures boot { IfOk result (λ answer. IfOk answer (λ v. (1 ≤ v.boot) × (v.boot < 2 ^ 32))) }
     ensures size { D.size disk.new ≡ D.size disk.old }
+    ensures unset { D.fuse disk.old ≡ Unset → D.fuse disk.new ≡ Unset }
     ensures faults { D.faults disk.old ≤ D.faults disk.new }
     ensures cause { result ≡ Ok (Err OpenFault.DiskFailed) → Rose (D.faults disk.old) (D.faults disk.new) }
 {
@@ -79,6 +81,7 @@ fn load<D: Disk>(alloc: Global, disk: &mut D) -> Mem<Result<Loaded, OpenFault>>
     ensures any_moment { D.Told → Passes (D.fuse disk.old) (D.fuse disk.new) (D.timeline disk.old) (D.timeline disk.new)
         (MayLeave (present (D.timeline disk.old))) }
     ensures size { D.size disk.new ≡ D.size disk.old }
+    ensures unset { D.fuse disk.old ≡ Unset → D.fuse disk.new ≡ Unset }
     ensures faults { D.faults disk.old ≤ D.faults disk.new }
     ensures cause { result ≡ Ok (Err OpenFault.DiskFailed) → Rose (D.faults disk.old) (D.faults disk.new) }
 {
@@ -117,6 +120,7 @@ fn load_head<D: Disk>(disk: &mut D) -> Result<(Shape, u64), OpenFault>
     ensures any_moment { D.Told → Passes (D.fuse disk.old) (D.fuse disk.new) (D.timeline disk.old) (D.timeline disk.new)
         (MayLeave (present (D.timeline disk.old))) }
     ensures size { D.size disk.new ≡ D.size disk.old }
+    ensures unset { D.fuse disk.old ≡ Unset → D.fuse disk.new ≡ Unset }
     ensures faults { D.faults disk.old ≤ D.faults disk.new }
     ensures cause { result ≡ Err OpenFault.DiskFailed → Rose (D.faults disk.old) (D.faults disk.new) }
 {
@@ -163,6 +167,7 @@ fn raise<D: Disk>(disk: &mut D, loaded: &mut Loaded) -> Io
     ensures next { result ≡ Io.Done → loaded.new.boot ≡ loaded.old.boot + 1 }
     ensures boot { result ≡ Io.Done → (1 ≤ loaded.new.boot) × (loaded.new.boot < 2 ^ 32) }
     ensures size { D.size disk.new ≡ D.size disk.old }
+    ensures unset { D.fuse disk.old ≡ Unset → D.fuse disk.new ≡ Unset }
     ensures faults { D.faults disk.old ≤ D.faults disk.new }
     ensures cause { result ≡ Io.Failed → Rose (D.faults disk.old) (D.faults disk.new) }
 {

@@ -1,6 +1,7 @@
 ghost use Rattle.std.specs.Prelude.{◌≡◌, ◌↔◌, ℕ, ◌+◌, ◌*◌, ◌<◌, ◌≤◌, ◌^◌, true, false, [], length, slice_index, slice_index_or, IsOk, IsErr, IsTrue, IfOk, MatchResult, Some, None, ◌==◌, if◌then◌else◌};
 ghost use Rattle.outcome.specs.Causes.{Rose};
 ghost use Rattle.copy_model.specs.Volume.{file_at, bytes_at, write, commit, fail_write, fail_commit, change_of};
+ghost use Rattle.disk_model.specs.declared.fuse.Fuse.TheVariants.{Unset};
 ghost use Rattle.disk_model.specs.Disk.{Image, MayLeave};
 ghost use Rattle.disk_model.specs.Elapsed.{present, contents, set_to, IsOut};
 ghost use Rattle.disk_model.specs.Passes.{Passes};
@@ -8,7 +9,7 @@ ghost use Rattle.block_file.specs.declared.faults.WriteFault.{WriteFault};
 ghost use Rattle.block_file.specs.Held.{no_held};
 ghost use Rattle.block_file.specs.Layout.{boot_in, table_of};
 ghost use Rattle.block_file.specs.Stored.{reopened, tag_of, home_of, flaw_of};
-ghost use Rattle.block_file.specs.Opened.{homes_by, MayBeLeft, StandsFor, SameOpening, CanBeOpened, LeftByOpening, RefusedFor, IsFresh, refusal_of};
+ghost use Rattle.block_file.specs.Opened.{homes_by, turned, MayBeLeft, StandsFor, SameOpening, CanBeOpened, LeftByOpening, RefusedFor, IsFresh, refusal_of};
 
 use crate::FileInfo;
 use crate::faults::{OpenFault, ReadFault, WriteFault};
@@ -91,6 +92,7 @@ impl<D: Disk + Drop> Volume<D> {
         ensures again { D.Told → IfOk result (λ answer. MatchResult answer (λ _. Unit {0})
             (λ fault. (image : Image) → MayLeave (present (D.timeline fault.0)) image → CanBeOpened (D.size fault.0) image)) }
         ensures fresh { IfOk result (λ answer. IfOk answer (λ opened. IsFresh opened.volume)) }
+        ensures unset { D.fuse disk ≡ Unset → IfOk result (λ answer. MatchResult answer (λ opened. D.fuse opened.disk ≡ Unset) (λ fault. D.fuse fault.0 ≡ Unset)) }
         ensures size { IfOk result (λ answer. MatchResult answer (λ opened. D.size opened.disk ≡ D.size disk) (λ fault. D.size fault.0 ≡ D.size disk)) }
         ensures faults { IfOk result (λ answer. MatchResult answer (λ opened. D.faults disk ≤ D.faults opened.disk) (λ fault. D.faults disk ≤ D.faults fault.0)) }
         ensures cause { IfOk result (λ answer. MatchResult answer (λ _. Unit {0})
@@ -139,9 +141,12 @@ impl<D: Disk> Volume<D> {
         self.tag
     }
 
-    /// Whether a write or commit of this opening failed.
+    /// Whether a write or commit of this opening failed. At any time a crash leaves the volume as it is, and
+    /// only a failed commit leaves a doubt of what.
     pub fn is_broken(&self) -> bool
-        ensures { result ≡ self.now.volume.broken }
+        ensures broken { result ≡ self.now.volume.broken }
+        ensures stands { D.Told → StandsFor D.timeline D.size self.now }
+        ensures certain { self.now.volume.broken ≡ false → self.now.volume.doubt ≡ None }
     {
         self.broken
     }
@@ -165,7 +170,8 @@ impl<D: Disk> Volume<D> {
     pub fn home(&self, file: u32) -> u8
         requires no_root { 1 ≤ file }
         requires there { file < length self.now.volume.files }
-        ensures { result ≡ homes_by self.now.homes file }
+        ensures home { result ≡ homes_by self.now.homes file }
+        ensures two { result ≤ 1 }
     {
         self.homes[file as usize]
     }
@@ -234,6 +240,7 @@ impl<D: Disk> Volume<D> {
         ensures uncounted { IsErr result → self.new.volume.writes ≡ self.old.volume.writes }
         ensures tag { self.new.tag ≡ self.old.tag }
         ensures homes { self.new.homes ≡ self.old.homes }
+        ensures unset { D.fuse self.old.disk ≡ Unset → D.fuse self.new.disk ≡ Unset }
         ensures size { D.size self.new.disk ≡ D.size self.old.disk }
         ensures faults { D.faults self.old.disk ≤ D.faults self.new.disk }
         ensures cause { result ≡ Err WriteFault.DiskFailed → Rose (D.faults self.old.disk) (D.faults self.new.disk) }
@@ -263,6 +270,8 @@ impl<D: Disk> Volume<D> {
         ensures refused { result ≡ Err ReadFault.Broken → self.new ≡ self.old }
         ensures committed { D.Told → IsOk result → self.new.volume ≡ commit self.old.volume file }
         ensures failed { D.Told → result ≡ Err ReadFault.DiskFailed → self.new.volume ≡ fail_commit self.old.volume file }
+        ensures homes { IsOk result → self.new.homes ≡ turned self.old.homes file }
+        ensures homes_kept { IsErr result → self.new.homes ≡ self.old.homes }
         ensures any_moment { D.Told → self.old.volume.broken ≡ false
             → Passes (D.fuse self.old.disk) (D.fuse self.new.disk) (D.timeline self.old.disk) (D.timeline self.new.disk)
             (MayBeLeft (D.size self.old.disk) self.old.tag (homes_by self.old.homes) (fail_commit self.old.volume file)) }
@@ -272,6 +281,7 @@ impl<D: Disk> Volume<D> {
         ensures breaks { result ≡ Err ReadFault.DiskFailed → self.new.volume.broken ≡ true }
         ensures writes { self.new.volume.writes ≡ self.old.volume.writes }
         ensures tag { self.new.tag ≡ self.old.tag }
+        ensures unset { D.fuse self.old.disk ≡ Unset → D.fuse self.new.disk ≡ Unset }
         ensures size { D.size self.new.disk ≡ D.size self.old.disk }
         ensures faults { D.faults self.old.disk ≤ D.faults self.new.disk }
         ensures cause { result ≡ Err ReadFault.DiskFailed → Rose (D.faults self.old.disk) (D.faults self.new.disk) }

@@ -1,5 +1,6 @@
 ghost use Rattle.std.specs.Prelude.{◌≡◌, ℕ, ◌+◌, ◌-◌, ◌*◌, ◌<◌, ◌≤◌, List, length, ◌⊎◌};
 ghost use Rattle.outcome.specs.Causes.{Rose};
+ghost use Rattle.disk_model.specs.declared.fuse.Fuse.TheVariants.{Unset};
 ghost use Rattle.disk_model.specs.Elapsed.{present, contents};
 ghost use Rattle.disk_model.specs.Passes.{Passes};
 ghost use Rattle.block_file.specs.Layout.{blocks_of, home_in};
@@ -26,6 +27,7 @@ pub fn write_file<D: Disk>(disk: &mut D, shape: Shape, table: &Block, file: u32,
     ensures written { D.Told → result ≡ Io.Done → (b : ℕ) → b < shape.blocks
         → contents (D.timeline disk.new) (next_place shape table.now file b) ≡ piece_of bytes.now b }
     ensures size { D.size disk.new ≡ D.size disk.old }
+    ensures unset { D.fuse disk.old ≡ Unset → D.fuse disk.new ≡ Unset }
     ensures faults { D.faults disk.old ≤ D.faults disk.new }
     ensures cause { result ≡ Io.Failed → Rose (D.faults disk.old) (D.faults disk.new) }
 {
@@ -74,6 +76,7 @@ pub fn commit_file<D: Disk>(
         (λ image. Holds shape safe content image
         ⊎ Holds shape (with_table safe file new_table.now) (with_bytes content file bytes.now) image) }
     ensures size { D.size disk.new ≡ D.size disk.old }
+    ensures unset { D.fuse disk.old ≡ Unset → D.fuse disk.new ≡ Unset }
     ensures faults { D.faults disk.old ≤ D.faults disk.new }
     ensures cause { result ≡ Io.Failed → Rose (D.faults disk.old) (D.faults disk.new) }
 {

@@ -43,12 +43,13 @@ crash_moment (Burning _) t = t.latest
 crash_moment Out t = t.stop
 
 -- Time goes on: the moments that were stay as they were. A machine that had stopped is stopped at the
--- same moment; one that stopped in between did so at a moment in between.
+-- same moment; one that stopped in between did so at a moment in between. A fuse that isn't set stays so.
 pub record Elapses (old_fuse new_fuse : Fuse) (old new : Timeline) : Type 0 where
   pub later : old.latest ≤ new.latest
   pub past : (k : ℕ) → k ≤ old.latest → new.state k ≡ old.state k
   pub stays : IsOut old_fuse → IsOut new_fuse × (new.stop ≡ old.stop)
   pub stops : (IsOut old_fuse → ⊥) → IsOut new_fuse → (old.latest ≤ new.stop) × (new.stop ≤ new.latest)
+  pub unset : old_fuse ≡ Unset → new_fuse ≡ Unset
 
 -- A call that stops the machine stops it before the call does anything.
 abbrev pub StopsBefore : Fuse → Fuse → Timeline → Timeline → Type 0

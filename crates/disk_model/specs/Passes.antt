@@ -36,6 +36,7 @@ elapses_none fuse t = record {
   past = λ k le. refl;
   stays = λ out. (out, refl);
   stops = λ lit out. absurd (lit out);
+  unset = λ is. is;
 }
 
 -- where calls are made in two parts
@@ -57,6 +58,7 @@ elapses_on first second third old middle new before after = record {
         let within = after.stops still out in
         (omega (arith, within.0, before.later), within.1)
   ];
+  unset = λ is. after.unset (before.unset is);
 }
 
 pub passes_none : (P : Image → Type 0) (fuse : Fuse) (t : Timeline)

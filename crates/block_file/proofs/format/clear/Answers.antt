@@ -1,6 +1,17 @@
 use Rattle.std.proofs.Common.{◌≡◌, ◌≢◌, ℕ, ◌+◌, ◌*◌, ◌<◌, replicate, refl, sym, ◌∙◌, ap, arith, below_more}
-use Rattle.disk_model.specs.Elapsed.{contents}
+use Rattle.disk_model.specs.Elapsed.{contents, burnt}
+use Rattle.block_file.proofs.Laying.{keeps_none, keeps_on, keeps_write, head_none, head_one, head_on}
 use Rattle.block_file.proofs.format.clear.Goals as goal
+
+pub loop-slot-init : goal.loop-slot-init
+loop-slot-init g c = record {
+  slots = λ told k lt. absurd (omega arith);
+  keeps = λ told. keeps_none _;
+  moments = λ told. head_none _ _;
+  unset = λ is. is;
+  size = refl;
+  faults = omega arith;
+}
 
 pub loop-slot-preserved : goal.loop-slot-preserved
 loop-slot-preserved g c =
@@ -13,6 +24,14 @@ loop-slot-preserved g c =
           let ne : 4 + 3 * f + 2 * k ≢ 4 + 3 * f + 2 * c.loop-slot.slot = omega arith in
           ((c.write.ensures.written told).elsewhere (4 + 3 * f + 2 * k) ne).0 ∙ kept.slots told k lt)
           ((c.in-Done.ensures.written told).here refl);
+      keeps = λ told.
+          let ne : 0 ≢ 4 + 3 * f + 2 * c.loop-slot.slot = omega arith in
+          keeps_on _ _ _ (kept.keeps told) (keeps_write _ _ _ _ _ ne (c.write.ensures.written told));
+      moments = λ told.
+          let ne : 0 ≢ 4 + 3 * f + 2 * c.loop-slot.slot = omega arith in
+          head_on _ _ _ _ _ _ (kept.moments told) (kept.keeps told)
+          (head_one _ _ _ _ (keeps_write _ _ _ _ _ ne (c.write.ensures.written told)) (c.write.ensures.time told) (c.write.ensures.soon told));
+      unset = λ is. c.write.ensures.fuse ∙ ap burnt (kept.unset is);
       size = c.write.ensures.size ∙ kept.size;
       faults = omega (arith, kept.faults, c.write.ensures.faults);
     }
@@ -39,6 +58,9 @@ loop-cell-preserved g c =
           let e : 2 + 3 * k ≢ 2 + 3 * i = omega arith in
           (call.elsewhere told (1 + 3 * k) a b ∙ (kept.cells told k lt).0, call.elsewhere told (2 + 3 * k) d e ∙ (kept.cells told k lt).1))
           (c.in-Done-clear_cell.ensures.gate told refl, c.in-Done-clear_cell.ensures.home told refl);
+      keeps = λ told. keeps_on _ _ _ (kept.keeps told) (call.keeps told);
+      moments = λ told. head_on _ _ _ _ _ _ (kept.moments told) (kept.keeps told) (call.any_moment told);
+      unset = λ is. call.unset (kept.unset is);
       size = call.size ∙ kept.size;
       faults = omega (arith, kept.faults, call.faults);
     }

@@ -13,6 +13,7 @@ loop-number-init g c = record {
   moments = λ told safe content is stands has.
       passes_none (Holds c.args.shape safe content) _ _ (stands_holds c.args.shape safe content (present (g.D.Disk.timeline c.args.disk.now)) stands has);
   written = λ told b lt. absurd (omega arith);
+  unset = λ is. is;
   size = refl;
   faults = omega arith;
 }
@@ -39,6 +40,7 @@ loop-number-preserved g c =
           call.elsewhere told (next_place shape c.args.table.now c.args.file b) (next_apart shape c.args.table.now c.args.file b number here there ne)
           ∙ kept.written told b lt)
           (c.in-Done.ensures.written told refl ∙ (c.copy_from_slice.ensures.after ∙ ap (λ (n : ℕ). take n (drop (number * 4096) c.args.bytes.now)) wide));
+      unset = λ is. call.unset (kept.unset is);
       size = call.size ∙ kept.size;
       faults = omega (arith, kept.faults, call.faults);
     }

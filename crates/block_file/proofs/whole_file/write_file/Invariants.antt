@@ -1,3 +1,4 @@
+use Rattle.disk_model.specs.declared.fuse.Fuse.TheVariants.{Unset}
 use Rattle.std.proofs.Common.{◌≡◌, ℕ, ◌<◌, ◌≤◌, List}
 use Rattle.disk_model.specs.Elapsed.{present, contents}
 use Rattle.disk_model.specs.Passes.{Passes}
@@ -14,6 +15,7 @@ invariant-loop-number g l = record {
       → Stands l.shape safe (present (g.D.Disk.timeline l.initial.disk)) → HasContent l.shape safe.tables content (contents (g.D.Disk.timeline l.initial.disk))
       → Passes (g.D.Disk.fuse l.initial.disk) (g.D.Disk.fuse l.disk) (g.D.Disk.timeline l.initial.disk) (g.D.Disk.timeline l.disk) (Holds l.shape safe content);
   written : g.D.Disk.Told → (b : ℕ) → b < l.number → contents (g.D.Disk.timeline l.disk) (next_place l.shape l.table l.file b) ≡ piece_of l.bytes b;
+  unset : g.D.Disk.fuse l.initial.disk ≡ Unset → g.D.Disk.fuse l.disk ≡ Unset;
   size : g.D.Disk.size l.disk ≡ g.D.Disk.size l.initial.disk;
   faults : g.D.Disk.faults l.initial.disk ≤ g.D.Disk.faults l.disk;
 }

@@ -6,7 +6,7 @@ use Rattle.disk_model.specs.Passes.{Passes, passes_only}
 use Rattle.block_file.specs.Layout.{size_in, change_in}
 use Rattle.block_file.specs.Blocks.{Safe, Holds, with_table, with_bytes}
 use Rattle.block_file.specs.Held.{Held, no_held}
-use Rattle.block_file.specs.Opened.{Opened, MayBeLeft, homes_by, StandsFor, SameOpening, volume_of, IsOpen}
+use Rattle.block_file.specs.Opened.{Opened, MayBeLeft, homes_by, turned, StandsFor, SameOpening, volume_of, IsOpen}
 use Rattle.block_file.proofs.Openings.{content_of, safe_of, file_there, open_committed, open_failed, open_set, volume_set, leaves_either, commit_is, fail_commit_is, failed_is, same_opening}
 use Rattle.block_file.proofs.volume.Volume.commit.Goals as goal
 
@@ -366,3 +366,16 @@ returns-in-Done-clause-opening g c =
     let later = contents (g.D.Disk.timeline c.commit_file.new.disk) in
     subst (λ (w : Opened g.row.D.Denot). SameOpening w.volume (volume_of v.shape v.boot v.writes v.broken v.doubt held after later)) c.self.view_is
     (same_opening v.shape v.boot v.writes v.writes v.broken v.broken v.doubt v.doubt held held tables after s.reads later)
+
+pub returns-in-Done-clause-homes : goal.returns-in-Done-clause-homes
+returns-in-Done-clause-homes g c = λ done.
+    let v = c.self.inside in
+    let file = c.args.file in
+    let held : ℕ → Held = λ j. slice_index_or v.held.items j no_held in
+    let tables : ℕ → List ℕ = λ j. slice_index_or v.tables.items j [] in
+    let image = contents (g.D.Disk.timeline v.disk) in
+    let there : file ≤ v.shape.files = file_there v.shape v.boot v.writes v.broken v.doubt held tables image file (rw (← c.self.view_is) at c.requires.there) in
+    let hlt : file < length v.homes.items = omega (arith, there, c.self.invariant.0) in
+    let was : c.index.result.now ≡ homes_by v.homes.items file = get_or_read v.homes.items _ _ hlt c.index.ensures 0 in
+    subst (λ (w : Opened g.row.D.Denot). set v.homes.items file c.commit_file.new.home ≡ turned w.homes file) c.self.view_is
+    (ap (set v.homes.items file) (c.in-Done.ensures.turned refl ∙ ap (λ n. 1 - n) was))

@@ -16,8 +16,8 @@ index-requires g c =
     let there : file ≤ v.shape.files = file_there v.shape v.boot v.writes v.broken v.doubt held tables image file (rw (← c.self.view_is) at c.requires.there) in
     omega (arith, there, c.self.invariant.0)
 
-pub returns : goal.returns
-returns g c =
+pub returns-clause-home : goal.returns-clause-home
+returns-clause-home g c =
     let v = c.self.inside in
     let file = c.args.file in
     let held : ℕ → Held = λ j. slice_index_or v.held.items j no_held in
@@ -26,3 +26,15 @@ returns g c =
     let there : file ≤ v.shape.files = file_there v.shape v.boot v.writes v.broken v.doubt held tables image file (rw (← c.self.view_is) at c.requires.there) in
     let hlt : file < length v.homes.items = omega (arith, there, c.self.invariant.0) in
     subst (λ (w : Opened g.row.D.Denot). c.index.result.now ≡ homes_by w.homes file) c.self.view_is (get_or_read v.homes.items _ _ hlt c.index.ensures 0)
+
+pub returns-clause-two : goal.returns-clause-two
+returns-clause-two g c =
+    let v = c.self.inside in
+    let file = c.args.file in
+    let held : ℕ → Held = λ j. slice_index_or v.held.items j no_held in
+    let tables : ℕ → List ℕ = λ j. slice_index_or v.tables.items j [] in
+    let image = contents (g.D.Disk.timeline v.disk) in
+    let there : file ≤ v.shape.files = file_there v.shape v.boot v.writes v.broken v.doubt held tables image file (rw (← c.self.view_is) at c.requires.there) in
+    let hlt : file < length v.homes.items = omega (arith, there, c.self.invariant.0) in
+    let is : c.index.result.now ≡ homes_by v.homes.items file = get_or_read v.homes.items _ _ hlt c.index.ensures 0 in
+    omega (arith, is, c.self.invariant.3.two file there)
