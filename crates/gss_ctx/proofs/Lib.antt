@@ -4,3 +4,4 @@ pub mod OnceLemmas
 pub mod SealLemmas
 pub mod CredLemmas
 pub mod MessageLemmas
+pub mod EndLemmas

@@ -7,7 +7,8 @@ use Rattle.wire_xdr.specs.Cursor.{IsBytes}
 use Rattle.wire_xdr.specs.Form.{Spells}
 use Rattle.wire_xdr.specs.Words.{word_bytes, opaque_bytes}
 use Rattle.wire_xdr.specs.All.{value_of}
-use Rattle.wire_xdr.specs.AllLaws.{value_spelled}
+use Rattle.std.specs.Result.{result_ok}
+use Rattle.wire_xdr.specs.AllLaws.{value_spelled, spelled_all}
 use Rattle.wire_xdr.specs.LengthLaws.{word_length}
 use Rattle.gss_ctx.specs.Seals.{sealed_body, two_opaques, payload_of, unsealed}
 
@@ -19,7 +20,7 @@ pub word_behind : (seq : ℕ) (bytes : List ℕ) → drop 4 (word_bytes seq ++ b
 unfolding word_bytes
 word_behind seq bytes = refl
 
-same_bytes : (xs : List ℕ) → bytes_eq xs xs ≡ true
+pub same_bytes : (xs : List ℕ) → bytes_eq xs xs ≡ true
 same_bytes xs = (bytes_eq-Decides xs xs).1 refl
 
 both_hold : (a b : Bool) (x y : List ℕ) → (if b then (if a then Some x else None) else None) ≡ Some y → (a ≡ true) × (b ≡ true) × (x ≡ y)
@@ -49,16 +50,16 @@ told : (code : List ℕ → List ℕ) (seq : ℕ) (carried : List ℕ) → paylo
 told code seq carried =
     rw (same_bytes (code (word_bytes seq ++ carried)), word_front seq carried, same_bytes (word_bytes seq), word_behind seq carried) refl
 
-carried_by : (code : List ℕ → List ℕ) (seq : ℕ) (body carried : List ℕ) → ((bytes : List ℕ) → length (code bytes) ≡ 32) → IsBytes body → length carried + 4 < 4294967296
+pub carried_by : (code : List ℕ → List ℕ) (seq : ℕ) (body carried : List ℕ) → ((bytes : List ℕ) → length (code bytes) ≡ 32) → length carried + 4 < 4294967296
     → body ≡ sealed_body code seq carried → unsealed code seq body ≡ Some carried
 unfolding unsealed two_opaques
-carried_by code seq body carried sized fits small e =
+carried_by code seq body carried sized small e =
     let text = word_bytes seq ++ carried in
     let p : List ℕ × List ℕ = (text, code text) in
     let short : length text ≤ 4294967295 = omega (arith, length-append (word_bytes seq) carried, word_length seq) in
-    let whole : value_of two_opaques body ≡ Some p = (value_spelled two_opaques p body fits).1 ((short, omega (arith, sized text)), e) in
+    let whole : value_of two_opaques body ≡ Some p = ap result_ok (spelled_all two_opaques p body ((short, omega (arith, sized text)), e)) in
     ap (payload_of code seq) whole ∙ told code seq carried
 
 pub sealed_is : (code : List ℕ → List ℕ) (seq : ℕ) (body carried : List ℕ) → ((bytes : List ℕ) → length (code bytes) ≡ 32) → IsBytes body → length carried + 4 < 4294967296
     → (unsealed code seq body ≡ Some carried) ↔ (body ≡ sealed_body code seq carried)
-sealed_is code seq body carried sized fits small = (λ h. carries code seq body carried fits h, λ e. carried_by code seq body carried sized fits small e)
+sealed_is code seq body carried sized fits small = (λ h. carries code seq body carried fits h, λ e. carried_by code seq body carried sized small e)

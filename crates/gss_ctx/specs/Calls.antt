@@ -1,6 +1,7 @@
 -- The initiating side of a context: the calls it seals (RFC 2203 section 5.3).
 use Rattle.std.specs.Prelude.{◌≡◌, ℕ, ◌+◌, List, [], ◌++◌, Option, None, Some}
 use Rattle.nfs_base.specs.declared.seal.End.{End}
+use Rattle.nfs_base.specs.declared.seal.Seal.{Seal}
 use Rattle.rpc_msg.specs.Heads.{call}
 use Rattle.rpc_msg.specs.GssCred.{gss_cred}
 use Rattle.rpc_msg.specs.declared.auth.Auth.{Auth}
@@ -8,6 +9,7 @@ use Rattle.rpc_msg.specs.declared.call.CallHead.{CallHead}
 use Rattle.rpc_msg.specs.declared.gss_cred.GssCred.{GssCred}
 use Rattle.gss_ctx.specs.declared.caller.Sealed.{Sealed}
 use Rattle.gss_ctx.specs.Seals.{Mic, header_of, code_auth, sealed_body, reply_code}
+use Rattle.gss_ctx.specs.Table.{boot_named, number_named}
 
 -- whose context this is, its handle and its key, and the number of the next call
 pub record Side : Type 0 where
@@ -15,6 +17,10 @@ pub record Side : Type 0 where
   pub handle : List ℕ
   pub key : List ℕ
   pub next : ℕ
+
+-- the seal of a number under the context of this side
+abbrev pub seal_of : Side → ℕ → Seal
+seal_of side seq = record { owner = side.owner; boot = boot_named side.handle; number = number_named side.handle; seq = seq }
 
 -- no verifier, and a credential of flavor 6
 abbrev pub none_auth : Auth

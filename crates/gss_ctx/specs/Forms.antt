@@ -1,6 +1,7 @@
 -- The arguments and results of INIT (RFC 2203 section 5.2.2) and CREATE (own framing of RFC 7861 section 2.7).
 use Rattle.std.specs.Prelude.{ℕ, List, [], ◌∷◌, refl}
 use Rattle.std.proofs.Common.{lit<}
+use Rattle.nfs_base.specs.declared.limits.TheConstants.{NAME_LIMIT, PRIVILEGE_LIMIT, TOKEN_LIMIT}
 use Rattle.wire_xdr.specs.Form.{Form}
 use Rattle.wire_xdr.specs.Arms.{Case, ArmOf, IsListed, arm, holds}
 use Rattle.wire_xdr.specs.Forms.{word, opaque, both, seen_as, union}
@@ -11,6 +12,11 @@ use Rattle.gss_ctx.specs.declared.create.CreateResult.{CreateResult}
 -- bytes without a limit of their own
 abbrev pub bytes : Form (List ℕ)
 bytes = opaque 4294967295 (lit< tt)
+
+-- ---- the argument of INIT: a token
+
+unfoldable pub init_token : Form (List ℕ)
+init_token = opaque TOKEN_LIMIT (lit< tt)
 
 -- ---- the result of INIT: handle, major and minor status, window, token
 
@@ -26,7 +32,7 @@ abbrev pub CreateFields : Type 0
 CreateFields = List ℕ × List ℕ
 
 abbrev pub create_fields : Form CreateFields
-create_fields = both (opaque 64 (lit< tt)) (opaque 2048 (lit< tt))
+create_fields = both (opaque NAME_LIMIT (lit< tt)) (opaque PRIVILEGE_LIMIT (lit< tt))
 
 abbrev pub kind_case : CreateFields → Case CreateFields
 kind_case v = holds 1 create_fields (λ fields. fields) v

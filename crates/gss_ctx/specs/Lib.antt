@@ -8,3 +8,4 @@ pub mod Calls
 pub mod Forms
 pub mod Init
 pub mod Replies
+pub mod Ends

@@ -1,5 +1,6 @@
 -- The contexts of an acceptor, and what each call does to them (RFC 2203, RFC 7861).
-use Rattle.std.specs.Prelude.{ℕ, ◌+◌, ◌-◌, ◌==◌, ◌||◌, ◌&&◌, Bool, false, not, nat_lt, nat_le, if◌then◌else◌, List, [], ◌∷◌, ◌++◌, filter, find, fold, count_by, min, is_none, bytes_eq, Option, Some, None, option_map}
+use Rattle.std.specs.Prelude.{ℕ, ◌+◌, ◌-◌, ◌==◌, ◌||◌, ◌&&◌, Bool, false, not, nat_lt, nat_le, if◌then◌else◌, List, [], ◌∷◌, ◌++◌, take, drop, filter, find, fold, count_by, min, is_none, bytes_eq, Option, Some, None, option_map}
+use Rattle.std.specs.Int.{w32, from_be_bytes}
 use Rattle.nfs_base.specs.declared.seal.End.{End}
 use Rattle.wire_xdr.specs.Words.{word_bytes}
 use Rattle.gss_ctx.specs.declared.context.Context.{Context}
@@ -16,6 +17,13 @@ pub record Table (P : Type 0) : Type 0 where
 -- a handle is the boot and the context's number (own profile)
 abbrev pub handle_of : ℕ → ℕ → List ℕ
 handle_of boot number = word_bytes boot ++ word_bytes number
+
+-- the boot and the number that a handle names
+abbrev pub boot_named : List ℕ → ℕ
+boot_named handle = from_be_bytes w32 (take 4 handle)
+
+abbrev pub number_named : List ℕ → ℕ
+number_named handle = from_be_bytes w32 (drop 4 handle)
 
 -- it admitted something in the last 3,600 seconds, or was made in them
 abbrev pub is_live : {P : Type 0} → ℕ → Entry P → Bool

@@ -1,17 +1,19 @@
 ghost use Rattle.std.specs.Prelude.{◌≡◌, ◌≤◌, ◌++◌, length, IfOk};
+ghost use Rattle.wire_xdr.specs.All.{value_of};
 ghost use Rattle.wire_xdr.specs.Words.{opaque_bytes};
 ghost use Rattle.rpc_msg.specs.Heads.{call};
-ghost use Rattle.gss_ctx.specs.Forms.{init_result};
+ghost use Rattle.gss_ctx.specs.Forms.{init_token, init_result};
 ghost use Rattle.gss_ctx.specs.Init.{init_head, init_message};
 ghost use Rattle.gss_ctx.specs.Replies.{begun_of, begun_with};
 
 use crate::caller::call_head;
 use crate::sealing::{ACCEPTOR, is_code};
 use gss_mech::Mechanism;
+use nfs_base::TOKEN_LIMIT;
 use outcome::Mem;
 use rpc_msg::{Auth, Denial, ReplyHead, Stat, read_reply};
 use std::alloc::Global;
-use wire_xdr::{Octets, ReadError, Reader, Writer, Xdr, read_all};
+use wire_xdr::{Octets, ReadError, Reader, Writer, Xdr, read_all, write_all};
 
 /// What became of INIT.
 #[derive(Debug, Drop)]
@@ -63,9 +65,40 @@ impl Xdr for InitResult {
     }
 }
 
+/// Reads the argument of INIT, a token of at most 4,096 bytes. None exactly where all of the bytes don't
+/// spell one.
+#[tactic(auto, unfolding(crate::specs::Forms::init_token, wire_xdr::specs::All::all_of, wire_xdr::specs::WordReads::opaque_read))]
+pub fn read_init(alloc: Global, args: &[u8]) -> Mem<Option<Octets>>
+    ensures { IfOk result (λ told. told ≡ value_of init_token args.now) }
+{
+    let mut reader = Reader::new(args);
+    let Ok(token) = reader.opaque(TOKEN_LIMIT) else {
+        return Ok(None);
+    };
+    if !reader.rest().is_empty() {
+        return Ok(None);
+    }
+    Ok(Some(Octets::from_slice(alloc, token)?))
+}
+
+/// Spells the result of INIT.
+pub fn write_init_result(alloc: Global, result_: &InitResult) -> Mem<Octets>
+    requires { init_result.Fits result_.now }
+    ensures { IfOk result (λ body. body ≡ init_result.spell result_.now) }
+{
+    write_all(alloc, result_)
+}
+
+/// Reads the result of INIT. None exactly where all of the bytes don't spell one.
+pub fn read_init_result(alloc: Global, body: &[u8]) -> Mem<Option<InitResult>>
+    ensures { IfOk result (λ told. told ≡ value_of init_result body.now) }
+{
+    Ok(read_all(alloc, body)?.ok())
+}
+
 /// The call INIT to program 100003, version 4, with a token of at most 4,096 bytes.
 pub fn init_call(alloc: Global, xid: u32, token: &[u8]) -> Mem<Octets>
-    requires { length token.now ≤ 4096 }
+    requires { length token.now ≤ TOKEN_LIMIT }
     ensures { IfOk result (λ message. message ≡ init_message xid token.now) }
 {
     let head = call_head(alloc, xid, 0, 1)?;
@@ -104,7 +137,7 @@ pub fn init_reply<M: Mechanism>(
             if stat != Stat::Success {
                 return Ok(Begun::Failed(stat));
             }
-            let made = read_all::<InitResult>(alloc, &record_[body..])?.ok();
+            let made = read_init_result(alloc, &record_[body..])?;
             Ok(made_by(principal, nonce, &verf, made, mech))
         }
         ReplyHead::Denied { xid: of, why } => {

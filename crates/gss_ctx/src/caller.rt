@@ -2,16 +2,17 @@ ghost use Rattle.std.specs.Prelude.{◌≡◌, ◌<◌, ◌≤◌, ◌^◌, leng
 ghost use Rattle.rpc_msg.specs.Heads.{call};
 ghost use Rattle.rpc_msg.specs.GssCred.{gss_cred};
 ghost use Rattle.gss_ctx.specs.Seals.{cred_of};
-ghost use Rattle.gss_ctx.specs.Calls.{Side, call_cred, with_cred, verified, sealed_call, Seals, cred_auth};
+ghost use Rattle.gss_ctx.specs.Calls.{Side, seal_of, call_cred, with_cred, verified, sealed_call, Seals, cred_auth};
 ghost use Rattle.gss_ctx.specs.Init.{asked_head, asked_cred};
 ghost use Rattle.gss_ctx.specs.Replies.{checked_of};
 
+use crate::contexts::named_by;
 use crate::sealing::{
     ACCEPTOR, GSS, INITIATOR, code_auth, is_code, read_cred, reply_code, seal_message, unsealed,
     write_header,
 };
 use gss_mech::Mechanism;
-use nfs_base::End;
+use nfs_base::{End, Seal};
 use outcome::Mem;
 use rpc_msg::{Auth, CallHead, Denial, GssCred, ReplyHead, Stat, read_reply};
 use std::alloc::Global;
@@ -115,6 +116,19 @@ impl Caller {
             handle,
             key,
             next: 1,
+        }
+    }
+
+    /// The seal of a sequence number under this context, which is that of the contexts that made it.
+    pub fn seal(&self, seq: u32) -> Seal
+        ensures { result ≡ seal_of self.now seq }
+    {
+        let (boot, number) = named_by(&self.handle);
+        Seal {
+            owner: self.owner,
+            boot,
+            number,
+            seq,
         }
     }
 

@@ -1,6 +1,6 @@
 ghost use Rattle.std.specs.Prelude.{◌≡◌, ◌<◌, [], IfOk, OnOk, OnErr, count_by, filter};
 ghost use Rattle.std.specs.Option.{option_copied};
-ghost use Rattle.gss_ctx.specs.Table.{Table, handle_of, is_live, is_full, entry_of, context_of, lower_live, lowest_above, is_kept, destroyed, with_new};
+ghost use Rattle.gss_ctx.specs.Table.{Table, handle_of, boot_named, number_named, is_live, is_full, entry_of, context_of, lower_live, lowest_above, is_kept, destroyed, with_new};
 
 use crate::context::{Context, Entry};
 use crate::window::Window;
@@ -57,6 +57,13 @@ impl<P> Contexts<P> {
             number,
             seq,
         }
+    }
+
+    /// The handle of the context of a number.
+    pub fn handle(&self, number: u32) -> [u8; 8]
+        ensures { result ≡ handle_of self.now.boot number }
+    {
+        handle_of(self.boot, number)
     }
 
     /// The context of a number. None exactly where none has it.
@@ -190,10 +197,22 @@ fn is_kept<P>(entry: &Entry<P>, number: u32) -> bool
 
 /// The handle of a context: the boot and the number.
 #[tactic(auto, unfolding(wire_xdr::specs::Words::word_bytes))]
-pub(crate) fn handle_of(boot: u32, number: u32) -> [u8; 8]
+pub fn handle_of(boot: u32, number: u32) -> [u8; 8]
     ensures { result ≡ handle_of boot number }
 {
     let [a, b, c, d] = boot.to_be_bytes();
     let [e, f, g, h] = number.to_be_bytes();
     [a, b, c, d, e, f, g, h]
+}
+
+/// The boot and the number that a handle names.
+pub fn named_by(handle: &[u8; 8]) -> (u32, u32)
+    ensures boot { result.0 ≡ boot_named handle.now }
+    ensures number { result.1 ≡ number_named handle.now }
+{
+    let [a, b, c, d, e, f, g, h] = *handle;
+    (
+        u32::from_be_bytes([a, b, c, d]),
+        u32::from_be_bytes([e, f, g, h]),
+    )
 }

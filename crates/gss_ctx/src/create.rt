@@ -2,6 +2,7 @@ ghost use Rattle.std.specs.Prelude.{◌≡◌, ◌≤◌, length, IfOk, MatchOpt
 ghost use Rattle.wire_xdr.specs.All.{value_of};
 ghost use Rattle.gss_ctx.specs.Forms.{create, create_result};
 
+use nfs_base::{NAME_LIMIT, PRIVILEGE_LIMIT};
 use outcome::Mem;
 use std::alloc::Global;
 use wire_xdr::{Octets, ReadError, Reader, Writer, Xdr, read_all, write_all};
@@ -27,8 +28,8 @@ impl Xdr for Create {
             return Err(ReadError::at(kind));
         }
         Ok(Create {
-            name: Octets::parse(alloc, reader, 64)?,
-            privilege: Octets::parse(alloc, reader, 2048)?,
+            name: Octets::parse(alloc, reader, NAME_LIMIT)?,
+            privilege: Octets::parse(alloc, reader, PRIVILEGE_LIMIT)?,
         })
     }
 
@@ -72,8 +73,8 @@ impl Xdr for CreateResult {
 /// Spells the argument of CREATE: a name of at most 64 bytes and a privilege of at most 2,048.
 #[tactic(auto, unfolding(crate::specs::Forms::create))]
 pub fn write_create(alloc: Global, name: &[u8], privilege: &[u8]) -> Mem<Octets>
-    requires name { length name.now ≤ 64 }
-    requires privilege { length privilege.now ≤ 2048 }
+    requires name { length name.now ≤ NAME_LIMIT }
+    requires privilege { length privilege.now ≤ PRIVILEGE_LIMIT }
     ensures { IfOk result (λ args. args ≡ create.spell (record { name = name.now; privilege = privilege.now })) }
 {
     let create = Create {

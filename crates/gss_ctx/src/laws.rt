@@ -1,7 +1,15 @@
-ghost use Rattle.std.specs.Prelude.{◌≡◌, ◌≢◌, ◌↔◌, ◌<◌, ◌+◌, ℕ, List, [], length, Some};
+ghost use Rattle.std.specs.Prelude.{◌≡◌, ◌≢◌, ◌↔◌, ◌<◌, ◌+◌, ℕ, List, [], length, Some, Ok};
 ghost use Rattle.nfs_base.specs.declared.seal.End.{End};
+ghost use Rattle.rpc_msg.specs.Heads.{call};
+ghost use Rattle.rpc_msg.specs.declared.call.CallHead.{CallHead};
+ghost use Rattle.rpc_msg.specs.declared.gss_cred.GssCred.{GssCred};
 ghost use Rattle.wire_xdr.specs.Cursor.{IsBytes};
-ghost use Rattle.gss_ctx.specs.Seals.{sealed_body, unsealed};
+ghost use Rattle.gss_ctx.specs.declared.context.Entry.{Entry};
+ghost use Rattle.gss_ctx.specs.declared.caller.Checked.TheVariants.{Result};
+ghost use Rattle.gss_ctx.specs.Calls.{Side, sealed_of};
+ghost use Rattle.gss_ctx.specs.Ends.{IsOpenTo, next_head, sent_head, verdict_on, admission};
+ghost use Rattle.gss_ctx.specs.Replies.{checked_of};
+ghost use Rattle.gss_ctx.specs.Seals.{sealed_body, unsealed, sealed_reply};
 ghost use Rattle.gss_ctx.specs.Table.{Table};
 ghost use Rattle.gss_ctx.specs.Once.{Event, after, after_all, admits, IsNumbered, IsShut};
 
@@ -25,4 +33,16 @@ pub fn admitted_once<P, M: Mechanism>()
 pub fn sealed_once<M: Mechanism>()
     ensures { (key body carried : List ℕ) (side seq : ℕ) → IsBytes body → length carried + 4 < 4294967296 →
         (unsealed (M.mic_of key side) seq body ≡ Some carried) ↔ (body ≡ sealed_body (M.mic_of key side) seq carried) }
+{}
+
+/// The two ends of a context take what each other seals. What [`Caller::seal_call`](crate::Caller::seal_call)
+/// gives is read as a call and admitted by contexts that have its context, its key and its number yet to come;
+/// what [`Contexts::seal_reply`](crate::Contexts::seal_reply) gives for the head that was read is the result
+/// that the caller awaits.
+pub fn ends_meet<P, M: Mechanism>()
+    ensures call { (now : ℕ) (table : Table P) (side : Side) (head : CallHead) (asked : GssCred) (args : List ℕ) (entry : Entry P)
+        → IsOpenTo now table side asked entry → call.Fits head → length args + 4 < 4294967296
+        → verdict_on M.mic_of now (sealed_of M.mic_of side (next_head side head asked) args).bytes table ≡ Ok (admission entry.number side.next args) }
+    ensures reply { (side : Side) (head : CallHead) (asked : GssCred) (args result_ : List ℕ) → call.Fits head → length result_ + 4 < 4294967296
+        → checked_of M.mic_of side.key (sealed_of M.mic_of side (next_head side head asked) args).awaited (sealed_reply M.mic_of side.key (sent_head M.mic_of side head asked) side.next result_) ≡ Result result_ }
 {}

@@ -21,12 +21,14 @@ mod sealing;
 mod window;
 
 pub use admit::{Admit, Why};
-pub use begin::{Begun, init_call, init_reply};
+pub use begin::{
+    Begun, InitResult, init_call, init_reply, read_init, read_init_result, write_init_result,
+};
 pub use caller::{Awaited, Caller, Checked, Sealed, call_head};
 pub use context::Context;
-pub use contexts::Contexts;
+pub use contexts::{Contexts, handle_of, named_by};
 pub use create::{
     CreateResult, read_create, read_create_result, write_create, write_create_result,
 };
-pub use laws::{admitted_once, sealed_once};
+pub use laws::{admitted_once, ends_meet, sealed_once};
 pub use making::Inited;

@@ -1,5 +1,6 @@
-ghost use Rattle.std.specs.Prelude.{◌≡◌, ◌<◌, ◌+◌, IfOk, OnErr, IsSome, is_some, replicate};
+ghost use Rattle.std.specs.Prelude.{◌≡◌, ◌<◌, ◌≤◌, ◌+◌, IfOk, OnErr, IsSome, is_some, replicate};
 ghost use Rattle.std.specs.Option.{option_copied};
+ghost use Rattle.outcome.specs.Causes.{Rose};
 ghost use Rattle.gss_ctx.specs.Table.{handle_of, is_full, root_of, with_new};
 ghost use Rattle.gss_ctx.specs.Making.{Inits, Adds, MakesChild, callback_context};
 
@@ -40,7 +41,7 @@ pub enum Inited {
 
 impl<P: Drop> Contexts<P> {
     /// Makes a context of a token, and takes out the dead ones. The token is tested first, then the table,
-    /// then the draw.
+    /// then the draw. The draws' count of faults never falls, and minor 1 comes only where it rose.
     #[tactic(auto, unfolding(wire_xdr::specs::Words::word_bytes))]
     pub fn init<M: Mechanism, W: Draws>(
         &mut self,
@@ -53,6 +54,9 @@ impl<P: Drop> Contexts<P> {
         requires { self.old.made < 4294967295 }
         ensures ok { IfOk result (λ answer. Inits M.mic_of (M.accepted mech.now token.now) W.gives now (M.accepted mech.now token.now (replicate 32 0)) self.old self.new draws.old draws.new answer) }
         ensures err { OnErr result (self.new ≡ self.old) }
+        ensures later { W.faults draws.old ≤ W.faults draws.new }
+        ensures drawn { IfOk result (λ answer. answer ≡ Inited.Refused 1 → Rose (W.faults draws.old) (W.faults draws.new)) }
+        ensures failing { W.failing draws.new ≡ W.failing draws.old }
     {
         if mech.accept(alloc, token, &[0; 32])?.is_none() {
             return Ok(Inited::Refused { minor: 3 });

@@ -1,10 +1,8 @@
 ghost use Rattle.std.specs.Prelude.{◌≡◌, ◌^◌, ◌-◌, ◌<◌};
 ghost use Rattle.gss_ctx.specs.Window.{none_seen, is_below, has, noted, seen_of};
 
+use nfs_base::WINDOW_SIZE;
 use std::marker::Model;
-
-/// How many numbers the window has.
-const SIZE: u32 = 128;
 
 /// The sequence numbers that a context has seen, as far back as its window reaches (RFC 2203 section
 /// 5.3.3.1). Contracts see the greatest, and of each number of the window whether it was seen.
@@ -37,7 +35,7 @@ impl Window {
     pub fn is_below(&self, number: u32) -> bool
         ensures { result ≡ is_below self.now number }
     {
-        u64::from(number) + 127 < u64::from(self.greatest)
+        u64::from(number) + u64::from(WINDOW_SIZE) <= u64::from(self.greatest)
     }
 
     /// Whether a number was seen and isn't below the window.
@@ -65,7 +63,7 @@ fn is_marked(greatest: u32, bits: u128, number: u32) -> bool
         return false;
     }
     let back = greatest - number;
-    if back >= SIZE {
+    if back >= WINDOW_SIZE {
         return false;
     }
     (bits >> back) % 2 == 1
@@ -77,13 +75,13 @@ fn after(greatest: u32, bits: u128, number: u32) -> (u32, u128)
 {
     if greatest < number {
         let by = number - greatest;
-        if by < SIZE {
+        if by < WINDOW_SIZE {
             return (number, (bits << by) | 1);
         }
         return (number, 1);
     }
     let back = greatest - number;
-    if back < SIZE {
+    if back < WINDOW_SIZE {
         return (greatest, bits | (1 << back));
     }
     (greatest, bits)
