@@ -1,14 +1,30 @@
-"""The programs under crates/ that the benchmarks time."""
+"""What the benchmarks share: the programs that they time, and how a run is timed. Nothing in them is a test: no
+time is compared with a bound."""
 
 import os
 import subprocess
 import sys
+import tempfile
+import time
+from typing import NamedTuple
 
 TOP = os.path.dirname(os.path.dirname(os.path.abspath(__file__)))
+NFSCOPY = os.path.join(TOP, "nfscopy")
+
+# The most bytes that the program reads as its input.
+INPUT_LIMIT = 16 * 1024 * 1024
+
+
+class Run(NamedTuple):
+    """What a run took and printed."""
+
+    seconds: float
+    peak_kib: int
+    printed: bytes
 
 
 def built(name):
-    """Proves and builds a program, and gives its path. Its own stored run is what `rt run` runs."""
+    """Proves and builds a program under crates/, and gives its path. Its own stored run is what `rt run` runs."""
     folder = os.path.join(TOP, "crates", name)
     program = os.path.join(folder, "out", name)
     with open(os.path.join(folder, "args"), encoding="utf-8") as words:
@@ -17,3 +33,33 @@ def built(name):
     if done.returncode != 0 or not os.path.exists(program):
         sys.exit(f"the build of {name} failed")
     return program
+
+
+def nfscopy(command):
+    """The words of a command of the program, which is built by a first run of it over no input."""
+    words = [NFSCOPY, command]
+    subprocess.run(words, stdin=subprocess.DEVNULL, stdout=subprocess.DEVNULL, check=True)
+    return words
+
+
+def timed(words, source=subprocess.DEVNULL):
+    """Runs a command over an open file, or over no input."""
+    with tempfile.TemporaryFile() as sink:
+        begun = time.monotonic()
+        child = subprocess.Popen(words, stdin=source, stdout=sink, stderr=subprocess.DEVNULL)
+        _, status, usage = os.wait4(child.pid, 0)
+        seconds = time.monotonic() - begun
+        child.returncode = os.waitstatus_to_exitcode(status)
+        if child.returncode != 0:
+            sys.exit(f"{words[0]} ended with {child.returncode}")
+        sink.seek(0)
+        return Run(seconds, usage.ru_maxrss, sink.read())
+
+
+def timed_over(words, text):
+    """Runs a command over a file of these bytes."""
+    with tempfile.NamedTemporaryFile() as file:
+        file.write(text)
+        file.flush()
+        with open(file.name, "rb") as source:
+            return timed(words, source)

@@ -1,25 +1,16 @@
 #!/usr/bin/env python3
 """Runs large schedules beside `cat` of as many bytes, and prints times, their ratio and the peak memory.
 
-The bytes are those of the schedule; for the copy they are those of the file that is copied. Nothing here is
-a test: no time is compared with a bound.
+The bytes are those of the schedule; for the copy they are those of the file that is copied.
 """
 
-import os
-import subprocess
-import sys
-import tempfile
-import time
-
-TOP = os.path.dirname(os.path.dirname(os.path.abspath(__file__)))
-PROGRAM = os.path.join(TOP, "nfscopy")
-LIMIT = 16 * 1024 * 1024
+from programs import INPUT_LIMIT, nfscopy, timed_over
 
 
 def peeks():
     """Close to a million short events, filled up to the limit of an input by a comment."""
     text = b"volume s 1 1\nvolume d 1 1\n" + b"peek d 1 0 1\n" * 999_998
-    return text + b"#" * (LIMIT - len(text) - 1) + b"\n"
+    return text + b"#" * (INPUT_LIMIT - len(text) - 1) + b"\n"
 
 
 def writes():
@@ -36,30 +27,14 @@ def copy():
     return text + b"work 1\n" * 1025 + b"status 1\npeek d 1 67108863 1\n"
 
 
-def timed(command, path):
-    """Seconds, and the peak memory in KiB, of a command with a file as its input."""
-    with open(path, "rb") as source, tempfile.TemporaryFile() as sink:
-        begun = time.monotonic()
-        child = subprocess.Popen(command, stdin=source, stdout=sink)
-        _, status, usage = os.wait4(child.pid, 0)
-        seconds = time.monotonic() - begun
-        if status != 0:
-            sys.exit(f"{command}: status {os.waitstatus_to_exitcode(status)}")
-        return seconds, usage.ru_maxrss
-
-
 def main():
-    subprocess.run([PROGRAM, "run"], stdin=subprocess.DEVNULL, stdout=subprocess.DEVNULL, check=True)
+    program = nfscopy("run")
     print(f"{'schedule':10} {'bytes':>10} {'cat':>8} {'nfscopy':>8} {'ratio':>7} {'peak KiB':>9}")
-    for name, text, size in (("peeks", peeks(), LIMIT), ("writes", writes(), LIMIT), ("copy", copy(), 64 << 20)):
-        with tempfile.NamedTemporaryFile() as schedule, tempfile.NamedTemporaryFile() as plain:
-            schedule.write(text)
-            schedule.flush()
-            plain.write(bytes(size))
-            plain.flush()
-            base, _ = timed(["cat"], plain.name)
-            seconds, peak = timed([PROGRAM, "run"], schedule.name)
-        print(f"{name:10} {size:10} {base:8.3f} {seconds:8.3f} {seconds / base:7.1f} {peak:9}")
+    rows = (("peeks", peeks(), INPUT_LIMIT), ("writes", writes(), INPUT_LIMIT), ("copy", copy(), 64 << 20))
+    for name, text, size in rows:
+        base = timed_over(["cat"], bytes(size)).seconds
+        ran = timed_over(program, text)
+        print(f"{name:10} {size:10} {base:8.3f} {ran.seconds:8.3f} {ran.seconds / base:7.1f} {ran.peak_kib:9}")
 
 
 if __name__ == "__main__":

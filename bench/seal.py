@@ -2,15 +2,12 @@
 """Answers READs of 64 KiB under a security context and takes such replies, beside bare SHA-256 over the same
 bytes, and prints the bytes that each goes through in a second, and the ratio to SHA-256.
 
-Each round runs all of them one after the other, and the fastest run of each counts. Nothing here is a test:
-no time is compared with a bound.
+Each round runs all of them one after the other, and the fastest run of each counts.
 """
 
-import subprocess
 import sys
-import time
 
-from programs import built
+from programs import built, timed
 
 SIZE = 65_536
 TIMES = 4096
@@ -18,14 +15,12 @@ ROUNDS = 5
 WORDS = ("hash", "serve", "check")
 
 
-def timed(program, word):
+def seconds_of(program, word):
     """Seconds that the program takes."""
-    begun = time.monotonic()
-    done = subprocess.run([program, str(TIMES), word], stdin=subprocess.DEVNULL, stdout=subprocess.PIPE, check=True)
-    seconds = time.monotonic() - begun
-    if done.stdout != f"{word} {TIMES * SIZE}\n".encode():
-        sys.exit(f"{word}: {done.stdout!r}")
-    return seconds
+    ran = timed([program, str(TIMES), word])
+    if ran.printed != f"{word} {TIMES * SIZE}\n".encode():
+        sys.exit(f"{word}: {ran.printed!r}")
+    return ran.seconds
 
 
 def main():
@@ -33,7 +28,7 @@ def main():
     best = dict.fromkeys(WORDS, float("inf"))
     for _ in range(ROUNDS):
         for word in WORDS:
-            best[word] = min(best[word], timed(program, word))
+            best[word] = min(best[word], seconds_of(program, word))
     print(f"{'':>5} {'B/s':>15} {'ratio':>7}")
     for word in WORDS:
         print(f"{word:>5} {TIMES * SIZE / best[word]:15,.0f} {best['hash'] / best[word]:7.3f}")

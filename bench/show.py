@@ -1,20 +1,12 @@
 #!/usr/bin/env python3
 """Shows large streams of recorded calls beside `cat` of the same bytes, and prints times and their ratio.
 
-Each stream has close to 16,777,216 bytes of record-marked calls. Nothing here is a test: no time is compared
-with a bound.
+Each stream has close to 16,777,216 bytes of record-marked calls.
 """
 
-import os
 import struct
-import subprocess
-import sys
-import tempfile
-import time
 
-TOP = os.path.dirname(os.path.dirname(os.path.abspath(__file__)))
-PROGRAM = os.path.join(TOP, "nfscopy")
-LIMIT = 16 * 1024 * 1024
+from programs import INPUT_LIMIT, nfscopy, timed_over
 
 
 def call(body):
@@ -30,7 +22,7 @@ def compound(operations):
 
 def filled(record):
     """As many of the record as an input holds."""
-    return record * (LIMIT // len(record))
+    return record * (INPUT_LIMIT // len(record))
 
 
 def writes():
@@ -49,25 +41,12 @@ def operations():
     return filled(call(compound([struct.pack(">I", 24)])))
 
 
-def timed(command, path):
-    """Seconds of a command with a file as its input."""
-    with open(path, "rb") as source, tempfile.TemporaryFile() as sink:
-        begun = time.monotonic()
-        status = subprocess.run(command, stdin=source, stdout=sink).returncode
-        if status != 0:
-            sys.exit(f"{command}: status {status}")
-        return time.monotonic() - begun
-
-
 def main():
-    subprocess.run([PROGRAM, "show"], stdin=subprocess.DEVNULL, stdout=subprocess.DEVNULL, check=True)
+    program = nfscopy("show")
     print(f"{'stream':12} {'bytes':>10} {'cat':>8} {'show':>8} {'ratio':>7}")
     for name, stream in (("writes", writes()), ("compounds", compounds()), ("operations", operations())):
-        with tempfile.NamedTemporaryFile() as recorded:
-            recorded.write(stream)
-            recorded.flush()
-            base = min(timed(["cat"], recorded.name) for _ in range(3))
-            shown = min(timed([PROGRAM, "show"], recorded.name) for _ in range(3))
+        base = min(timed_over(["cat"], stream).seconds for _ in range(3))
+        shown = min(timed_over(program, stream).seconds for _ in range(3))
         print(f"{name:12} {len(stream):10} {base:8.3f} {shown:8.3f} {shown / base:7.1f}")
 
 
