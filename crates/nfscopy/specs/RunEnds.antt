@@ -11,6 +11,7 @@ use Rattle.run_machine.specs.declared.choice.Choice.{Choice}
 use Rattle.run_machine.specs.History.{history}
 use Rattle.sched_run.specs.Blame.{failed_calls, size_in, Later}
 use Rattle.sched_run.specs.Fresh.{Small, first_small}
+use Rattle.sched_run.specs.declared.server.TheConstants.{SOURCE_TAG, DEST_TAG}
 use Rattle.sched_run.specs.Run.{run_text, last_state, small_text, due_text, DiskHolds}
 use Rattle.nfscopy.specs.declared.status.Status.{Status}
 use Rattle.nfscopy.specs.declared.status.Status.TheVariants.{Done, Usage, Refused, ReadFault, WriteFault, NoMemory, DiskFault, NoVolume}
@@ -58,8 +59,8 @@ small_of w before events = first_small (size_in w.size before.source) (size_in w
 pub record RunsWhole {D : Type 0} (w : DiskWords D) (before now : Outside D) (choices : List Choice) (events : List Event) : Type 0 where
   pub room : small_of w before events ≡ None
   pub puts : w.told → Appends before.taken now.taken (run_text choices events)
-  pub source : w.told → DiskHolds w.timeline w.size (last_state choices events).source now.source
-  pub dest : w.told → DiskHolds w.timeline w.size (last_state choices events).dest now.dest
+  pub source : w.told → DiskHolds w.timeline w.size SOURCE_TAG (last_state choices events).source now.source
+  pub dest : w.told → DiskHolds w.timeline w.size DEST_TAG (last_state choices events).dest now.dest
 
 -- a disk is too small: that one line is put
 pub record PutsSmall (small : Option Small) (taken now : Option (List ℕ)) : Type 0 where

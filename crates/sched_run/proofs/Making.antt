@@ -13,21 +13,24 @@ rest_then : (b : Bool) (at : ℕ) (rest : Option ℕ) → (if not b then Some at
 rest_then true at rest none = none
 rest_then false at rest none = let some : Some at ≡ None = none in absurd (cc)
 
-pub no_misfit : (v : Volume) (files blocks : ℕ) → misfit v files blocks ≡ None
-    → (length v.files ≡ files + 1) × (v.capacity ≡ blocks * 4096)
-no_misfit v files blocks none =
-    let long : Option ℕ = if not (v.capacity == blocks * 4096) then Some 12 else None in (
+pub no_misfit : (v : Volume) (has files blocks tag : ℕ) → misfit v has files blocks tag ≡ None
+    → (length v.files ≡ files + 1) × (v.capacity ≡ blocks * 4096) × (has ≡ tag)
+no_misfit v has files blocks tag none =
+    let tagged : Option ℕ = if not (has == tag) then Some 16 else None in
+    let long : Option ℕ = if not (v.capacity == blocks * 4096) then Some 12 else tagged in
+    let few = rest_then (length v.files == files + 1) 8 long none in (
       eqb-true _ _ (is_then (length v.files == files + 1) 8 long none),
-      eqb-true _ _ (is_then (v.capacity == blocks * 4096) 12 None (rest_then (length v.files == files + 1) 8 long none)),
+      eqb-true _ _ (is_then (v.capacity == blocks * 4096) 12 tagged few),
+      eqb-true _ _ (is_then (has == tag) 16 None (rest_then (v.capacity == blocks * 4096) 12 tagged few)),
     )
 
 none_then : (b : Bool) (at : ℕ) (rest : Option ℕ) → b ≡ true → rest ≡ None → (if not b then Some at else rest) ≡ None
 none_then true at rest is none = none
 none_then false at rest is none = absurd (cc)
 
-pub made_fits : (v : Volume) (files blocks : ℕ) → v ≡ formatted files (blocks * 4096) → misfit v files blocks ≡ None
-made_fits v files blocks is =
+pub made_fits : (v : Volume) (has files blocks tag : ℕ) → v ≡ formatted files (blocks * 4096) → has ≡ tag → misfit v has files blocks tag ≡ None
+made_fits v has files blocks tag is same =
     let count : length v.files ≡ files + 1 = ap (λ (w : Volume). length w.files) is ∙ length-replicate (files + 1) no_file in
     let capacity : v.capacity ≡ blocks * 4096 = ap (λ (w : Volume). w.capacity) is in
     none_then (length v.files == files + 1) 8 _ (eq-eqb _ _ count)
-    (none_then (v.capacity == blocks * 4096) 12 None (eq-eqb _ _ capacity) refl)
+    (none_then (v.capacity == blocks * 4096) 12 _ (eq-eqb _ _ capacity) (none_then (has == tag) 16 None (eq-eqb _ _ same) refl))

@@ -53,10 +53,10 @@ abbrev pub first_small : (source dest : ℕ) → List Event → Option Small
 first_small source dest [] = None
 first_small source dest (e ∷ es) = option_or (event_small source dest e) (first_small source dest es)
 
--- the byte of block 0 that must be off, where a volume isn't of this many files of this many blocks
-abbrev pub misfit : Volume → (files blocks : ℕ) → Option ℕ
-misfit v files blocks =
-    if not (length v.files == files + 1) then Some 8 else (if not (v.capacity == blocks * 4096) then Some 12 else None)
+-- the byte of block 0 that must be off, where a volume isn't of this many files of this many blocks, with this tag
+abbrev pub misfit : Volume → (has files blocks tag : ℕ) → Option ℕ
+misfit v has files blocks tag =
+    if not (length v.files == files + 1) then Some 8 else (if not (v.capacity == blocks * 4096) then Some 12 else (if not (has == tag) then Some 16 else None))
 
 -- A volume that was just made, on whatever disk.
 pub record IsMade (files blocks : ℕ) (v : Volume) : Type 0 where

@@ -7,7 +7,7 @@ use Rattle.sched_run.specs.declared.server.Server.{Server}
 use Rattle.sched_run.specs.declared.server.Server.TheVariants as server
 use Rattle.sched_run.specs.Blame.{Later, faults_in, size_in}
 use Rattle.sched_run.specs.Fresh.{IsMade, IsUnmade, small_for}
-use Rattle.sched_run.specs.System.{volume_in, disk_in}
+use Rattle.sched_run.specs.System.{volume_in, disk_in, HasTag}
 
 -- the server of a disk
 abbrev pub server_of : {D : Type 0} → Option D → Server D
@@ -27,8 +27,9 @@ HasMade files blocks (server.Disk disk) = ⊥
 HasMade files blocks (server.Volume v) = IsMade files blocks v.volume
 
 -- The volume was made on a disk that has room. One that tells what it holds has it as it was formatted.
-pub record Made {D : Type 0} (told : Type 0) (faults size : D → ℕ) (files blocks : ℕ) (old new : Server D) : Type 0 where
+pub record Made {D : Type 0} (told : Type 0) (faults size : D → ℕ) (files blocks tag : ℕ) (old new : Server D) : Type 0 where
   pub made : HasMade files blocks new
+  pub tag_is : HasTag tag new
   pub volume : told → volume_in new ≡ formatted files (blocks * 4096)
   pub fits : small_for (size_in size (disk_in old)) files blocks ≡ None
   pub later : Later faults size 0 (disk_in old) (disk_in new)
@@ -40,13 +41,14 @@ pub record Unmakes {D : Type 0} (told : Type 0) (faults size : D → ℕ) (files
   pub later : Later faults size 0 (disk_in old) (disk_in new)
 
 -- by the answer
-abbrev pub Makes : {D : Type 0} → (told : Type 0) → (faults size : D → ℕ) → (files blocks : ℕ) → Server D → Server D → Result (Unit {0}) Unmade → Type 0
-Makes told faults size files blocks old new (Ok done) = Made told faults size files blocks old new
-Makes told faults size files blocks old new (Err cause) = Unmakes told faults size files blocks old new cause
+abbrev pub Makes : {D : Type 0} → (told : Type 0) → (faults size : D → ℕ) → (files blocks tag : ℕ) → Server D → Server D → Result (Unit {0}) Unmade → Type 0
+Makes told faults size files blocks tag old new (Ok done) = Made told faults size files blocks tag old new
+Makes told faults size files blocks tag old new (Err cause) = Unmakes told faults size files blocks old new cause
 
 -- the same of a disk and of the volume on it
-pub record VolumeMade {D : Type 0} (told : Type 0) (faults size : D → ℕ) (files blocks : ℕ) (disk : D) (v : Opened D) : Type 0 where
+pub record VolumeMade {D : Type 0} (told : Type 0) (faults size : D → ℕ) (files blocks tag : ℕ) (disk : D) (v : Opened D) : Type 0 where
   pub made : IsMade files blocks v.volume
+  pub tag_is : v.tag ≡ tag
   pub volume : told → v.volume ≡ formatted files (blocks * 4096)
   pub fits : small_for (size disk) files blocks ≡ None
   pub later : faults disk ≤ faults v.disk

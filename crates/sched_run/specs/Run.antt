@@ -73,8 +73,8 @@ pub record RanOut (told : Type 0) (small : Option Small) (events : List Event) (
   pub choices : List Choice
   pub puts : told → AppendsFront old new (due_text small choices events)
 
--- What a crash now may leave of a disk is what may be left of this volume, where it is there.
-abbrev pub DiskHolds : {D : Type 0} → (D → Timeline) → (D → ℕ) → Volume → Option D → Type 0
-DiskHolds timeline size v disk =
-    0 < length v.files → IfSome disk (λ d. (tag : ℕ) × ((homes : ℕ → ℕ)
-    × ((image : Image) → MayLeave (present (timeline d)) image → MayBeLeft (size d) tag homes v image)))
+-- What a crash now may leave of a disk is what may be left of this volume with this tag, where it is there.
+abbrev pub DiskHolds : {D : Type 0} → (D → Timeline) → (D → ℕ) → ℕ → Volume → Option D → Type 0
+DiskHolds timeline size tag v disk =
+    0 < length v.files → IfSome disk (λ d. (homes : ℕ → ℕ)
+    × ((image : Image) → MayLeave (present (timeline d)) image → MayBeLeft (size d) tag homes v image))

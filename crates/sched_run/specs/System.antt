@@ -3,6 +3,7 @@ use Rattle.std.specs.Prelude.{◌≡◌, ℕ, ◌+◌, ◌≤◌, Option, None, 
 use Rattle.copy_model.specs.Volume.{Volume}
 use Rattle.sched_text.specs.declared.context.Context.{Context}
 use Rattle.sched_run.specs.declared.copying.Copying.{Copying}
+use Rattle.sched_run.specs.declared.server.TheConstants.{SOURCE_TAG, DEST_TAG}
 use Rattle.sched_run.specs.declared.server.Server.{Server}
 use Rattle.sched_run.specs.declared.server.Server.TheVariants as server
 use Rattle.sched_run.specs.Copy.{copying_of, CanWork}
@@ -48,6 +49,12 @@ HasWritten events server.Away = Unit {0}
 HasWritten events (server.Disk disk) = Unit {0}
 HasWritten events (server.Volume v) = v.volume.writes ≤ events
 
+-- the volume that is there has this tag
+abbrev pub HasTag : {D : Type 0} → ℕ → Server D → Type 0
+HasTag tag server.Away = Unit {0}
+HasTag tag (server.Disk disk) = Unit {0}
+HasTag tag (server.Volume v) = v.tag ≡ tag
+
 -- a copy works on the volumes that are there
 abbrev pub HasCopy : {D : Type 0} → Server D → Server D → Option Copying → Type 0
 HasCopy source dest None = Unit {0}
@@ -62,4 +69,6 @@ pub record IsSound {D : Type 0} (context : Context) (source dest : Server D) (co
   pub dest_files : HasFiles context.dest dest
   pub source_writes : HasWritten context.events source
   pub dest_writes : HasWritten context.events dest
+  pub source_tag : HasTag SOURCE_TAG source
+  pub dest_tag : HasTag DEST_TAG dest
   pub working : HasCopy source dest copy

@@ -33,6 +33,7 @@ pub fn client_writes<D: Disk>(
     ensures opening { SameOpening source.old.volume source.new.volume }
     ensures written { source.new.volume.writes ≤ source.old.volume.writes + 1 }
     ensures size { D.size source.new.disk ≡ D.size source.old.disk }
+    ensures tag { source.new.tag ≡ source.old.tag }
     ensures err { OnErr result (source.new ≡ source.old) }
 {
     let mut lines = Vec::with_capacity(alloc, 1)?;
@@ -58,6 +59,7 @@ fn client_write<D: Disk>(
     ensures opening { SameOpening source.old.volume source.new.volume }
     ensures written { source.new.volume.writes ≤ source.old.volume.writes + 1 }
     ensures size { D.size source.new.disk ≡ D.size source.old.disk }
+    ensures tag { source.new.tag ≡ source.old.tag }
 {
     match source.write(file, off, bytes) {
         Ok(()) => {
@@ -131,6 +133,7 @@ pub fn peek<D: Disk>(
     ensures opening { SameOpening volume.old.volume volume.new.volume }
     ensures written { volume.new.volume.writes ≡ volume.old.volume.writes }
     ensures size { D.size volume.new.disk ≡ D.size volume.old.disk }
+    ensures tag { volume.new.tag ≡ volume.old.tag }
 {
     let mut room = [0; 64];
     let shown = &mut room[..len as usize];

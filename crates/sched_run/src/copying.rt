@@ -109,6 +109,8 @@ impl Copying {
         ensures still { StillWorks source.old.volume source.new.volume dest.old.volume dest.new.volume self.new }
         ensures source_size { D.size source.new.disk ≡ D.size source.old.disk }
         ensures dest_size { D.size dest.new.disk ≡ D.size dest.old.disk }
+        ensures source_tag { source.new.tag ≡ source.old.tag }
+        ensures dest_tag { dest.new.tag ≡ dest.old.tag }
         ensures blamed { IfOk result (λ turn. Blamed turn.choice (D.faults source.old.disk) (D.faults source.new.disk) (D.faults dest.old.disk) (D.faults dest.new.disk)) }
     {
         if self.job.is_ended() {
@@ -138,6 +140,8 @@ impl Copying {
         ensures still { StillWorks source.old.volume source.new.volume dest.old.volume dest.new.volume self.new }
         ensures source_size { D.size source.new.disk ≡ D.size source.old.disk }
         ensures dest_size { D.size dest.new.disk ≡ D.size dest.old.disk }
+        ensures source_tag { source.new.tag ≡ source.old.tag }
+        ensures dest_tag { dest.new.tag ≡ dest.old.tag }
         ensures blamed { IfOk result (λ turn. Blamed turn.choice (D.faults source.old.disk) (D.faults source.new.disk) (D.faults dest.old.disk) (D.faults dest.new.disk)) }
     {
         if source.is_broken() {
@@ -172,6 +176,8 @@ impl Copying {
         ensures still { StillWorks source.old.volume source.new.volume dest.old.volume dest.new.volume self.new }
         ensures source_size { D.size source.new.disk ≡ D.size source.old.disk }
         ensures dest_size { D.size dest.new.disk ≡ D.size dest.old.disk }
+        ensures source_tag { source.new.tag ≡ source.old.tag }
+        ensures dest_tag { dest.new.tag ≡ dest.old.tag }
         ensures blamed { IfOk result (λ turn. Blamed turn.choice (D.faults source.old.disk) (D.faults source.new.disk) (D.faults dest.old.disk) (D.faults dest.new.disk)) }
     {
         let sized = Note::Sized {
@@ -207,6 +213,8 @@ impl Copying {
         ensures still { StillWorks source.old.volume source.new.volume dest.old.volume dest.new.volume self.new }
         ensures source_size { D.size source.new.disk ≡ D.size source.old.disk }
         ensures dest_size { D.size dest.new.disk ≡ D.size dest.old.disk }
+        ensures source_tag { source.new.tag ≡ source.old.tag }
+        ensures dest_tag { dest.new.tag ≡ dest.old.tag }
         ensures blamed { IfOk result (λ turn. Blamed turn.choice (D.faults source.old.disk) (D.faults source.new.disk) (D.faults dest.old.disk) (D.faults dest.new.disk)) }
     {
         match self.job.unlanded() {
@@ -237,6 +245,8 @@ impl Copying {
         ensures still { StillWorks source.old.volume source.new.volume dest.old.volume dest.new.volume self.new }
         ensures source_size { D.size source.new.disk ≡ D.size source.old.disk }
         ensures dest_size { D.size dest.new.disk ≡ D.size dest.old.disk }
+        ensures source_tag { source.new.tag ≡ source.old.tag }
+        ensures dest_tag { dest.new.tag ≡ dest.old.tag }
         ensures blamed { IfOk result (λ turn. Blamed turn.choice (D.faults source.old.disk) (D.faults source.new.disk) (D.faults dest.old.disk) (D.faults dest.new.disk)) }
     {
         let plan = self.job.plan();
@@ -278,6 +288,7 @@ impl Copying {
         ensures still { (source : Files) → CanWork source dest.old.volume self.old
             → StillWorks source source dest.old.volume dest.new.volume self.new }
         ensures size { D.size dest.new.disk ≡ D.size dest.old.disk }
+        ensures tag { dest.new.tag ≡ dest.old.tag }
         ensures blamed { IfOk result (λ turn. (n : ℕ) → Blamed turn.choice n n (D.faults dest.old.disk) (D.faults dest.new.disk)) }
     {
         let plan = self.job.plan();
@@ -317,6 +328,8 @@ impl Copying {
         ensures still { StillWorks source.old.volume source.new.volume dest.old.volume dest.new.volume self.new }
         ensures source_size { D.size source.new.disk ≡ D.size source.old.disk }
         ensures dest_size { D.size dest.new.disk ≡ D.size dest.old.disk }
+        ensures source_tag { source.new.tag ≡ source.old.tag }
+        ensures dest_tag { dest.new.tag ≡ dest.old.tag }
         ensures blamed { IfOk result (λ turn. Blamed turn.choice (D.faults source.old.disk) (D.faults source.new.disk) (D.faults dest.old.disk) (D.faults dest.new.disk)) }
     {
         let committed = Note::Committed {

@@ -36,7 +36,7 @@ pub fn make_volume<D: Disk + Drop>(
     requires few_blocks { blocks ≤ MOST_BLOCKS }
     requires room { files * blocks ≤ MOST_BLOCKS }
     ensures { IfOk result (λ answer. MatchResult answer
-        (λ volume. VolumeMade D.Told D.faults D.size files blocks disk volume)
+        (λ volume. VolumeMade D.Told D.faults D.size files blocks tag disk volume)
         (λ fault. VolumeUnmade D.Told D.faults D.size files blocks disk fault.0 fault.1)) }
 {
     let disk = match Volume::format(disk, files, blocks, tag)? {
@@ -47,7 +47,7 @@ pub fn make_volume<D: Disk + Drop>(
         Ok(volume) => volume,
         Err((disk, fault)) => return Ok(Err((disk, unopened(fault)))),
     };
-    match misfit(&volume, files, blocks) {
+    match misfit(&volume, files, blocks, tag) {
         None => Ok(Ok(volume)),
         Some(at) => Ok(Err((volume.hand_back(), Unmade::NotVolume { block: 0, at }))),
     }
@@ -74,14 +74,17 @@ fn unopened(fault: OpenFault) -> Unmade
 }
 
 // The byte of block 0 that isn't as it was written, where the volume isn't the one that was asked for.
-fn misfit<D: Disk>(volume: &Volume<D>, files: u32, blocks: u32) -> Option<u32>
-    ensures { result ≡ misfit volume.now.volume files blocks }
+fn misfit<D: Disk>(volume: &Volume<D>, files: u32, blocks: u32, tag: u64) -> Option<u32>
+    ensures { result ≡ misfit volume.now.volume volume.now.tag files blocks tag }
 {
     if volume.files() != files {
         return Some(8);
     }
     if volume.capacity() != u64::from(blocks) * BLOCK_SIZE {
         return Some(12);
+    }
+    if volume.tag() != tag {
+        return Some(16);
     }
     None
 }

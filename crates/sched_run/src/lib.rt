@@ -12,5 +12,5 @@ mod system;
 mod turn;
 
 pub use fresh::Unmade;
-pub use server::Disks;
+pub use server::{DEST_TAG, Disks, SOURCE_TAG};
 pub use system::{Ran, Stepped, System};

@@ -1,7 +1,7 @@
-ghost use Rattle.std.specs.Prelude.{◌≡◌, ◌*◌, ◌≤◌, IfOk, OnErr};
+ghost use Rattle.std.specs.Prelude.{◌≡◌, ℕ, ◌*◌, ◌≤◌, IfOk, OnErr};
 ghost use Rattle.sched_run.specs.Making.{server_of, HasDisk, Makes};
 ghost use Rattle.sched_run.specs.Run.{DiskHolds};
-ghost use Rattle.sched_run.specs.System.{volume_in, disk_in};
+ghost use Rattle.sched_run.specs.System.{volume_in, disk_in, HasTag};
 
 use crate::fresh::{Unmade, make_volume};
 use block_file::Volume;
@@ -10,6 +10,12 @@ use nfs_base::{MOST_BLOCKS, MOST_FILES};
 use outcome::Mem;
 use std::alloc::Global;
 use std::mem;
+
+/// The tag of the source's volume in a run.
+pub const SOURCE_TAG: u64 = 1;
+
+/// The tag of the destination's volume in a run.
+pub const DEST_TAG: u64 = 2;
 
 /// The disks of the two servers.
 #[derive(Drop)]
@@ -41,7 +47,7 @@ impl<D: Disk + Drop> Server<D> {
     /// The server's disk, which is the end of its volume.
     pub fn hand_back(self) -> Option<D>
         ensures disk { result ≡ disk_in self }
-        ensures holds { D.Told → DiskHolds D.timeline D.size (volume_in self) result }
+        ensures holds { D.Told → (tag : ℕ) → HasTag tag self → DiskHolds D.timeline D.size tag (volume_in self) result }
     {
         match self {
             Server::Away => None,
@@ -64,7 +70,7 @@ impl<D: Disk + Drop> Server<D> {
         requires some_blocks { 1 ≤ blocks }
         requires few_blocks { blocks ≤ MOST_BLOCKS }
         requires room { files * blocks ≤ MOST_BLOCKS }
-        ensures made { IfOk result (λ answer. Makes D.Told D.faults D.size files blocks self.old self.new answer) }
+        ensures made { IfOk result (λ answer. Makes D.Told D.faults D.size files blocks tag self.old self.new answer) }
         ensures away { OnErr result (self.new ≡ Server.Away) }
     {
         let Server::Disk(disk) = mem::replace(self, Server::Away) else {

@@ -7,22 +7,17 @@ ghost use Rattle.sched_text.specs.LineText.{lines_text};
 use crate::client::{client_writes, peek, progress, refusal};
 use crate::copying::{Copying, job_name};
 use crate::fresh::Unmade;
-use crate::server::{Disks, Server};
+use crate::server::{DEST_TAG, Disks, SOURCE_TAG, Server};
 use crate::turn::Turn;
 use disk_model::Disk;
 use nfs_base::{CopySpec, Note, Side};
 use outcome::Mem;
-use streams::{Sink, put_all};
 use run_machine::Choice;
 use sched_text::{Context, Event, Line, Schedule};
 use std::alloc::Global;
 use std::marker::Model;
+use streams::{Sink, put_all};
 use wire_xdr::Octets;
-
-// The tags of the two volumes of a run.
-const SOURCE_TAG: u64 = 1;
-
-const DEST_TAG: u64 = 2;
 
 /// How a run ended, want of memory aside.
 #[derive(Clone, Copy, Debug, PartialEq, Eq)]
@@ -74,6 +69,7 @@ impl<D: Disk + Drop> System<D> {
     ghost use Rattle.sched_text.specs.Admission.{admits, after};
     ghost use Rattle.sched_run.specs.Running.{at_rest, HasDisks, IsDone, StepIs};
     ghost use Rattle.sched_run.specs.Run.{DiskHolds};
+    ghost use Rattle.sched_run.specs.declared.server.TheConstants.{SOURCE_TAG, DEST_TAG};
 
     /// Before the first event: no volume is there.
     pub fn new(disks: Disks<D>) -> System<D>
@@ -91,8 +87,8 @@ impl<D: Disk + Drop> System<D> {
     pub fn hand_back(self) -> Disks<D>
         ensures source { result.source ≡ self.source }
         ensures dest { result.dest ≡ self.dest }
-        ensures source_holds { D.Told → DiskHolds D.timeline D.size self.state.source result.source }
-        ensures dest_holds { D.Told → DiskHolds D.timeline D.size self.state.dest result.dest }
+        ensures source_holds { D.Told → DiskHolds D.timeline D.size SOURCE_TAG self.state.source result.source }
+        ensures dest_holds { D.Told → DiskHolds D.timeline D.size DEST_TAG self.state.dest result.dest }
     {
         let System {
             context: _,
@@ -334,8 +330,8 @@ fn text_of(alloc: Global, lines: &[Line]) -> Mem<String>
 mod tests {
     use super::*;
     use disk_model::MemoryDisk;
-    use streams::MemSink;
     use std::test::Fail;
+    use streams::MemSink;
 
     #[test]
     fn copies_ten_bytes(rt: HostRuntime) -> Result<(), Fail> {

@@ -36,6 +36,7 @@ returns-in-Err g c =
       source_went = search rules;
       still = search rules;
       size = search rules;
+      tag = search rules;
       blamed = search rules;
     }
 
