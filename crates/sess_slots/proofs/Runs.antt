@@ -1,14 +1,12 @@
 -- What a run of calls on a slot executes.
-use Rattle.std.proofs.Common.{◌≡◌, ◌≢◌, ℕ, zero, suc, ◌+◌, ◌*◌, ◌<◌, ◌≤◌, ◌%◌, ◌/◌, ◌^◌, Bool, true, false, cond, List, [], ◌∷◌, length, get_or, Option, Some, None, refl, ap, sym, ◌∙◌, subst, add-zero, add-one, arith}
-use Rattle.std.specs.Prelude.{◌==◌, nat_eq, if◌then◌else◌, slice_index}
+use Rattle.std.proofs.Common.{◌≡◌, ℕ, zero, suc, ◌+◌, ◌<◌, ◌≤◌, ◌%◌, ◌^◌, Bool, true, false, List, [], ◌∷◌, length, Option, Some, None, refl, ap, sym, ◌∙◌, subst, add-zero, add-one, arith}
+use Rattle.std.specs.Prelude.{◌==◌, if◌then◌else◌, slice_index}
 use Rattle.std.proofs.lemmas.Bool.{eqb-true}
-use Rattle.std.proofs.lemmas.Grind.{common_steps}
-use Rattle.sess_slots.specs.declared.answers.Begin.{Begin}
-use Rattle.sess_slots.specs.declared.answers.Begin.TheVariants.{New, Replay, FalseRetry, BadSession, BadSlot, Misordered}
+use Rattle.sess_slots.specs.declared.answers.Begin.TheVariants.{New, Replay, FalseRetry, Misordered}
 use Rattle.sess_slots.specs.declared.answers.Place.{Place}
 use Rattle.sess_slots.specs.declared.slot.Slot.{Slot}
 use Rattle.sess_slots.specs.declared.slot.Kept.{Kept}
-use Rattle.sess_slots.specs.Slots.{next_number, begin_at, retry_at, after_reply}
+use Rattle.sess_slots.specs.Slots.{next_number, retry_at, after_reply}
 use Rattle.sess_slots.specs.Runs.{SlotCall, is_new, runs_call, after_call, executed}
 
 retry_not_new : (kept : Option Kept) (root : ℕ) (place : Place) → is_new (retry_at kept root place) ≡ false

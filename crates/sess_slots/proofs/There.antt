@@ -1,18 +1,17 @@
 -- The place that `begin` answers is there.
-use Rattle.std.proofs.Common.{◌≡◌, ℕ, ◌<◌, Bool, true, false, cond, List, [], ◌∷◌, Option, Some, None, refl, ap, sym, ◌∙◌, subst, arith}
+use Rattle.std.proofs.Common.{◌≡◌, ℕ, ◌<◌, Bool, true, false, List, [], ◌∷◌, Option, Some, None, refl, sym, subst, arith}
 use Rattle.std.specs.Prelude.{◌==◌, nat_le, find, if◌then◌else◌, IsSome, bytes_eq}
 use Rattle.std.proofs.lemmas.Bool.{eqb-true, leb-false}
 use Rattle.std.proofs.lemmas.Grind.{common_steps}
 use Rattle.nfs_base.specs.declared.limits.TheConstants.{SLOTS}
-use Rattle.sess_slots.specs.declared.answers.Begin.{Begin}
-use Rattle.sess_slots.specs.declared.answers.Begin.TheVariants.{New, Replay, FalseRetry, BadSession, BadSlot, Misordered}
+use Rattle.sess_slots.specs.declared.answers.Begin.TheVariants.{New, Replay, FalseRetry, BadSlot, Misordered}
 use Rattle.sess_slots.specs.declared.answers.Place.{Place}
 use Rattle.sess_slots.specs.declared.session.Session.{Session}
 use Rattle.sess_slots.specs.declared.slot.Slot.{Slot}
 use Rattle.sess_slots.specs.declared.slot.Kept.{Kept}
 use Rattle.sess_slots.specs.Slots.{next_number, begin_at, retry_at, slot_at}
 use Rattle.sess_slots.specs.Table.{SessionTable, has_id, session_id, session_numbered, session_of_id}
-use Rattle.sess_slots.specs.Begins.{IsThere, begin_in, begin_of, client_at, slot_of, reply_at}
+use Rattle.sess_slots.specs.Begins.{IsThere, begin_in, begin_of, client_at, reply_at}
 
 found_passes : {X : Type 0} (test : X → Bool) (xs : List X) (s : X) → find test xs ≡ Some s → test s ≡ true
 found_passes test [] s h = cc

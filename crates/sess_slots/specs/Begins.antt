@@ -1,5 +1,6 @@
 -- What SEQUENCE meets at a session (RFC 8881 sections 2.10.6 and 18.46), and what is known of a session.
-use Rattle.std.specs.Prelude.{ℕ, ◌+◌, ◌-◌, ◌<◌, ◌==◌, IsSome, Bool, true, List, Option, None, Some, if◌then◌else◌, find, option_map, option_and_then, nat_le}
+use Rattle.std.specs.Prelude.{ℕ, ◌-◌, ◌<◌, ◌==◌, IsSome, Bool, true, List, Option, None, Some, if◌then◌else◌, option_map, option_and_then, nat_le}
+use Rattle.nfs_base.specs.Changed.{changed}
 use Rattle.nfs_base.specs.declared.limits.TheConstants.{SLOTS, LEASE_SECONDS}
 use Rattle.sess_slots.specs.declared.answers.Begin.{Begin}
 use Rattle.sess_slots.specs.declared.answers.Begin.TheVariants.{New, Replay, FalseRetry, BadSession, BadSlot, Misordered}
@@ -8,9 +9,8 @@ use Rattle.sess_slots.specs.declared.answers.Back.{Back}
 use Rattle.sess_slots.specs.declared.client.Client.{Client}
 use Rattle.sess_slots.specs.declared.session.Session.{Session}
 use Rattle.sess_slots.specs.declared.slot.Slot.{Slot}
-use Rattle.sess_slots.specs.declared.slot.Kept.{Kept}
 use Rattle.sess_slots.specs.Slots.{begin_at, slot_at, slots_after}
-use Rattle.sess_slots.specs.Table.{SessionTable, client_of_id, session_numbered, session_of_id, changed}
+use Rattle.sess_slots.specs.Table.{SessionTable, client_of_id, session_numbered, session_of_id}
 
 -- Of a session that is there: a slot above 15 is none, and the slot itself decides on the rest.
 abbrev pub begin_in : Option Session → ℕ → ℕ → ℕ → Begin

@@ -1,6 +1,6 @@
 -- EXCHANGE_ID, CREATE_SESSION and what ends clients and sessions. RFC 8881 sections 18.35, 18.36, 18.37, 18.50
 -- and 18.51, with clients by principal and owner.
-use Rattle.std.specs.Prelude.{ℕ, ◌+◌, ◌-◌, ◌<◌, ◌==◌, ◌++◌, ◌&&◌, ◌||◌, Bool, true, false, List, [], ◌∷◌, Option, None, Some, not, is_some, if◌then◌else◌, bytes_eq, find, filter, map, option_map, option_to_list, replicate, length, nat_le, nat_lt}
+use Rattle.std.specs.Prelude.{ℕ, ◌+◌, ◌-◌, ◌==◌, ◌++◌, ◌&&◌, ◌||◌, Bool, true, false, List, [], ◌∷◌, Option, None, Some, not, is_some, if◌then◌else◌, bytes_eq, find, filter, map, option_map, option_to_list, replicate, length, nat_le, nat_lt}
 use Rattle.std.specs.List.{list_any}
 use Rattle.nfs_base.specs.declared.limits.TheConstants.{SLOTS, MOST_CLIENTS, MOST_SESSIONS}
 use Rattle.nfs_base.specs.declared.status.Status.{Status}
@@ -11,9 +11,11 @@ use Rattle.sess_slots.specs.declared.answers.Created.{Created}
 use Rattle.sess_slots.specs.declared.answers.Created.TheVariants.{Made, Refused as create_refused}
 use Rattle.sess_slots.specs.declared.answers.Back.{Back}
 use Rattle.sess_slots.specs.declared.client.Client.{Client}
+use Rattle.sess_slots.specs.declared.client.CreatedSession.{CreatedSession}
+use Rattle.nfs_base.specs.Changed.{changed}
 use Rattle.sess_slots.specs.declared.session.Session.{Session}
 use Rattle.sess_slots.specs.Slots.{next_number, fresh_slot}
-use Rattle.sess_slots.specs.Table.{SessionTable, client_id, session_id, client_of_id, session_of_id, changed, has_id, is_among, without}
+use Rattle.sess_slots.specs.Table.{SessionTable, client_id, session_id, client_of_id, session_of_id, has_id, without}
 use Rattle.sess_slots.specs.Begins.{is_idle}
 
 -- a client belongs to a principal and an owner
@@ -103,32 +105,32 @@ new_session number client back =
     record { number = number; client = client; back = back; slots = replicate SLOTS fresh_slot }
 
 -- what CREATE_SESSION meets at a client: its answer again, or a refusal, or a session that is to be made
-abbrev pub again_answer : Option ℕ → ℕ → ℕ → Created
+abbrev pub again_answer : Option CreatedSession → ℕ → ℕ → Created
 again_answer None boot sequence = create_refused SEQ_MISORDERED
-again_answer (Some session) boot sequence = Made (session_id boot session) sequence None
+again_answer (Some made) boot sequence = Made (session_id boot made.number) sequence None made.back
 
-abbrev pub create_answer_at : Option Client → SessionTable → ℕ → Created
-create_answer_at None table sequence = create_refused STALE_CLIENTID
-create_answer_at (Some c) table sequence =
+abbrev pub create_answer_at : Option Client → SessionTable → ℕ → Bool → Created
+create_answer_at None table sequence back = create_refused STALE_CLIENTID
+create_answer_at (Some c) table sequence back =
     if sequence == next_number c.last then
     (if nat_le MOST_SESSIONS (length table.sessions) then create_refused DELAY
-    else Made (session_id table.boot (table.sessions_made + 1)) sequence (old_client table.clients c))
+    else Made (session_id table.boot (table.sessions_made + 1)) sequence (old_client table.clients c) back)
     else (if sequence == c.last then again_answer c.created table.boot sequence else create_refused SEQ_MISORDERED)
 
-abbrev pub create_answer : SessionTable → ℕ → ℕ → Created
-create_answer table client sequence = create_answer_at (client_of_id table.clients client) table sequence
+abbrev pub create_answer : SessionTable → ℕ → ℕ → Bool → Created
+create_answer table client sequence back = create_answer_at (client_of_id table.clients client) table sequence back
 
 -- the client has a session of this sequence
-abbrev pub confirmed_by : ℕ → ℕ → ℕ → List Client → List Client
-confirmed_by client sequence number clients =
-    changed (λ c. c.id == client) (λ c. record c { last = sequence; created = Some number }) clients
+abbrev pub confirmed_by : ℕ → ℕ → CreatedSession → List Client → List Client
+confirmed_by client sequence made clients =
+    changed (λ c. c.id == client) (λ c. record c { last = sequence; created = Some made }) clients
 
 -- the table with a session more: its client is confirmed
 abbrev pub session_added : SessionTable → ℕ → ℕ → Option Back → SessionTable
 session_added table client sequence back =
     let number = table.sessions_made + 1 in
     record table {
-      clients = confirmed_by client sequence number table.clients;
+      clients = confirmed_by client sequence (record { number = number; back = is_some back }) table.clients;
       sessions = table.sessions ++ new_session number client back ∷ [];
       sessions_made = number;
     }

@@ -1,5 +1,5 @@
 -- The clients and sessions of a server, as contracts see them. RFC 8881 sections 2.4 and 2.10.
-use Rattle.std.specs.Prelude.{ℕ, ◌+◌, ◌*◌, ◌^◌, ◌==◌, ◌++◌, Bool, List, [], ◌∷◌, Option, not, if◌then◌else◌, bytes_eq, find, filter, option_map, replicate, map}
+use Rattle.std.specs.Prelude.{ℕ, ◌+◌, ◌*◌, ◌^◌, ◌==◌, ◌++◌, Bool, List, Option, not, bytes_eq, find, filter, replicate}
 use Rattle.std.specs.Int.{to_be_bytes, w32}
 use Rattle.std.specs.List.{list_any}
 use Rattle.sess_slots.specs.declared.client.Client.{Client}
@@ -38,11 +38,6 @@ has_id boot id s = bytes_eq (session_id boot s.number) id
 -- the session that an ID names
 abbrev pub session_of_id : SessionTable → List ℕ → Option Session
 session_of_id table id = find (has_id table.boot id) table.sessions
-
--- the first element that passes is changed
-abbrev pub changed : {X : Type 0} → (X → Bool) → (X → X) → List X → List X
-changed test f [] = []
-changed test f (x ∷ xs) = if test x then f x ∷ xs else x ∷ changed test f xs
 
 abbrev pub is_among : List ℕ → ℕ → Bool
 is_among ids id = list_any (λ k. k == id) ids

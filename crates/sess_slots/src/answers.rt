@@ -98,11 +98,13 @@ pub enum Exchanged {
 /// What CREATE_SESSION answers (RFC 8881 section 18.36).
 #[derive(Debug, Drop)]
 pub enum Created {
-    /// The session's ID, the sequence that was asked with, and the pair's old client, where this call ended one.
+    /// The session's ID, the sequence that was asked with, the pair's old client, where this call ended one, and
+    /// whether the session was made with a back channel.
     Made {
         session: [u8; 16],
         sequence: u32,
         ended: Option<u64>,
+        back: bool,
     },
 
     Refused(Status),

@@ -20,14 +20,22 @@ pub struct Client {
     /// The sequence of its last CREATE_SESSION that made a session, and 0 before the first.
     pub last: u32,
 
-    /// The number of the session that this made. A client is confirmed where there is one.
-    pub created: Option<u32>,
+    /// The session that this made. A client is confirmed where there is one.
+    pub created: Option<CreatedSession>,
 
     /// Whether RECLAIM_COMPLETE came.
     pub reclaimed: bool,
 
     /// The second of its last use.
     pub used: u64,
+}
+
+/// What CREATE_SESSION answered, for a call that comes again: the session's number, and whether it was made with a
+/// back channel.
+#[derive(Clone, Copy, Debug, PartialEq, Eq)]
+pub struct CreatedSession {
+    pub number: u32,
+    pub back: bool,
 }
 
 impl Client {
@@ -119,14 +127,14 @@ pub(crate) fn renew(clients: &mut Vec<Client>, id: u64, now: u64)
     }
 }
 
-/// Notes the sequence of a client's CREATE_SESSION and the number of the session that it made.
-pub(crate) fn confirm(clients: &mut Vec<Client>, id: u64, sequence: u32, number: u32)
-    ensures { clients.new.items ≡ confirmed_by id sequence number clients.old.items }
+/// Notes the sequence of a client's CREATE_SESSION and the session that it made.
+pub(crate) fn confirm(clients: &mut Vec<Client>, id: u64, sequence: u32, made: CreatedSession)
+    ensures { clients.new.items ≡ confirmed_by id sequence made clients.old.items }
 {
     if let Some(at) = place_of(clients.as_slice(), id) {
         let client = &mut clients[at];
         client.last = sequence;
-        client.created = Some(number);
+        client.created = Some(made);
     }
 }
 

@@ -13,8 +13,7 @@ pub mod laws;
 mod session;
 mod sessions;
 mod slot;
-#[cfg(test)]
-mod tests;
 
 pub use answers::{Back, Begin, ClientIds, Created, Exchanged, Place};
 pub use sessions::Sessions;
+pub use slot::{Kept, Slot};

@@ -1,6 +1,6 @@
-ghost use Rattle.std.specs.Prelude.{◌≡◌, ◌==◌, ◌<◌, IfOk, filter, not, position};
+ghost use Rattle.std.specs.Prelude.{◌≡◌, ◌==◌, ◌<◌, ◌≤◌, IfOk, filter, length, not, position};
 ghost use Rattle.sess_slots.specs.Table.{is_among, session_id, has_id};
-ghost use Rattle.nfs_base.specs.declared.limits.TheConstants.{SLOTS};
+ghost use Rattle.nfs_base.specs.declared.limits.TheConstants.{SLOTS, RECORD_LIMIT};
 ghost use Rattle.sess_slots.specs.Begins.{reply_kept};
 ghost use Rattle.sess_slots.specs.Clients.{new_session};
 
@@ -69,7 +69,8 @@ pub(crate) fn end_session(sessions: &mut Vec<Session>, boot: u32, id: &[u8; 16])
 
 /// Moves the number of a place's slot, and keeps the reply with its root context.
 pub(crate) fn keep(sessions: &mut Vec<Session>, place: Place, root: u32, reply: Octets)
-    requires { place.slot < SLOTS }
+    requires slot { place.slot < SLOTS }
+    requires short { length reply ≤ RECORD_LIMIT }
     ensures { sessions.new.items ≡ reply_kept place root reply sessions.old.items }
 {
     if let Some(at) = place_of(sessions.as_slice(), place.session) {

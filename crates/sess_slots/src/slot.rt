@@ -1,5 +1,5 @@
-ghost use Rattle.std.specs.Prelude.{◌≡◌, ◌+◌, ◌<◌, IfOk, replicate, option_map, option_copied};
-ghost use Rattle.nfs_base.specs.declared.limits.TheConstants.{SLOTS};
+ghost use Rattle.std.specs.Prelude.{◌≡◌, ◌+◌, ◌<◌, ◌≤◌, IfOk, IfSome, length, replicate, option_map, option_copied};
+ghost use Rattle.nfs_base.specs.declared.limits.TheConstants.{SLOTS, RECORD_LIMIT};
 ghost use Rattle.sess_slots.specs.Slots.{next_number, fresh_slot, begin_at, slot_at, slots_after};
 
 use crate::{Begin, Place};
@@ -26,7 +26,7 @@ pub struct Slot {
 
 impl Slot {
     /// What a number means on this slot, which is that of a place, under a root context.
-    pub(crate) fn begin(&self, place: Place, number: u32, root: u32) -> Begin
+    pub fn begin(&self, place: Place, number: u32, root: u32) -> Begin
         ensures { result ≡ begin_at self.now number root place }
     {
         if number == next_number(self.last) {
@@ -57,14 +57,15 @@ pub struct Slots {
 }
 
 impl Model for Slots {
-    ghost use Rattle.std.specs.Prelude.{List, ◌≡◌, length};
+    ghost use Rattle.std.specs.Prelude.{List};
     ghost use Rattle.sess_slots.specs.declared.slot.Slot.{Slot};
+    ghost use Rattle.sess_slots.specs.Short.{AreSlots};
 
     ghost Value = { List Slot };
 
     ghost view = { λ s. s.slots.items };
 
-    ghost invariant = { λ s. length s.slots.items ≡ 16 };
+    ghost invariant = { λ s. AreSlots s.slots.items };
 }
 
 impl Slots {
@@ -93,7 +94,8 @@ impl Slots {
 
     /// Moves the slot's number, and keeps the reply with its root.
     pub(crate) fn finish(&mut self, slot: u32, root: u32, reply: Octets)
-        requires { slot < SLOTS }
+        requires slot { slot < SLOTS }
+        requires short { length reply ≤ RECORD_LIMIT }
         ensures { self.new ≡ slots_after self.old slot root reply }
     {
         let slot = &mut self.slots[slot as usize];
@@ -104,7 +106,8 @@ impl Slots {
     /// The reply kept at a slot, lent.
     pub(crate) fn kept(&self, slot: u32) -> Option<&Octets>
         requires { slot < SLOTS }
-        ensures { option_copied result ≡ option_map (λ k. k.reply) (slot_at self.now slot).kept }
+        ensures kept { option_copied result ≡ option_map (λ k. k.reply) (slot_at self.now slot).kept }
+        ensures short { IfSome result (λ reply. length reply.now ≤ RECORD_LIMIT) }
     {
         match &self.slots[slot as usize].kept {
             None => None,

@@ -1,10 +1,9 @@
 -- What is closed is gone.
-use Rattle.std.proofs.Common.{◌≡◌, ℕ, Bool, true, false, cond, List, [], ◌∷◌, Option, Some, None, refl, arith}
+use Rattle.std.proofs.Common.{◌≡◌, ℕ, true, false, List, [], ◌∷◌, Some, None, refl, arith}
 use Rattle.std.specs.Prelude.{◌==◌, ◌&&◌, find, filter, not, if◌then◌else◌}
 use Rattle.std.specs.List.{list_any}
 use Rattle.std.proofs.lemmas.Grind.{common_steps}
 use Rattle.nfs_base.specs.declared.state_id.StateId.{StateId}
-use Rattle.nfs_base.specs.declared.status.Status.{Status}
 use Rattle.nfs_base.specs.declared.status.TheConstants.Status.{BAD_STATEID}
 use Rattle.state_ids.specs.declared.access.Access.{Access}
 use Rattle.state_ids.specs.declared.open_file.OpenFile.{OpenFile}

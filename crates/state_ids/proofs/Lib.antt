@@ -1,2 +1,2 @@
-pub mod Gone
-pub mod Lists
+mod Given
+mod Gone

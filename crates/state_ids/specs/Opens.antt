@@ -1,6 +1,7 @@
 -- The opens of a server as contracts see them, and the tests of a stateid. RFC 8881 sections 8.2 and 9.
-use Rattle.std.specs.Prelude.{ℕ, ◌+◌, ◌≤◌, ◌==◌, ◌&&◌, ◌||◌, ◌++◌, Bool, true, false, List, [], ◌∷◌, Option, None, Some, not, bytes_eq, find, filter, option_map, if◌then◌else◌, nat_lt, nat_le, length, Result, Ok, Err, bit_and, bit_or, All}
+use Rattle.std.specs.Prelude.{ℕ, ◌+◌, ◌≤◌, ◌==◌, ◌&&◌, ◌||◌, ◌++◌, Bool, List, [], ◌∷◌, Option, None, Some, not, bytes_eq, find, filter, if◌then◌else◌, nat_lt, nat_le, length, Result, Ok, Err, bit_and, bit_or, All}
 use Rattle.std.specs.List.{list_any}
+use Rattle.nfs_base.specs.Changed.{changed}
 use Rattle.nfs_base.specs.declared.state_id.StateId.{StateId}
 use Rattle.nfs_base.specs.declared.status.Status.{Status}
 use Rattle.nfs_base.specs.declared.status.TheConstants.Status.{BAD_STATEID, OLD_STATEID, OPENMODE}
@@ -73,11 +74,6 @@ is_same client owner file o = (o.client == client) && (o.file == file) && bytes_
 abbrev pub same_open : OpenTable → ℕ → List ℕ → ℕ → Option OpenFile
 same_open table client owner file = find (is_same client owner file) table.opens
 
--- the first element that passes is changed
-abbrev pub changed : {X : Type 0} → (X → Bool) → (X → X) → List X → List X
-changed test f [] = []
-changed test f (x ∷ xs) = if test x then f x ∷ xs else x ∷ changed test f xs
-
 -- an open once more: its access is added, and its seqid rises by one
 abbrev pub opened_again : ℕ → OpenFile → OpenFile
 opened_again access o = record o { access = bit_or o.access access; seqid = o.seqid + 1 }
@@ -147,7 +143,9 @@ without_client table client = record table { opens = filter (λ o. not (o.client
 
 -- ---- what holds of every table
 
--- No seqid of an open is above how many were given out, and neither is the count of numbers.
-pub record IsGivenOut (numbers made : ℕ) (opens : List OpenFile) : Type 0 where
+-- No seqid of an open is above how many were given out, neither is the count of numbers, and there is room for
+-- all opens.
+pub record IsGivenOut (numbers made : ℕ) (opens : List OpenFile) (capacity : ℕ) : Type 0 where
   pub numbers_made : numbers ≤ made
   pub seqids : All (λ o. o.seqid ≤ made) opens
+  pub room : MOST_OPENS ≤ capacity

@@ -1,5 +1,6 @@
-ghost use Rattle.std.specs.Prelude.{◌≡◌, ◌==◌, ◌-◌, ◌<◌, ◌^◌, All, filter, not, position, MatchResult, Some, None};
-ghost use Rattle.state_ids.specs.Opens.{is_open, is_same, seqid_refusal, access_refusal, first_refusal, opened_again, changed};
+ghost use Rattle.std.specs.Prelude.{◌≡◌, ◌==◌, ◌-◌, ◌<◌, ◌^◌, All, filter, not, position, MatchResult, Some, None, vec_capacity};
+ghost use Rattle.state_ids.specs.Opens.{is_open, is_same, seqid_refusal, access_refusal, first_refusal, opened_again};
+ghost use Rattle.nfs_base.specs.Changed.{changed};
 
 use crate::Access;
 use nfs_base::Status;
@@ -77,14 +78,16 @@ impl OpenFile {
 
 /// Takes out the open with this number.
 pub(crate) fn close_number(opens: &mut Vec<OpenFile>, number: u32)
-    ensures { opens.new.items ≡ filter (λ o. not (o.number == number)) opens.old.items }
+    ensures items { opens.new.items ≡ filter (λ o. not (o.number == number)) opens.old.items }
+    ensures capacity { vec_capacity opens.new ≡ vec_capacity opens.old }
 {
     opens.retain(|o| o.number != number);
 }
 
 /// Takes out the opens of a client.
 pub(crate) fn close_client(opens: &mut Vec<OpenFile>, client: u64)
-    ensures { opens.new.items ≡ filter (λ o. not (o.client == client)) opens.old.items }
+    ensures items { opens.new.items ≡ filter (λ o. not (o.client == client)) opens.old.items }
+    ensures capacity { vec_capacity opens.new ≡ vec_capacity opens.old }
 {
     opens.retain(|o| o.client != client);
 }
@@ -98,7 +101,8 @@ pub(crate) fn open_again(
     access: u32,
 )
     requires { All (λ o. o.seqid < 2 ^ 32 - 1) opens.old.items }
-    ensures { opens.new.items ≡ changed (is_same client owner.now file) (opened_again access) opens.old.items }
+    ensures items { opens.new.items ≡ changed (is_same client owner.now file) (opened_again access) opens.old.items }
+    ensures capacity { vec_capacity opens.new ≡ vec_capacity opens.old }
 {
     if let Some(at) = place_of(opens.as_slice(), client, owner, file) {
         opens[at].open_again(access);

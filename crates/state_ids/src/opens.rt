@@ -1,4 +1,4 @@
-ghost use Rattle.std.specs.Prelude.{◌≡◌, ◌==◌, ◌+◌, ◌-◌, ◌<◌, ◌≤◌, ◌^◌, [], ℕ, Some, None, IfOk, OnOk, OnErr, MatchResult, IfSome, find, option_copied};
+ghost use Rattle.std.specs.Prelude.{◌≡◌, ◌==◌, ◌+◌, ◌-◌, ◌<◌, ◌≤◌, ◌^◌, [], ℕ, Some, None, IfOk, OnOk, OnErr, MatchResult, IfSome, find, option_copied, length};
 ghost use Rattle.nfs_base.specs.declared.limits.TheConstants.{MOST_OPENS};
 ghost use Rattle.state_ids.specs.Opens.{check_refusal, close_refusal, is_open, named_open, same_open, reopened, open_answer, open_table, open_id, with_open, closed, closed_id, holds_open, without_client};
 
@@ -14,7 +14,8 @@ use wire_xdr::Octets;
 #[derive(Clone, Copy, Debug, PartialEq, Eq)]
 pub struct Full;
 
-/// The opens of a server: each is of a client's owner and of a file, and has a stateid.
+/// The opens of a server: each is of a client's owner and of a file, and has a stateid. All room is taken when it
+/// is made: only [`Opens::open`], which copies the owner, can want memory afterwards.
 #[derive(Debug, Drop)]
 pub struct Opens {
     boot: u32,
@@ -24,13 +25,14 @@ pub struct Opens {
 }
 
 impl Model for Opens {
+    ghost use Rattle.std.specs.Prelude.{vec_capacity};
     ghost use Rattle.state_ids.specs.Opens.{OpenTable, IsGivenOut};
 
     ghost Value = { OpenTable };
 
     ghost view = { λ t. record { boot = t.boot; opens = t.opens.items; numbers = t.numbers; made = t.made } };
 
-    ghost invariant = { λ t. IsGivenOut t.numbers t.made t.opens.items };
+    ghost invariant = { λ t. IsGivenOut t.numbers t.made t.opens.items (vec_capacity t.opens) };
 }
 
 impl Opens {
@@ -68,21 +70,37 @@ impl Opens {
         ensures done { OnOk result (self.new ≡ open_table self.old client owner.now file access) }
         ensures err { OnErr result (self.new ≡ self.old) }
     {
+        let owner = Octets::from_slice(*self.opens.allocator(), owner)?;
+        Ok(self.open_taken(client, owner, file, access))
+    }
+
+    /// The same with an owner that it takes over. It takes no memory.
+    pub fn open_taken(
+        &mut self,
+        client: u64,
+        owner: Octets,
+        file: u32,
+        access: u32,
+    ) -> Result<StateId, Full>
+        requires { self.old.made < 2 ^ 32 - 1 }
+        ensures answer { result ≡ open_answer self.old client owner file }
+        ensures done { self.new ≡ open_table self.old client owner file access }
+    {
         let table = &*self;
-        if let Some(found) = table.same(client, owner, file) {
+        if let Some(found) = table.same(client, owner.as_slice(), file) {
             let id = StateId {
                 seqid: found.seqid + 1,
                 kind: StateId::OPEN,
                 boot: table.boot,
                 number: found.number,
             };
-            self.reopen(client, owner, file, access);
-            return Ok(Ok(id));
+            self.reopen(client, owner.as_slice(), file, access);
+            return Ok(id);
         }
         if table.opens.len() >= MOST_OPENS {
-            return Ok(Err(Full));
+            return Err(Full);
         }
-        Ok(Ok(self.add(client, owner, file, access)?))
+        Ok(self.add(client, owner, file, access))
     }
 
     /// Whether a stateid allows an operation on a file. In this order: BAD_STATEID where its boot isn't this one,
@@ -175,29 +193,30 @@ impl Opens {
         self.made += 1;
     }
 
-    fn add(&mut self, client: u64, owner: &[u8], file: u32, access: u32) -> Mem<StateId>
-        requires { self.old.made < 2 ^ 32 - 1 }
-        ensures id { IfOk result (λ id. id ≡ open_id self.old.boot 1 (self.old.numbers + 1)) }
-        ensures done { OnOk result (self.new ≡ with_open self.old client owner.now file access) }
-        ensures err { OnErr result (self.new ≡ self.old) }
+    fn add(&mut self, client: u64, owner: Octets, file: u32, access: u32) -> StateId
+        requires made { self.old.made < 2 ^ 32 - 1 }
+        requires room { length self.old.opens < MOST_OPENS }
+        ensures id { result ≡ open_id self.old.boot 1 (self.old.numbers + 1) }
+        ensures done { self.new ≡ with_open self.old client owner file access }
     {
         let number = self.numbers + 1;
-        let alloc = *self.opens.allocator();
-        self.opens.push(OpenFile {
-            client,
-            owner: Octets::from_slice(alloc, owner)?,
-            file,
-            access,
-            seqid: 1,
-            number,
-        })?;
+        self.opens
+            .push(OpenFile {
+                client,
+                owner,
+                file,
+                access,
+                seqid: 1,
+                number,
+            })
+            .unwrap();
         self.numbers = number;
         self.made += 1;
-        Ok(StateId {
+        StateId {
             seqid: 1,
             kind: StateId::OPEN,
             boot: self.boot,
             number,
-        })
+        }
     }
 }

@@ -1,10 +1,10 @@
-ghost use Rattle.std.specs.Prelude.{◌≡◌, ◌==◌, ◌+◌, ◌-◌, ◌<◌, ◌^◌, if◌then◌else◌, IfOk, OnOk, OnErr, ◌&&◌, find, option_copied, option_to_list};
+ghost use Rattle.std.specs.Prelude.{◌≡◌, ◌==◌, ◌+◌, ◌-◌, ◌<◌, ◌^◌, if◌then◌else◌, IfOk, OnOk, OnErr, ◌&&◌, find, is_some, option_copied, option_to_list};
 ghost use Rattle.nfs_base.specs.declared.status.TheConstants.Status.{SEQ_MISORDERED};
 ghost use Rattle.sess_slots.specs.Table.{numbers_made, session_id, without};
 ghost use Rattle.sess_slots.specs.Clients.{old_client, again_answer, create_answer, create_table, asked_back, is_of, is_confirmed, session_added};
 
 use super::Sessions;
-use crate::client::{Client, confirm};
+use crate::client::{Client, CreatedSession, confirm};
 use crate::session::{Session, session_id};
 use crate::slot::next_number;
 use crate::{Back, Created};
@@ -13,7 +13,7 @@ use outcome::Mem;
 
 impl Sessions {
     /// CREATE_SESSION (RFC 8881 section 18.36). An unknown client is STALE_CLIENTID. The client's last sequence
-    /// is answered as before, its next one makes a session, and another one is SEQ_MISORDERED; DELAY at 32
+    /// is answered as it was, its next one makes a session, and another one is SEQ_MISORDERED; DELAY at 32
     /// sessions. A client's first session confirms it, and ends the client that this pair had confirmed, with
     /// its sessions. `back` is the handle of a back channel on connection `conn` for the callback program.
     pub fn create(
@@ -26,7 +26,7 @@ impl Sessions {
         _now: u64,
     ) -> Mem<Created>
         requires { numbers_made self.old < 2 ^ 32 - 1 }
-        ensures answer { IfOk result (λ answer. answer ≡ create_answer self.old client sequence) }
+        ensures answer { IfOk result (λ answer. answer ≡ create_answer self.old client sequence (is_some back)) }
         ensures done { OnOk result (self.new ≡ create_table self.old client sequence (asked_back conn program back)) }
         ensures err { OnErr result (self.new ≡ self.old) }
     {
@@ -47,6 +47,7 @@ impl Sessions {
             session,
             sequence,
             ended,
+            back: back.is_some(),
         })
     }
 
@@ -55,10 +56,11 @@ impl Sessions {
         ensures { result ≡ (if sequence == client.now.last then again_answer client.now.created self.now.boot sequence else Created.Refused SEQ_MISORDERED) }
     {
         match client.created {
-            Some(number) if sequence == client.last => Created::Made {
-                session: session_id(self.boot, number),
+            Some(made) if sequence == client.last => Created::Made {
+                session: session_id(self.boot, made.number),
                 sequence,
                 ended: None,
+                back: made.back,
             },
             _ => Created::Refused(Status::SEQ_MISORDERED),
         }
@@ -92,10 +94,14 @@ impl Sessions {
     {
         let number = self.sessions_made + 1;
         let alloc = *self.sessions.allocator();
+        let made = CreatedSession {
+            number,
+            back: back.is_some(),
+        };
         let session = Session::new(alloc, number, client, back)?;
         self.sessions.push(session)?;
         self.sessions_made = number;
-        confirm(&mut self.clients, client, sequence, number);
+        confirm(&mut self.clients, client, sequence, made);
         Ok(session_id(self.boot, number))
     }
 

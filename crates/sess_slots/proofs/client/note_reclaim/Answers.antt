@@ -1,6 +1,6 @@
-use Rattle.std.proofs.Common.{◌≡◌, ◌==◌, Some, true}
+use Rattle.std.proofs.Common.{◌==◌, true}
 use Rattle.sess_slots.specs.declared.client.Client.{Client}
-use Rattle.sess_slots.proofs.Lists.{changed_by, unchanged_by}
+use Rattle.nfs_base.specs.ChangedLaws.{changed_by, unchanged_by}
 use Rattle.sess_slots.proofs.client.note_reclaim.Goals as goal
 
 pub returns-in-Some : goal.returns-in-Some

@@ -1,7 +1,7 @@
-use Rattle.std.proofs.Common.{◌≡◌, ◌==◌}
+use Rattle.std.proofs.Common.{◌==◌}
 use Rattle.sess_slots.specs.declared.session.Session.{Session}
 use Rattle.sess_slots.specs.Slots.{slots_after}
-use Rattle.sess_slots.proofs.Lists.{changed_by, unchanged_by}
+use Rattle.nfs_base.specs.ChangedLaws.{changed_by, unchanged_by}
 use Rattle.sess_slots.proofs.session.keep.Goals as goal
 
 pub returns-in-Some : goal.returns-in-Some
