@@ -4,11 +4,14 @@ use Rattle.std.specs.Prelude.{ℕ, List, [], ◌∷◌, refl}
 use Rattle.std.proofs.Common.{lit<}
 use Rattle.nfs_base.specs.declared.answer.Answer.{Answer}
 use Rattle.nfs_base.specs.declared.answer.Answer.TheVariants.{Done, Refused}
+use Rattle.nfs_base.specs.declared.limits.TheConstants.{HANDLE_LIMIT, TEXT_LIMIT}
+use Rattle.nfs_base.specs.declared.net_loc.TheConstants.{NL4_NAME, NL4_URL, NL4_NETADDR}
 use Rattle.nfs_base.specs.declared.net_loc.NetLoc.{NetLoc}
 use Rattle.nfs_base.specs.declared.net_loc.NetLoc.TheVariants.{Name, Url, Addr}
 use Rattle.nfs_base.specs.declared.state_id.StateId.{StateId}
 use Rattle.nfs_base.specs.declared.status.Status.{Status}
 use Rattle.nfs_base.specs.declared.time.Time.{Time}
+use Rattle.nfs_base.specs.declared.written.TheConstants.{UNSTABLE4, DATA_SYNC4, FILE_SYNC4}
 use Rattle.nfs_base.specs.declared.written.Stability.{Stability}
 use Rattle.nfs_base.specs.declared.written.Stability.TheVariants.{Unstable, DataSync, FileSync}
 use Rattle.nfs_base.specs.declared.written.WriteResponse.{WriteResponse}
@@ -26,7 +29,7 @@ state_id = seen_as (λ v. record { seqid = v.0; kind = v.1.0; boot = v.1.1.0; nu
 
 -- nfs_fh4, of at least one byte
 unfoldable pub handle : Form (List ℕ)
-handle = opaque_between 1 128 (lit< tt)
+handle = opaque_between 1 HANDLE_LIMIT (lit< tt)
 
 -- nfstime4
 unfoldable pub time : Form Time
@@ -34,16 +37,16 @@ time = seen_as (λ v. record { secs = v.0; nanos = v.1 }) (λ v. (v.secs, v.nano
 
 -- a string of a network location
 abbrev pub text : Form (List ℕ)
-text = opaque 1024 (lit< tt)
+text = opaque TEXT_LIMIT (lit< tt)
 
 -- netloc4: 1 and a name, 2 and a URL, 3 and a network's name and an address
 abbrev pub net_loc_case : NetLoc → Case NetLoc
-net_loc_case (Name name) = holds 1 text Name name
-net_loc_case (Url url) = holds 2 text Url url
-net_loc_case (Addr netid addr) = holds 3 (both text text) (λ v. Addr v.0 v.1) (netid, addr)
+net_loc_case (Name name) = holds NL4_NAME text Name name
+net_loc_case (Url url) = holds NL4_URL text Url url
+net_loc_case (Addr netid addr) = holds NL4_NETADDR (both text text) (λ v. Addr v.0 v.1) (netid, addr)
 
 abbrev pub net_loc_arms : List (ArmOf net_loc_case)
-net_loc_arms = arm 1 text Name (λ v. refl) ∷ arm 2 text Url (λ v. refl) ∷ arm 3 (both text text) (λ v. Addr v.0 v.1) (λ v. refl) ∷ []
+net_loc_arms = arm NL4_NAME text Name (λ v. refl) ∷ arm NL4_URL text Url (λ v. refl) ∷ arm NL4_NETADDR (both text text) (λ v. Addr v.0 v.1) (λ v. refl) ∷ []
 
 pub net_loc_listed : (v : NetLoc) → IsListed net_loc_arms v
 net_loc_listed (Name name) = record { reads = λ otherwise c. refl; whole = refl }
@@ -54,12 +57,12 @@ net_loc = union net_loc_arms net_loc_listed
 
 -- stable_how4: UNSTABLE4 0, DATA_SYNC4 1, FILE_SYNC4 2
 abbrev pub stability_case : Stability → Case Stability
-stability_case Unstable = holds 0 void (λ v. Unstable) tt
-stability_case DataSync = holds 1 void (λ v. DataSync) tt
-stability_case FileSync = holds 2 void (λ v. FileSync) tt
+stability_case Unstable = holds UNSTABLE4 void (λ v. Unstable) tt
+stability_case DataSync = holds DATA_SYNC4 void (λ v. DataSync) tt
+stability_case FileSync = holds FILE_SYNC4 void (λ v. FileSync) tt
 
 abbrev pub stability_arms : List (ArmOf stability_case)
-stability_arms = arm 0 void (λ v. Unstable) (λ v. refl) ∷ arm 1 void (λ v. DataSync) (λ v. refl) ∷ arm 2 void (λ v. FileSync) (λ v. refl) ∷ []
+stability_arms = arm UNSTABLE4 void (λ v. Unstable) (λ v. refl) ∷ arm DATA_SYNC4 void (λ v. DataSync) (λ v. refl) ∷ arm FILE_SYNC4 void (λ v. FileSync) (λ v. refl) ∷ []
 
 pub stability_listed : (v : Stability) → IsListed stability_arms v
 stability_listed Unstable = record { reads = λ otherwise c. refl; whole = refl }

@@ -2,5 +2,6 @@ pub mod Answers
 pub mod Changed
 pub mod ChangedLaws
 pub mod Forms
+pub mod HandleBytes
 pub mod Locations
 pub mod Text

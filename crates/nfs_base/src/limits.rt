@@ -72,3 +72,6 @@ pub const MOST_JOBS: usize = 16;
 
 /// The seconds of a client's lease and of a grant's life.
 pub const LEASE_SECONDS: u64 = 90;
+
+/// How many bytes of input a run of the program takes.
+pub const INPUT_LIMIT: u64 = 16_777_216;

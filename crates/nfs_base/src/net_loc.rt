@@ -7,6 +7,13 @@ use outcome::Mem;
 use std::alloc::Global;
 use wire_xdr::{Octets, ReadError, Reader, Writer, Xdr};
 
+/// The kinds of network locations by number (netloc_type4, RFC 7863 section 2.2).
+const NL4_NAME: u32 = 1;
+
+const NL4_URL: u32 = 2;
+
+const NL4_NETADDR: u32 = 3;
+
 /// Where a server is found (netloc4, RFC 7862 section 4.8). Each string has at most 1,024 bytes.
 #[derive(Debug, Drop)]
 pub enum NetLoc {
@@ -71,9 +78,9 @@ impl Xdr for NetLoc {
     fn parse(alloc: Global, reader: &mut Reader) -> Result<NetLoc, ReadError> {
         let start = reader.at();
         match u32::parse(alloc, reader)? {
-            1 => Ok(NetLoc::Name(Octets::parse(alloc, reader, TEXT_LIMIT)?)),
-            2 => Ok(NetLoc::Url(Octets::parse(alloc, reader, TEXT_LIMIT)?)),
-            3 => Ok(NetLoc::Addr {
+            NL4_NAME => Ok(NetLoc::Name(Octets::parse(alloc, reader, TEXT_LIMIT)?)),
+            NL4_URL => Ok(NetLoc::Url(Octets::parse(alloc, reader, TEXT_LIMIT)?)),
+            NL4_NETADDR => Ok(NetLoc::Addr {
                 netid: Octets::parse(alloc, reader, TEXT_LIMIT)?,
                 addr: Octets::parse(alloc, reader, TEXT_LIMIT)?,
             }),
@@ -85,15 +92,15 @@ impl Xdr for NetLoc {
     fn put(&self, writer: &mut Writer) -> Mem<()> {
         match self {
             NetLoc::Name(name) => {
-                1u32.put(writer)?;
+                NL4_NAME.put(writer)?;
                 name.put(writer)
             }
             NetLoc::Url(url) => {
-                2u32.put(writer)?;
+                NL4_URL.put(writer)?;
                 url.put(writer)
             }
             NetLoc::Addr { netid, addr } => {
-                3u32.put(writer)?;
+                NL4_NETADDR.put(writer)?;
                 netid.put(writer)?;
                 addr.put(writer)
             }

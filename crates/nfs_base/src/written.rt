@@ -5,6 +5,13 @@ use outcome::Mem;
 use std::alloc::Global;
 use wire_xdr::{ReadError, Reader, Writer, Xdr};
 
+/// How safe data is, by number (stable_how4, RFC 8881 section 18.32.1).
+const UNSTABLE4: u32 = 0;
+
+const DATA_SYNC4: u32 = 1;
+
+const FILE_SYNC4: u32 = 2;
+
 /// How safe written data is to be, or is (stable_how4, RFC 8881 section 18.32).
 #[derive(Clone, Copy, Debug, PartialEq, Eq)]
 pub enum Stability {
@@ -25,9 +32,9 @@ impl Xdr for Stability {
     fn parse(alloc: Global, reader: &mut Reader) -> Result<Stability, ReadError> {
         let start = reader.at();
         match u32::parse(alloc, reader)? {
-            0 => Ok(Stability::Unstable),
-            1 => Ok(Stability::DataSync),
-            2 => Ok(Stability::FileSync),
+            UNSTABLE4 => Ok(Stability::Unstable),
+            DATA_SYNC4 => Ok(Stability::DataSync),
+            FILE_SYNC4 => Ok(Stability::FileSync),
             _ => Err(ReadError::at(start)),
         }
     }
@@ -36,15 +43,15 @@ impl Xdr for Stability {
     fn put(&self, writer: &mut Writer) -> Mem<()> {
         match self {
             Stability::Unstable => {
-                0u32.put(writer)?;
+                UNSTABLE4.put(writer)?;
                 writer.void()
             }
             Stability::DataSync => {
-                1u32.put(writer)?;
+                DATA_SYNC4.put(writer)?;
                 writer.void()
             }
             Stability::FileSync => {
-                2u32.put(writer)?;
+                FILE_SYNC4.put(writer)?;
                 writer.void()
             }
         }

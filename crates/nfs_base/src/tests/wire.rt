@@ -40,7 +40,7 @@ fn each_type_is_read_and_written(rt: HostRuntime) -> Result<(), Fail> {
     let mut writer = Writer::new(rt.alloc())?;
     write_status(rt.alloc(), &mut writer, &status)?;
     write_state_id(rt.alloc(), &mut writer, &id)?;
-    write_handle(rt.alloc(), &mut writer, &handle.copy()?)?;
+    write_handle(rt.alloc(), &mut writer, &handle)?;
     write_net_loc(rt.alloc(), &mut writer, &place)?;
     write_time(rt.alloc(), &mut writer, &time)?;
     assert_eq!(rt; writer.finish().as_slice(), TYPES.as_slice());
@@ -119,7 +119,7 @@ fn limits_of_lengths(rt: HostRuntime) -> Result<(), Fail> {
         assert_eq!(rt; name_told, Some(name), "a name of {len}");
         let handle_told = reading::<Handle>(&rt, bytes.get(4..).unwrap_or(&[]))?;
         assert_eq!(rt; handle_told, Some(handle), "a handle of {len}");
-        let made = Octets::from_slice(rt.alloc(), bytes.get(..len as usize).unwrap_or(&[]))?;
+        let made = bytes.get(..len as usize).unwrap_or(&[]);
         assert_eq!(rt;
             Handle::new(made).is_some(),
             handle.is_ok(),
