@@ -1,9 +1,12 @@
 -- The operations of a copy, a table: how the arguments and the result of each are spelled (RFC 7863).
 use Rattle.std.specs.Prelude.{◌≡◌, ℕ, Bool, List, [], ◌∷◌, refl}
 use Rattle.std.proofs.Common.{lit<}
+use Rattle.nfs_base.specs.declared.limits.TheConstants.{MOST_NET_LOCS}
+use Rattle.nfs_base.specs.declared.status.TheConstants.Status.{OFFLOAD_NO_REQS}
 use Rattle.nfs_base.specs.declared.net_loc.NetLoc.{NetLoc}
 use Rattle.nfs_base.specs.declared.state_id.StateId.{StateId}
 use Rattle.nfs_base.specs.Forms.{status, state_id, handle, net_loc, time, write_response, answer}
+use Rattle.copy_ops.specs.declared.operation.TheConstants.{OP_COPY, OP_COPY_NOTIFY, OP_OFFLOAD_CANCEL, OP_OFFLOAD_STATUS, OP_CLONE}
 use Rattle.copy_ops.specs.declared.arg.CopyArg.{CopyArg}
 use Rattle.copy_ops.specs.declared.arg.CopyArg.TheVariants as arguments
 use Rattle.copy_ops.specs.declared.args.CopyArgs.{CopyArgs}
@@ -25,7 +28,7 @@ use Rattle.wire_xdr.specs.Forms.{hyper, flag, void, both, seen_as, list, option,
 
 -- netloc4<8>
 abbrev pub net_locs : Form (List NetLoc)
-net_locs = list 8 (lit< tt) net_loc
+net_locs = list MOST_NET_LOCS (lit< tt) net_loc
 
 -- ---- arguments
 
@@ -46,14 +49,14 @@ unfoldable pub clone_args : Form CloneArgs
 clone_args = seen_as (λ v. record { src_id = v.0; dst_id = v.1.0; src_off = v.1.1.0; dst_off = v.1.1.1.0; count = v.1.1.1.1 }) (λ v. (v.src_id, (v.dst_id, (v.src_off, (v.dst_off, v.count))))) (λ v. refl) (λ v. refl) (both state_id (both state_id (both hyper (both hyper hyper))))
 
 abbrev pub copy_arg_case : CopyArg → Case CopyArg
-copy_arg_case (arguments.Copy v) = holds 60 copy_args arguments.Copy v
-copy_arg_case (arguments.CopyNotify v) = holds 61 notify_args arguments.CopyNotify v
-copy_arg_case (arguments.OffloadCancel v) = holds 66 state_id arguments.OffloadCancel v
-copy_arg_case (arguments.OffloadStatus v) = holds 67 state_id arguments.OffloadStatus v
-copy_arg_case (arguments.Clone v) = holds 71 clone_args arguments.Clone v
+copy_arg_case (arguments.Copy v) = holds OP_COPY copy_args arguments.Copy v
+copy_arg_case (arguments.CopyNotify v) = holds OP_COPY_NOTIFY notify_args arguments.CopyNotify v
+copy_arg_case (arguments.OffloadCancel v) = holds OP_OFFLOAD_CANCEL state_id arguments.OffloadCancel v
+copy_arg_case (arguments.OffloadStatus v) = holds OP_OFFLOAD_STATUS state_id arguments.OffloadStatus v
+copy_arg_case (arguments.Clone v) = holds OP_CLONE clone_args arguments.Clone v
 
 abbrev pub copy_arg_arms : List (ArmOf copy_arg_case)
-copy_arg_arms = arm 60 copy_args arguments.Copy (λ v. refl) ∷ arm 61 notify_args arguments.CopyNotify (λ v. refl) ∷ arm 66 state_id arguments.OffloadCancel (λ v. refl) ∷ arm 67 state_id arguments.OffloadStatus (λ v. refl) ∷ arm 71 clone_args arguments.Clone (λ v. refl) ∷ []
+copy_arg_arms = arm OP_COPY copy_args arguments.Copy (λ v. refl) ∷ arm OP_COPY_NOTIFY notify_args arguments.CopyNotify (λ v. refl) ∷ arm OP_OFFLOAD_CANCEL state_id arguments.OffloadCancel (λ v. refl) ∷ arm OP_OFFLOAD_STATUS state_id arguments.OffloadStatus (λ v. refl) ∷ arm OP_CLONE clone_args arguments.Clone (λ v. refl) ∷ []
 
 pub copy_arg_listed : (v : CopyArg) → IsListed copy_arg_arms v
 copy_arg_listed (arguments.Copy v) = record { reads = λ otherwise c. refl; whole = refl }
@@ -79,11 +82,11 @@ copy_done = seen_as (λ v. record { response = v.0; consecutive = v.1.0; synchro
 -- COPY4res: status 0 and what was done, OFFLOAD_NO_REQS and two bools, or another status alone
 abbrev pub copy_answer_case : CopyAnswer → Case CopyAnswer
 copy_answer_case (Done v) = holds 0 copy_done Done v
-copy_answer_case (NoReqs consecutive synchronous) = holds 10094 (both flag flag) (λ v. NoReqs v.0 v.1) (consecutive, synchronous)
+copy_answer_case (NoReqs consecutive synchronous) = holds OFFLOAD_NO_REQS.number (both flag flag) (λ v. NoReqs v.0 v.1) (consecutive, synchronous)
 copy_answer_case (Refused refused) = defaults refused.number void (λ v. Refused refused) tt
 
 abbrev pub copy_answer_arms : List (ArmOf copy_answer_case)
-copy_answer_arms = arm 0 copy_done Done (λ v. refl) ∷ arm 10094 (both flag flag) (λ v. NoReqs v.0 v.1) (λ v. refl) ∷ []
+copy_answer_arms = arm 0 copy_done Done (λ v. refl) ∷ arm OFFLOAD_NO_REQS.number (both flag flag) (λ v. NoReqs v.0 v.1) (λ v. refl) ∷ []
 
 abbrev pub refused_with : ℕ → Unit {0} → CopyAnswer
 refused_with n v = Refused (record { number = n })
@@ -104,14 +107,14 @@ unfoldable pub offload_progress : Form OffloadProgress
 offload_progress = seen_as (λ v. record { count = v.0; complete = v.1 }) (λ v. (v.count, v.complete)) (λ v. refl) (λ v. refl) (both hyper (option status))
 
 abbrev pub copy_res_case : CopyRes → Case CopyRes
-copy_res_case (results.Copy v) = holds 60 copy_answer results.Copy v
-copy_res_case (results.CopyNotify v) = holds 61 (answer notify_grant) results.CopyNotify v
-copy_res_case (results.OffloadCancel v) = holds 66 status results.OffloadCancel v
-copy_res_case (results.OffloadStatus v) = holds 67 (answer offload_progress) results.OffloadStatus v
-copy_res_case (results.Clone v) = holds 71 status results.Clone v
+copy_res_case (results.Copy v) = holds OP_COPY copy_answer results.Copy v
+copy_res_case (results.CopyNotify v) = holds OP_COPY_NOTIFY (answer notify_grant) results.CopyNotify v
+copy_res_case (results.OffloadCancel v) = holds OP_OFFLOAD_CANCEL status results.OffloadCancel v
+copy_res_case (results.OffloadStatus v) = holds OP_OFFLOAD_STATUS (answer offload_progress) results.OffloadStatus v
+copy_res_case (results.Clone v) = holds OP_CLONE status results.Clone v
 
 abbrev pub copy_res_arms : List (ArmOf copy_res_case)
-copy_res_arms = arm 60 copy_answer results.Copy (λ v. refl) ∷ arm 61 (answer notify_grant) results.CopyNotify (λ v. refl) ∷ arm 66 status results.OffloadCancel (λ v. refl) ∷ arm 67 (answer offload_progress) results.OffloadStatus (λ v. refl) ∷ arm 71 status results.Clone (λ v. refl) ∷ []
+copy_res_arms = arm OP_COPY copy_answer results.Copy (λ v. refl) ∷ arm OP_COPY_NOTIFY (answer notify_grant) results.CopyNotify (λ v. refl) ∷ arm OP_OFFLOAD_CANCEL status results.OffloadCancel (λ v. refl) ∷ arm OP_OFFLOAD_STATUS (answer offload_progress) results.OffloadStatus (λ v. refl) ∷ arm OP_CLONE status results.Clone (λ v. refl) ∷ []
 
 pub copy_res_listed : (v : CopyRes) → IsListed copy_res_arms v
 copy_res_listed (results.Copy v) = record { reads = λ otherwise c. refl; whole = refl }

@@ -10,7 +10,7 @@ use wire_xdr::{ReadError, Reader, Writer, Xdr, XdrBy};
 
 /// The arguments of an operation of a copy, by the operation. OFFLOAD_CANCEL and OFFLOAD_STATUS have the
 /// copy's stateid alone (RFC 7862 sections 15.8 and 15.9).
-#[derive(Debug, Drop)]
+#[derive(Drop)]
 pub enum CopyArg {
     Copy(CopyArgs),
     CopyNotify(NotifyArgs),

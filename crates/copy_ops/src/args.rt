@@ -7,7 +7,7 @@ use wire_xdr::{Items, ReadError, Reader, Writer, Xdr, put_four};
 
 /// What COPY is asked to do (COPY4args, RFC 7862 section 15.2). Offsets and the count are bytes; a count of
 /// 0 goes to the end of the source file.
-#[derive(Debug, Drop)]
+#[derive(Drop)]
 pub struct CopyArgs {
     pub src_id: StateId,
     pub dst_id: StateId,
@@ -60,7 +60,7 @@ impl Xdr for CopyArgs {
 
 /// What COPY_NOTIFY is asked to allow (COPY_NOTIFY4args, RFC 7862 section 15.3): that the destination
 /// reads the file that the stateid opened.
-#[derive(Debug, Drop)]
+#[derive(Drop)]
 pub struct NotifyArgs {
     pub src_id: StateId,
     pub destination: NetLoc,

@@ -46,7 +46,7 @@ impl Xdr for OffloadEnd {
 
 /// What CB_OFFLOAD tells the client (CB_OFFLOAD4args, RFC 7862 section 16.1): the copy with this stateid,
 /// to this file, ended so.
-#[derive(Debug, Drop)]
+#[derive(Drop)]
 pub struct CbOffload {
     pub handle: Handle,
     pub id: StateId,

@@ -11,7 +11,7 @@ use wire_xdr::{ReadError, Reader, Writer, Xdr, XdrBy};
 
 /// The result of an operation of a copy, by the operation. OFFLOAD_CANCEL and CLONE answer a status alone
 /// (RFC 7862 sections 15.8 and 15.13).
-#[derive(Debug, Drop)]
+#[derive(Drop)]
 pub enum CopyRes {
     Copy(CopyAnswer),
     CopyNotify(Answer<NotifyGrant>),

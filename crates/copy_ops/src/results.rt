@@ -90,7 +90,7 @@ impl Xdr for CopyAnswer {
 }
 
 /// What COPY_NOTIFY allowed (COPY_NOTIFY4resok, RFC 7862 section 15.3).
-#[derive(Debug, Drop)]
+#[derive(Drop)]
 pub struct NotifyGrant {
     /// How long the destination may wait before it begins.
     pub lease: Time,

@@ -1,6 +1,7 @@
 -- Forms of the arguments of an operation, by its number.
 use Rattle.std.specs.Prelude.{◌≡◌, ℕ, Bool, true, false, List, [], ◌∷◌, refl}
 use Rattle.nfs_base.specs.Forms.{handle}
+use Rattle.file_ops.specs.declared.operation.TheConstants.{OP_CLOSE, OP_COMMIT, OP_GETATTR, OP_GETFH, OP_LOOKUP, OP_OPEN, OP_PUTFH, OP_PUTROOTFH, OP_READ, OP_RESTOREFH, OP_SAVEFH, OP_WRITE, OP_EXCHANGE_ID, OP_CREATE_SESSION, OP_DESTROY_SESSION, OP_SEQUENCE, OP_DESTROY_CLIENTID, OP_RECLAIM_COMPLETE, OP_ILLEGAL}
 use Rattle.file_ops.specs.declared.opening.Claim.TheVariants.{Null, Other}
 use Rattle.file_ops.specs.declared.opening.OpenHow.{OpenHow}
 use Rattle.file_ops.specs.declared.opening.OpenHow.TheVariants.{NoCreate, Create}
@@ -17,47 +18,47 @@ use Rattle.file_ops.specs.Opening.{open_args}
 use Rattle.file_ops.specs.Sessions.{exchange_id_args, create_session_args, sequence_args}
 
 abbrev pub arg_case : FileArg → Case FileArg
-arg_case (Close v) = holds 4 close_args Close v
-arg_case (Commit v) = holds 5 commit_args Commit v
-arg_case (GetAttr v) = holds 9 bitmap GetAttr v
-arg_case GetFh = holds 10 void (λ v. GetFh) tt
-arg_case (Lookup v) = holds 15 bytes Lookup v
-arg_case (Open v) = holds 18 open_args Open v
-arg_case (PutFh v) = holds 22 handle PutFh v
-arg_case PutRootFh = holds 24 void (λ v. PutRootFh) tt
-arg_case (Read v) = holds 25 read_args Read v
-arg_case RestoreFh = holds 31 void (λ v. RestoreFh) tt
-arg_case SaveFh = holds 32 void (λ v. SaveFh) tt
-arg_case (Write v) = holds 38 write_args Write v
-arg_case (ExchangeId v) = holds 42 exchange_id_args ExchangeId v
-arg_case (CreateSession v) = holds 43 create_session_args CreateSession v
-arg_case (DestroySession v) = holds 44 (fixed 16) DestroySession v
-arg_case (Sequence v) = holds 53 sequence_args Sequence v
-arg_case (DestroyClientId v) = holds 57 hyper DestroyClientId v
-arg_case (ReclaimComplete v) = holds 58 flag ReclaimComplete v
-arg_case Illegal = holds 10044 void (λ v. Illegal) tt
+arg_case (Close v) = holds OP_CLOSE close_args Close v
+arg_case (Commit v) = holds OP_COMMIT commit_args Commit v
+arg_case (GetAttr v) = holds OP_GETATTR bitmap GetAttr v
+arg_case GetFh = holds OP_GETFH void (λ v. GetFh) tt
+arg_case (Lookup v) = holds OP_LOOKUP bytes Lookup v
+arg_case (Open v) = holds OP_OPEN open_args Open v
+arg_case (PutFh v) = holds OP_PUTFH handle PutFh v
+arg_case PutRootFh = holds OP_PUTROOTFH void (λ v. PutRootFh) tt
+arg_case (Read v) = holds OP_READ read_args Read v
+arg_case RestoreFh = holds OP_RESTOREFH void (λ v. RestoreFh) tt
+arg_case SaveFh = holds OP_SAVEFH void (λ v. SaveFh) tt
+arg_case (Write v) = holds OP_WRITE write_args Write v
+arg_case (ExchangeId v) = holds OP_EXCHANGE_ID exchange_id_args ExchangeId v
+arg_case (CreateSession v) = holds OP_CREATE_SESSION create_session_args CreateSession v
+arg_case (DestroySession v) = holds OP_DESTROY_SESSION (fixed 16) DestroySession v
+arg_case (Sequence v) = holds OP_SEQUENCE sequence_args Sequence v
+arg_case (DestroyClientId v) = holds OP_DESTROY_CLIENTID hyper DestroyClientId v
+arg_case (ReclaimComplete v) = holds OP_RECLAIM_COMPLETE flag ReclaimComplete v
+arg_case Illegal = holds OP_ILLEGAL void (λ v. Illegal) tt
 
 abbrev pub arg_arms : List (ArmOf arg_case)
 arg_arms =
-    arm 4 close_args Close (λ v. refl)
-    ∷ arm 5 commit_args Commit (λ v. refl)
-    ∷ arm 9 bitmap GetAttr (λ v. refl)
-    ∷ arm 10 void (λ v. GetFh) (λ v. refl)
-    ∷ arm 15 bytes Lookup (λ v. refl)
-    ∷ arm 18 open_args Open (λ v. refl)
-    ∷ arm 22 handle PutFh (λ v. refl)
-    ∷ arm 24 void (λ v. PutRootFh) (λ v. refl)
-    ∷ arm 25 read_args Read (λ v. refl)
-    ∷ arm 31 void (λ v. RestoreFh) (λ v. refl)
-    ∷ arm 32 void (λ v. SaveFh) (λ v. refl)
-    ∷ arm 38 write_args Write (λ v. refl)
-    ∷ arm 42 exchange_id_args ExchangeId (λ v. refl)
-    ∷ arm 43 create_session_args CreateSession (λ v. refl)
-    ∷ arm 44 (fixed 16) DestroySession (λ v. refl)
-    ∷ arm 53 sequence_args Sequence (λ v. refl)
-    ∷ arm 57 hyper DestroyClientId (λ v. refl)
-    ∷ arm 58 flag ReclaimComplete (λ v. refl)
-    ∷ arm 10044 void (λ v. Illegal) (λ v. refl)
+    arm OP_CLOSE close_args Close (λ v. refl)
+    ∷ arm OP_COMMIT commit_args Commit (λ v. refl)
+    ∷ arm OP_GETATTR bitmap GetAttr (λ v. refl)
+    ∷ arm OP_GETFH void (λ v. GetFh) (λ v. refl)
+    ∷ arm OP_LOOKUP bytes Lookup (λ v. refl)
+    ∷ arm OP_OPEN open_args Open (λ v. refl)
+    ∷ arm OP_PUTFH handle PutFh (λ v. refl)
+    ∷ arm OP_PUTROOTFH void (λ v. PutRootFh) (λ v. refl)
+    ∷ arm OP_READ read_args Read (λ v. refl)
+    ∷ arm OP_RESTOREFH void (λ v. RestoreFh) (λ v. refl)
+    ∷ arm OP_SAVEFH void (λ v. SaveFh) (λ v. refl)
+    ∷ arm OP_WRITE write_args Write (λ v. refl)
+    ∷ arm OP_EXCHANGE_ID exchange_id_args ExchangeId (λ v. refl)
+    ∷ arm OP_CREATE_SESSION create_session_args CreateSession (λ v. refl)
+    ∷ arm OP_DESTROY_SESSION (fixed 16) DestroySession (λ v. refl)
+    ∷ arm OP_SEQUENCE sequence_args Sequence (λ v. refl)
+    ∷ arm OP_DESTROY_CLIENTID hyper DestroyClientId (λ v. refl)
+    ∷ arm OP_RECLAIM_COMPLETE flag ReclaimComplete (λ v. refl)
+    ∷ arm OP_ILLEGAL void (λ v. Illegal) (λ v. refl)
     ∷ []
 
 pub arg_listed : (v : FileArg) → IsListed arg_arms v

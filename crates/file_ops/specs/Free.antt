@@ -1,6 +1,7 @@
 -- Bytes and lists with no limit of their own, and a word that is 0.
 use Rattle.std.specs.Prelude.{ℕ, List, [], ◌∷◌, refl}
 use Rattle.std.proofs.Common.{lit<}
+use Rattle.file_ops.specs.declared.zero.TheConstants.{NO_LIMIT}
 use Rattle.file_ops.specs.declared.zero.Zero.{Zero}
 use Rattle.file_ops.specs.declared.zero.Zero.TheVariants.{Word}
 use Rattle.wire_xdr.specs.Form.{Form}
@@ -9,10 +10,10 @@ use Rattle.wire_xdr.specs.Forms.{word, opaque, void, list, union}
 
 -- the length and the count are any word
 abbrev pub bytes : Form (List ℕ)
-bytes = opaque 4294967295 (lit< tt)
+bytes = opaque NO_LIMIT (lit< tt)
 
 abbrev pub list_of : {A : Type 0} → Form A → Form (List A)
-list_of a = list 4294967295 (lit< tt) a
+list_of a = list NO_LIMIT (lit< tt) a
 
 -- the numbers of the attributes of a file (RFC 8881 section 3.3.7)
 abbrev pub bitmap : Form (List ℕ)

@@ -1,6 +1,7 @@
 -- Forms of OPEN (RFC 8881 section 18.16).
 use Rattle.std.specs.Prelude.{ℕ, Bool, List, [], ◌∷◌, refl}
 use Rattle.std.proofs.Common.{lit<}
+use Rattle.nfs_base.specs.declared.limits.TheConstants.{TEXT_LIMIT}
 use Rattle.nfs_base.specs.Forms.{state_id}
 use Rattle.nfs_base.specs.declared.state_id.StateId.{StateId}
 use Rattle.file_ops.specs.declared.zero.Zero.{Zero}
@@ -53,7 +54,7 @@ abbrev pub open_of : ℕ × (ℕ × (ℕ × (ℕ × (List ℕ × OpenHow)))) →
 open_of v = record { seqid = v.0; access = v.1.0; deny = v.1.1.0; client = v.1.1.1.0; owner = v.1.1.1.1.0; how = v.1.1.1.1.1 }
 
 unfoldable pub open_args : Form OpenArgs
-open_args = seen_as open_of (λ v. (v.seqid, (v.access, (v.deny, (v.client, (v.owner, v.how)))))) (λ v. refl) (λ v. refl) (both word (both word (both word (both hyper (both (opaque 1024 (lit< tt)) open_how)))))
+open_args = seen_as open_of (λ v. (v.seqid, (v.access, (v.deny, (v.client, (v.owner, v.how)))))) (λ v. refl) (λ v. refl) (both word (both word (both word (both hyper (both (opaque TEXT_LIMIT (lit< tt)) open_how)))))
 
 abbrev pub open_done_of : StateId × (Bool × (ℕ × (ℕ × (ℕ × (List ℕ × Zero))))) → OpenDone
 open_done_of v = record { state_id = v.0; atomic = v.1.0; before = v.1.1.0; after = v.1.1.1.0; flags = v.1.1.1.1.0; attributes_set = v.1.1.1.1.1.0; delegation = v.1.1.1.1.1.1 }

@@ -1,13 +1,14 @@
 -- The operations by number and name (RFC 8881 section 16.2, RFC 5662).
 use Rattle.std.specs.Prelude.{ℕ, Bool, false, IsTrue, List, [], ◌∷◌, codes, ◌==◌, ◌||◌, if◌then◌else◌}
+use Rattle.file_ops.specs.declared.operation.TheConstants.{OP_CLOSE, OP_COMMIT, OP_GETATTR, OP_GETFH, OP_LOOKUP, OP_OPEN, OP_PUTFH, OP_PUTROOTFH, OP_READ, OP_RESTOREFH, OP_SAVEFH, OP_WRITE, OP_EXCHANGE_ID, OP_CREATE_SESSION, OP_DESTROY_SESSION, OP_SEQUENCE, OP_DESTROY_CLIENTID, OP_RECLAIM_COMPLETE, OP_ILLEGAL}
 
 abbrev pub operations : List (ℕ × List ℕ)
 operations =
-    (4, codes "CLOSE") ∷ (5, codes "COMMIT") ∷ (9, codes "GETATTR") ∷ (10, codes "GETFH") ∷ (15, codes "LOOKUP")
-    ∷ (18, codes "OPEN") ∷ (22, codes "PUTFH") ∷ (24, codes "PUTROOTFH") ∷ (25, codes "READ") ∷ (31, codes "RESTOREFH")
-    ∷ (32, codes "SAVEFH") ∷ (38, codes "WRITE") ∷ (42, codes "EXCHANGE_ID") ∷ (43, codes "CREATE_SESSION")
-    ∷ (44, codes "DESTROY_SESSION") ∷ (53, codes "SEQUENCE") ∷ (57, codes "DESTROY_CLIENTID")
-    ∷ (58, codes "RECLAIM_COMPLETE") ∷ (10044, codes "ILLEGAL") ∷ []
+    (OP_CLOSE, codes "CLOSE") ∷ (OP_COMMIT, codes "COMMIT") ∷ (OP_GETATTR, codes "GETATTR") ∷ (OP_GETFH, codes "GETFH") ∷ (OP_LOOKUP, codes "LOOKUP")
+    ∷ (OP_OPEN, codes "OPEN") ∷ (OP_PUTFH, codes "PUTFH") ∷ (OP_PUTROOTFH, codes "PUTROOTFH") ∷ (OP_READ, codes "READ") ∷ (OP_RESTOREFH, codes "RESTOREFH")
+    ∷ (OP_SAVEFH, codes "SAVEFH") ∷ (OP_WRITE, codes "WRITE") ∷ (OP_EXCHANGE_ID, codes "EXCHANGE_ID") ∷ (OP_CREATE_SESSION, codes "CREATE_SESSION")
+    ∷ (OP_DESTROY_SESSION, codes "DESTROY_SESSION") ∷ (OP_SEQUENCE, codes "SEQUENCE") ∷ (OP_DESTROY_CLIENTID, codes "DESTROY_CLIENTID")
+    ∷ (OP_RECLAIM_COMPLETE, codes "RECLAIM_COMPLETE") ∷ (OP_ILLEGAL, codes "ILLEGAL") ∷ []
 
 abbrev pub has_number : List (ℕ × List ℕ) → ℕ → Bool
 has_number [] n = false

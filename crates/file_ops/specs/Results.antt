@@ -3,6 +3,7 @@ use Rattle.std.specs.Prelude.{◌≡◌, ℕ, List, [], ◌∷◌, refl}
 use Rattle.nfs_base.specs.Forms.{handle, state_id, status, answer}
 use Rattle.nfs_base.specs.Answers.{answer_status}
 use Rattle.nfs_base.specs.declared.status.Status.{Status}
+use Rattle.file_ops.specs.declared.operation.TheConstants.{OP_CLOSE, OP_COMMIT, OP_GETATTR, OP_GETFH, OP_LOOKUP, OP_OPEN, OP_PUTFH, OP_PUTROOTFH, OP_READ, OP_RESTOREFH, OP_SAVEFH, OP_WRITE, OP_EXCHANGE_ID, OP_CREATE_SESSION, OP_DESTROY_SESSION, OP_SEQUENCE, OP_DESTROY_CLIENTID, OP_RECLAIM_COMPLETE, OP_ILLEGAL}
 use Rattle.file_ops.specs.declared.results.FileRes.{FileRes}
 use Rattle.file_ops.specs.declared.results.FileRes.TheVariants.{Close, Commit, GetAttr, GetFh, Lookup, Open, PutFh, PutRootFh, Read, RestoreFh, SaveFh, Write, ExchangeId, CreateSession, DestroySession, Sequence, DestroyClientId, ReclaimComplete, Illegal}
 use Rattle.wire_xdr.specs.Form.{Form}
@@ -13,47 +14,47 @@ use Rattle.file_ops.specs.Opening.{open_done}
 use Rattle.file_ops.specs.Sessions.{exchange_id_done, create_session_done, sequence_done}
 
 abbrev pub res_case : FileRes → Case FileRes
-res_case (Close v) = holds 4 (answer state_id) Close v
-res_case (Commit v) = holds 5 (answer (fixed 8)) Commit v
-res_case (GetAttr v) = holds 9 (answer attributes) GetAttr v
-res_case (GetFh v) = holds 10 (answer handle) GetFh v
-res_case (Lookup v) = holds 15 status Lookup v
-res_case (Open v) = holds 18 (answer open_done) Open v
-res_case (PutFh v) = holds 22 status PutFh v
-res_case (PutRootFh v) = holds 24 status PutRootFh v
-res_case (Read v) = holds 25 (answer read_done) Read v
-res_case (RestoreFh v) = holds 31 status RestoreFh v
-res_case (SaveFh v) = holds 32 status SaveFh v
-res_case (Write v) = holds 38 (answer write_done) Write v
-res_case (ExchangeId v) = holds 42 (answer exchange_id_done) ExchangeId v
-res_case (CreateSession v) = holds 43 (answer create_session_done) CreateSession v
-res_case (DestroySession v) = holds 44 status DestroySession v
-res_case (Sequence v) = holds 53 (answer sequence_done) Sequence v
-res_case (DestroyClientId v) = holds 57 status DestroyClientId v
-res_case (ReclaimComplete v) = holds 58 status ReclaimComplete v
-res_case (Illegal v) = holds 10044 status Illegal v
+res_case (Close v) = holds OP_CLOSE (answer state_id) Close v
+res_case (Commit v) = holds OP_COMMIT (answer (fixed 8)) Commit v
+res_case (GetAttr v) = holds OP_GETATTR (answer attributes) GetAttr v
+res_case (GetFh v) = holds OP_GETFH (answer handle) GetFh v
+res_case (Lookup v) = holds OP_LOOKUP status Lookup v
+res_case (Open v) = holds OP_OPEN (answer open_done) Open v
+res_case (PutFh v) = holds OP_PUTFH status PutFh v
+res_case (PutRootFh v) = holds OP_PUTROOTFH status PutRootFh v
+res_case (Read v) = holds OP_READ (answer read_done) Read v
+res_case (RestoreFh v) = holds OP_RESTOREFH status RestoreFh v
+res_case (SaveFh v) = holds OP_SAVEFH status SaveFh v
+res_case (Write v) = holds OP_WRITE (answer write_done) Write v
+res_case (ExchangeId v) = holds OP_EXCHANGE_ID (answer exchange_id_done) ExchangeId v
+res_case (CreateSession v) = holds OP_CREATE_SESSION (answer create_session_done) CreateSession v
+res_case (DestroySession v) = holds OP_DESTROY_SESSION status DestroySession v
+res_case (Sequence v) = holds OP_SEQUENCE (answer sequence_done) Sequence v
+res_case (DestroyClientId v) = holds OP_DESTROY_CLIENTID status DestroyClientId v
+res_case (ReclaimComplete v) = holds OP_RECLAIM_COMPLETE status ReclaimComplete v
+res_case (Illegal v) = holds OP_ILLEGAL status Illegal v
 
 abbrev pub res_arms : List (ArmOf res_case)
 res_arms =
-    arm 4 (answer state_id) Close (λ v. refl)
-    ∷ arm 5 (answer (fixed 8)) Commit (λ v. refl)
-    ∷ arm 9 (answer attributes) GetAttr (λ v. refl)
-    ∷ arm 10 (answer handle) GetFh (λ v. refl)
-    ∷ arm 15 status Lookup (λ v. refl)
-    ∷ arm 18 (answer open_done) Open (λ v. refl)
-    ∷ arm 22 status PutFh (λ v. refl)
-    ∷ arm 24 status PutRootFh (λ v. refl)
-    ∷ arm 25 (answer read_done) Read (λ v. refl)
-    ∷ arm 31 status RestoreFh (λ v. refl)
-    ∷ arm 32 status SaveFh (λ v. refl)
-    ∷ arm 38 (answer write_done) Write (λ v. refl)
-    ∷ arm 42 (answer exchange_id_done) ExchangeId (λ v. refl)
-    ∷ arm 43 (answer create_session_done) CreateSession (λ v. refl)
-    ∷ arm 44 status DestroySession (λ v. refl)
-    ∷ arm 53 (answer sequence_done) Sequence (λ v. refl)
-    ∷ arm 57 status DestroyClientId (λ v. refl)
-    ∷ arm 58 status ReclaimComplete (λ v. refl)
-    ∷ arm 10044 status Illegal (λ v. refl)
+    arm OP_CLOSE (answer state_id) Close (λ v. refl)
+    ∷ arm OP_COMMIT (answer (fixed 8)) Commit (λ v. refl)
+    ∷ arm OP_GETATTR (answer attributes) GetAttr (λ v. refl)
+    ∷ arm OP_GETFH (answer handle) GetFh (λ v. refl)
+    ∷ arm OP_LOOKUP status Lookup (λ v. refl)
+    ∷ arm OP_OPEN (answer open_done) Open (λ v. refl)
+    ∷ arm OP_PUTFH status PutFh (λ v. refl)
+    ∷ arm OP_PUTROOTFH status PutRootFh (λ v. refl)
+    ∷ arm OP_READ (answer read_done) Read (λ v. refl)
+    ∷ arm OP_RESTOREFH status RestoreFh (λ v. refl)
+    ∷ arm OP_SAVEFH status SaveFh (λ v. refl)
+    ∷ arm OP_WRITE (answer write_done) Write (λ v. refl)
+    ∷ arm OP_EXCHANGE_ID (answer exchange_id_done) ExchangeId (λ v. refl)
+    ∷ arm OP_CREATE_SESSION (answer create_session_done) CreateSession (λ v. refl)
+    ∷ arm OP_DESTROY_SESSION status DestroySession (λ v. refl)
+    ∷ arm OP_SEQUENCE (answer sequence_done) Sequence (λ v. refl)
+    ∷ arm OP_DESTROY_CLIENTID status DestroyClientId (λ v. refl)
+    ∷ arm OP_RECLAIM_COMPLETE status ReclaimComplete (λ v. refl)
+    ∷ arm OP_ILLEGAL status Illegal (λ v. refl)
     ∷ []
 
 pub res_listed : (v : FileRes) → IsListed res_arms v

@@ -1,6 +1,7 @@
 -- Forms of the operations on clients and sessions (RFC 8881 sections 18.35, 18.36 and 18.46).
 use Rattle.std.specs.Prelude.{ℕ, Bool, List, [], ◌∷◌, refl, Option}
 use Rattle.std.proofs.Common.{lit<}
+use Rattle.nfs_base.specs.declared.limits.TheConstants.{TEXT_LIMIT}
 use Rattle.nfs_base.specs.Forms.{time}
 use Rattle.nfs_base.specs.declared.time.Time.{Time}
 use Rattle.file_ops.specs.declared.zero.Zero.{Zero}
@@ -50,7 +51,7 @@ abbrev pub exchange_id_of : List ℕ × (List ℕ × (ℕ × Protection)) → Ex
 exchange_id_of v = record { verifier = v.0; owner = v.1.0; flags = v.1.1.0; protection = v.1.1.1 }
 
 unfoldable pub exchange_id_args : Form ExchangeIdArgs
-exchange_id_args = seen_as exchange_id_of (λ v. (v.verifier, (v.owner, (v.flags, v.protection)))) (λ v. refl) (λ v. refl) (both (fixed 8) (both (opaque 1024 (lit< tt)) (both word protection)))
+exchange_id_args = seen_as exchange_id_of (λ v. (v.verifier, (v.owner, (v.flags, v.protection)))) (λ v. refl) (λ v. refl) (both (fixed 8) (both (opaque TEXT_LIMIT (lit< tt)) (both word protection)))
 
 abbrev pub exchange_id_done_of : (ℕ × (ℕ × (ℕ × Zero))) × (ℕ × (List ℕ × (List ℕ × Option ImplId))) → ExchangeIdDone
 exchange_id_done_of v = record { client = v.0.0; sequence = v.0.1.0; flags = v.0.1.1.0; protection = v.0.1.1.1; minor_id = v.1.0; major_id = v.1.1.0; scope = v.1.1.1.0; impl_id = v.1.1.1.1 }

@@ -4,7 +4,7 @@
 ghost use Rattle.file_ops.specs.Opening.{claim, open_how, open_args, open_done};
 
 use crate::zero::{NO_LIMIT, Zero};
-use nfs_base::StateId;
+use nfs_base::{StateId, TEXT_LIMIT};
 use outcome::Mem;
 use std::alloc::Global;
 use wire_xdr::{Items, Octets, ReadError, Reader, Writer, Xdr};
@@ -104,7 +104,7 @@ impl Xdr for OpenArgs {
             access: u32::parse(alloc, reader)?,
             deny: u32::parse(alloc, reader)?,
             client: u64::parse(alloc, reader)?,
-            owner: Octets::parse(alloc, reader, 1024)?,
+            owner: Octets::parse(alloc, reader, TEXT_LIMIT)?,
             how: OpenHow::parse(alloc, reader)?,
         })
     }

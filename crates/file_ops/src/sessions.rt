@@ -4,7 +4,7 @@ ghost use Rattle.file_ops.specs.Sessions.{impl_id, protection, exchange_id_args,
 
 use crate::parms::{ChannelAttrs, SecParm};
 use crate::zero::{NO_LIMIT, Zero};
-use nfs_base::Time;
+use nfs_base::{TEXT_LIMIT, Time};
 use outcome::Mem;
 use std::alloc::Global;
 use wire_xdr::{Items, Octets, ReadError, Reader, Writer, Xdr, put_four};
@@ -89,7 +89,7 @@ impl Xdr for ExchangeIdArgs {
     fn parse(alloc: Global, reader: &mut Reader) -> Result<ExchangeIdArgs, ReadError> {
         Ok(ExchangeIdArgs {
             verifier: <[u8; 8]>::parse(alloc, reader)?,
-            owner: Octets::parse(alloc, reader, 1024)?,
+            owner: Octets::parse(alloc, reader, TEXT_LIMIT)?,
             flags: u32::parse(alloc, reader)?,
             protection: Protection::parse(alloc, reader)?,
         })

@@ -10,6 +10,7 @@ use Rattle.nfs_base.specs.declared.net_loc.NetLoc.{NetLoc}
 use Rattle.nfs_base.specs.declared.net_loc.NetLoc.TheVariants.{Name, Url, Addr}
 use Rattle.nfs_base.specs.declared.state_id.StateId.{StateId}
 use Rattle.nfs_base.specs.declared.status.Status.{Status}
+use Rattle.nfs_base.specs.declared.status.TheConstants.Status.{OK}
 use Rattle.nfs_base.specs.declared.time.Time.{Time}
 use Rattle.nfs_base.specs.declared.written.TheConstants.{UNSTABLE4, DATA_SYNC4, FILE_SYNC4}
 use Rattle.nfs_base.specs.declared.written.Stability.{Stability}
@@ -77,11 +78,11 @@ write_response = seen_as (λ v. record { callback_id = v.0; count = v.1.0; commi
 
 -- what an operation answers: status 0 and what it did, or another status alone
 abbrev pub answer_case : {T : Type 0} → Form T → Answer T → Case (Answer T)
-answer_case form (Done v) = holds 0 form Done v
+answer_case form (Done v) = holds OK.number form Done v
 answer_case form (Refused refused) = defaults refused.number void (λ v. Refused refused) tt
 
 abbrev pub answer_arms : {T : Type 0} (form : Form T) → List (ArmOf (answer_case form))
-answer_arms form = arm 0 form Done (λ v. refl) ∷ []
+answer_arms form = arm OK.number form Done (λ v. refl) ∷ []
 
 -- a refusal with this number
 abbrev pub refused_with : {T : Type 0} → ℕ → Unit {0} → Answer T
