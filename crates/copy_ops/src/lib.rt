@@ -15,8 +15,6 @@ mod laws;
 mod operation;
 mod res;
 mod results;
-#[cfg(test)]
-mod tests;
 
 pub use arg::CopyArg;
 pub use args::{CloneArgs, CopyArgs, NotifyArgs};

@@ -18,8 +18,6 @@ mod operation;
 mod parms;
 mod results;
 mod sessions;
-#[cfg(test)]
-mod tests;
 mod zero;
 
 pub use args::{FileArg, arguments_have_one_spelling, read_file_op, write_file_op};

@@ -22,8 +22,6 @@ mod seal;
 mod side;
 mod state_id;
 mod status;
-#[cfg(test)]
-mod tests;
 mod time;
 mod written;
 

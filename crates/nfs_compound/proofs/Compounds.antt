@@ -6,10 +6,10 @@ use Rattle.nfs_compound.specs.declared.tail.Tail.{Tail}
 use Rattle.nfs_compound.specs.declared.operation.Class.TheVariants.{Listed}
 use Rattle.nfs_compound.specs.declared.op.Op.{Op}
 use Rattle.nfs_compound.specs.declared.op.Op.TheVariants.{Copy, File}
-use Rattle.nfs_compound.specs.declared.callback.CbOp.{CbOp}
-use Rattle.nfs_compound.specs.declared.callback.CbOp.TheVariants as callbacks
+use Rattle.nfs_compound.specs.declared.cb_op.CbOp.{CbOp}
+use Rattle.nfs_compound.specs.declared.cb_op.CbOp.TheVariants as callbacks
 use Rattle.nfs_compound.specs.declared.compound.Compound.{Compound}
-use Rattle.nfs_compound.specs.declared.callback.CbCompound.{CbCompound}
+use Rattle.nfs_compound.specs.declared.cb_compound.CbCompound.{CbCompound}
 use Rattle.nfs_compound.specs.Body.{one_at, body_at}
 use Rattle.nfs_compound.specs.Whole.{start}
 use Rattle.nfs_compound.specs.Ops.{op_class, op_arg, op_number, op_own, op_is_cut, operation}
@@ -59,19 +59,17 @@ compound_found bytes c fits e =
     let t = compound_head.lawful.takes (start bytes) h.0.0 h.0.1 fits h.1 in
     let b = body_found operation one op_is_cut op_takes h.0.0.1.1 0 h.0.1 body.0 t.0.bytes body.1 in
     let f = body_fits operation one op_is_cut h.0.0.1.1 0 h.0.1 body.0.0 body.0.1 b in
-    let tag : length h.0.0.0 < 2 ^ 32 = omega (arith, t.1.0) in
     let ops : length body.0.0 ≤ 4294967295 = omega (arith, f.1, t.1.1.1) in
     subst (λ (compound : Compound). IsCompound compound bytes) (ok_is {E = ℕ} (made h.0.0 body.0) c body.2)
-    (record { behind = h.0.1; head = t.0; body = b; count = t.1.1.1; fits = record { tag = tag; minor = t.1.1.0; ops = (ops, f.0) } })
+    (record { behind = h.0.1; head = t.0; body = b; count = t.1.1.1; fits = record { tag = t.1.0; minor = t.1.1.0; ops = (ops, f.0) } })
 
 pub compound_again : (bytes : List ℕ) (c : Compound) → IsBytes bytes → IsCompound c bytes → compound_of bytes ≡ Ok c
 unfolding compound_at made
 compound_again bytes c fits h =
     let one = one_at op_class op_arg in
     let v : List ℕ × (ℕ × ℕ) = (c.tag, (c.minor, c.count)) in
-    let tag : length c.tag ≤ 4294967295 = omega (arith, h.fits.tag) in
     let head : compound_head.read (start bytes) ≡ Ok (v, h.behind) =
-    ap (λ (r : List ℕ). compound_head.read (start r)) h.head.parts ∙ compound_head.lawful.again 0 v h.behind.rest (tag, (h.fits.minor, h.count))
+    ap (λ (r : List ℕ). compound_head.read (start r)) h.head.parts ∙ compound_head.lawful.again 0 v h.behind.rest (h.fits.tag, (h.fits.minor, h.count))
     ∙ ap (λ (k : ℕ). Ok (v, record { at = k; rest = h.behind.rest })) (sym h.head.by) in
     ap (λ (r : Result ((List ℕ × (ℕ × ℕ)) × Cursor) ℕ). r >>= λ head. body_at one op_is_cut head.0.1.1 0 head.1 >>= λ body. Ok (made head.0 body)) head
     ∙ ap (λ (r : Result (List Op × Tail) ℕ). r >>= λ body. Ok (made v body)) (body_again operation one op_is_cut op_again c.count 0 h.behind c.ops c.tail h.head.bytes h.body)
@@ -90,19 +88,17 @@ cb_compound_found bytes c fits e =
     let t = cb_compound_head.lawful.takes (start bytes) h.0.0 h.0.1 fits h.1 in
     let b = body_found cb_operation one cb_is_cut cb_takes h.0.0.1.1.1 0 h.0.1 body.0 t.0.bytes body.1 in
     let f = body_fits cb_operation one cb_is_cut h.0.0.1.1.1 0 h.0.1 body.0.0 body.0.1 b in
-    let tag : length h.0.0.0 < 2 ^ 32 = omega (arith, t.1.0) in
     let ops : length body.0.0 ≤ 4294967295 = omega (arith, f.1, t.1.1.1.1) in
     subst (λ (compound : CbCompound). IsCbCompound compound bytes) (ok_is {E = ℕ} (cb_made h.0.0 body.0) c body.2)
-    (record { behind = h.0.1; head = t.0; body = b; count = t.1.1.1.1; fits = record { tag = tag; minor = t.1.1.0; ident = t.1.1.1.0; ops = (ops, f.0) } })
+    (record { behind = h.0.1; head = t.0; body = b; count = t.1.1.1.1; fits = record { tag = t.1.0; minor = t.1.1.0; ident = t.1.1.1.0; ops = (ops, f.0) } })
 
 pub cb_compound_again : (bytes : List ℕ) (c : CbCompound) → IsBytes bytes → IsCbCompound c bytes → cb_compound_of bytes ≡ Ok c
 unfolding cb_compound_at cb_made
 cb_compound_again bytes c fits h =
     let one = one_at cb_class cb_arg in
     let v : List ℕ × (ℕ × (ℕ × ℕ)) = (c.tag, (c.minor, (c.ident, c.count))) in
-    let tag : length c.tag ≤ 4294967295 = omega (arith, h.fits.tag) in
     let head : cb_compound_head.read (start bytes) ≡ Ok (v, h.behind) =
-    ap (λ (r : List ℕ). cb_compound_head.read (start r)) h.head.parts ∙ cb_compound_head.lawful.again 0 v h.behind.rest (tag, (h.fits.minor, (h.fits.ident, h.count)))
+    ap (λ (r : List ℕ). cb_compound_head.read (start r)) h.head.parts ∙ cb_compound_head.lawful.again 0 v h.behind.rest (h.fits.tag, (h.fits.minor, (h.fits.ident, h.count)))
     ∙ ap (λ (k : ℕ). Ok (v, record { at = k; rest = h.behind.rest })) (sym h.head.by) in
     ap (λ (r : Result ((List ℕ × (ℕ × (ℕ × ℕ))) × Cursor) ℕ). r >>= λ head. body_at one cb_is_cut head.0.1.1.1 0 head.1 >>= λ body. Ok (cb_made head.0 body)) head
     ∙ ap (λ (r : Result (List CbOp × Tail) ℕ). r >>= λ body. Ok (cb_made v body)) (body_again cb_operation one cb_is_cut cb_again c.count 0 h.behind c.ops c.tail h.head.bytes h.body)

@@ -2,7 +2,7 @@
 use Rattle.std.proofs.Common.{◌≡◌, ℕ, Bool, true, false, eqb, List, [], ◌∷◌, ◌++◌, Option, refl, sym, ap, subst, append_assoc, inl, inr, ◌∙◌, drop, length, get_or, ◌+◌, ◌<◌, ◌≤◌, add-one}
 use Rattle.std.proofs.Math.Seq.{drop-cons}
 use Rattle.std.proofs.lemmas.List.{drop_all, append-nil}
-use Rattle.std.proofs.lemmas.Bool.{eq-eqb, ne_eqb}
+use Rattle.std.proofs.lemmas.Bool.{eqb-true, eq-eqb, ne_eqb}
 use Rattle.std.specs.Prelude.{MatchBool}
 use Rattle.std.specs.List.{AllByRecursion}
 use Rattle.nfs_compound.specs.declared.op.Op.{Op}
@@ -10,7 +10,8 @@ use Rattle.nfs_compound.specs.declared.res.Res.{Res}
 use Rattle.nfs_compound.specs.declared.held.Held.{Held}
 use Rattle.nfs_compound.specs.declared.tail.Tail.{Tail}
 use Rattle.nfs_compound.specs.declared.tail.Tail.TheVariants.{Whole, Unreadable, Unsupported, Illegal}
-use Rattle.nfs_compound.specs.Results.{res_status, outcome}
+use Rattle.nfs_compound.specs.Ops.{op_number}
+use Rattle.nfs_compound.specs.Results.{res_number, res_status, outcome}
 use Rattle.nfs_compound.specs.Walk.{next_number, last_status, AnswersTail, Walks, BreaksOff}
 
 abbrev pub Acts : Type 0 → Type 1
@@ -26,14 +27,13 @@ begins acts tail first held ops = record { walks = λ more last w. w; breaks = �
 
 -- one more was answered with status 0
 pub goes_on : {S : Type 0} (acts : Acts S) (tail : Tail) (first : S) (held : Held) (ops : List Op) (before : List Res) (actor : S) (now : Held) (op : Op) (left : List Op) (res : Res) (after : S) (then_held : Held)
-    → Continues acts tail first held ops before actor now (op ∷ left) → acts actor op (next_number left) now res then_held after → eqb (res_status res).number 0 ≡ true
+    → Continues acts tail first held ops before actor now (op ∷ left) → acts actor op (next_number left) now res then_held after → res_number res ≡ op_number op → eqb (res_status res).number 0 ≡ true
     → Continues acts tail first held ops (before ++ res ∷ []) after then_held left
-goes_on acts tail first held ops before actor now op left res after then_held so_far acted ok = record {
+goes_on acts tail first held ops before actor now op left res after then_held so_far acted number ok = record {
   walks = λ more last w.
       subst (λ (results : List Res). Walks acts tail first held ops results last) (sym (append_assoc before (res ∷ []) more))
-      (so_far.walks (res ∷ more) last (after, then_held, acted, subst (λ (b : Bool). MatchBool b (Walks acts tail after then_held left more last) ((more ≡ []) × (last ≡ after))) (sym ok) w));
-  breaks = λ last b.
-      so_far.breaks last (inr (res, after, then_held, acted, subst (λ (t : Bool). MatchBool t (BreaksOff acts after then_held left last) (last ≡ after)) (sym ok) b));
+      (so_far.walks (res ∷ more) last (after, then_held, acted, number, subst (λ (b : Bool). MatchBool b (Walks acts tail after then_held left more last) ((more ≡ []) × (last ≡ after))) (sym ok) w));
+  breaks = λ last b. so_far.breaks last (inr (res, after, then_held, acted, eqb-true (res_status res).number 0 ok, b));
 }
 
 -- nothing stands behind a status other than 0
@@ -43,12 +43,12 @@ no_more P false after none e is = (is, refl)
 
 -- one more was answered with another status
 pub stops : {S : Type 0} (acts : Acts S) (tail : Tail) (first : S) (held : Held) (ops : List Op) (before : List Res) (actor : S) (now : Held) (op : Op) (left : List Op) (res : Res) (after : S) (then_held : Held)
-    → Continues acts tail first held ops before actor now (op ∷ left) → acts actor op (next_number left) now res then_held after → eqb (res_status res).number 0 ≡ false
+    → Continues acts tail first held ops before actor now (op ∷ left) → acts actor op (next_number left) now res then_held after → res_number res ≡ op_number op → eqb (res_status res).number 0 ≡ false
     → Walks acts tail first held ops (before ++ res ∷ []) after
-stops acts tail first held ops before actor now op left res after then_held so_far acted failed =
-    so_far.walks (res ∷ []) after (after, then_held, acted, no_more (Walks acts tail after then_held left [] after) (eqb (res_status res).number 0) after [] failed refl)
+stops acts tail first held ops before actor now op left res after then_held so_far acted number failed =
+    so_far.walks (res ∷ []) after (after, then_held, acted, number, no_more (Walks acts tail after then_held left [] after) (eqb (res_status res).number 0) after [] failed refl)
 
--- memory ran out before the next, or with its result
+-- memory ran out before the next
 pub breaks_here : {S : Type 0} (acts : Acts S) (actor : S) (now : Held) (left : List Op) → BreaksOff acts actor now left actor
 breaks_here acts actor now [] = refl
 breaks_here acts actor now (op ∷ left) = inl refl
@@ -56,15 +56,6 @@ breaks_here acts actor now (op ∷ left) = inl refl
 pub breaks : {S : Type 0} (acts : Acts S) (tail : Tail) (first : S) (held : Held) (ops : List Op) (before : List Res) (actor : S) (now : Held) (left : List Op)
     → Continues acts tail first held ops before actor now left → BreaksOff acts first held ops actor
 breaks acts tail first held ops before actor now left so_far = so_far.breaks actor (breaks_here acts actor now left)
-
-by_status : {S : Type 0} (acts : Acts S) (after : S) (then_held : Held) (left : List Op) (b : Bool) → MatchBool b (BreaksOff acts after then_held left after) (after ≡ after)
-by_status acts after then_held left true = breaks_here acts after then_held left
-by_status acts after then_held left false = refl
-
-pub breaks_behind : {S : Type 0} (acts : Acts S) (tail : Tail) (first : S) (held : Held) (ops : List Op) (before : List Res) (actor : S) (now : Held) (op : Op) (left : List Op) (res : Res) (after : S) (then_held : Held)
-    → Continues acts tail first held ops before actor now (op ∷ left) → acts actor op (next_number left) now res then_held after → BreaksOff acts first held ops after
-breaks_behind acts tail first held ops before actor now op left res after then_held so_far acted =
-    so_far.breaks after (inr (res, after, then_held, acted, by_status acts after then_held left (eqb (res_status res).number 0)))
 
 -- ---- by places
 
@@ -81,26 +72,19 @@ from_place acts tail first held ops slice before actor now place op is here so_f
 
 pub goes_on_at : {S : Type 0} (acts : Acts S) (tail : Tail) (first : S) (held : Held) (ops slice : List Op) (before : List Res) (actor : S) (now : Held) (place : ℕ) (op : Op) (next : Option ℕ) (res : Res) (after : S) (then_held : Held)
     → slice ≡ ops → op ≡ get_or slice place op → Continues acts tail first held ops before actor now (drop place ops) → place < length slice → next ≡ next_number (drop (place + 1) slice)
-    → acts actor op next now res then_held after → (res_status res).number ≡ 0 → Continues acts tail first held ops (before ++ res ∷ []) after then_held (drop (place + 1) ops)
-goes_on_at acts tail first held ops slice before actor now place op next res after then_held is here so_far lt next_is acted ok =
+    → acts actor op next now res then_held after → res_number res ≡ op_number op → (res_status res).number ≡ 0 → Continues acts tail first held ops (before ++ res ∷ []) after then_held (drop (place + 1) ops)
+goes_on_at acts tail first held ops slice before actor now place op next res after then_held is here so_far lt next_is acted number ok =
     subst (λ (all : List Op). Continues acts tail first held ops (before ++ res ∷ []) after then_held (drop (place + 1) all)) is
     (goes_on acts tail first held ops before actor now op (drop (place + 1) slice) res after then_held
     (from_place acts tail first held ops slice before actor now place op is here so_far lt)
-    (subst (λ (n : Option ℕ). acts actor op n now res then_held after) next_is acted) (eq-eqb (res_status res).number 0 ok))
+    (subst (λ (n : Option ℕ). acts actor op n now res then_held after) next_is acted) number (eq-eqb (res_status res).number 0 ok))
 
 pub stops_at : {S : Type 0} (acts : Acts S) (tail : Tail) (first : S) (held : Held) (ops slice : List Op) (before : List Res) (actor : S) (now : Held) (place : ℕ) (op : Op) (next : Option ℕ) (res : Res) (after : S) (then_held : Held)
     → slice ≡ ops → op ≡ get_or slice place op → Continues acts tail first held ops before actor now (drop place ops) → place < length slice → next ≡ next_number (drop (place + 1) slice)
-    → acts actor op next now res then_held after → ((res_status res).number ≡ 0 → ⊥) → Walks acts tail first held ops (before ++ res ∷ []) after
-stops_at acts tail first held ops slice before actor now place op next res after then_held is here so_far lt next_is acted failed =
+    → acts actor op next now res then_held after → res_number res ≡ op_number op → ((res_status res).number ≡ 0 → ⊥) → Walks acts tail first held ops (before ++ res ∷ []) after
+stops_at acts tail first held ops slice before actor now place op next res after then_held is here so_far lt next_is acted number failed =
     stops acts tail first held ops before actor now op (drop (place + 1) slice) res after then_held (from_place acts tail first held ops slice before actor now place op is here so_far lt)
-    (subst (λ (n : Option ℕ). acts actor op n now res then_held after) next_is acted) (ne_eqb (res_status res).number 0 failed)
-
-pub breaks_at : {S : Type 0} (acts : Acts S) (tail : Tail) (first : S) (held : Held) (ops slice : List Op) (before : List Res) (actor : S) (now : Held) (place : ℕ) (op : Op) (next : Option ℕ) (res : Res) (after : S) (then_held : Held)
-    → slice ≡ ops → op ≡ get_or slice place op → Continues acts tail first held ops before actor now (drop place ops) → place < length slice → next ≡ next_number (drop (place + 1) slice)
-    → acts actor op next now res then_held after → BreaksOff acts first held ops after
-breaks_at acts tail first held ops slice before actor now place op next res after then_held is here so_far lt next_is acted =
-    breaks_behind acts tail first held ops before actor now op (drop (place + 1) slice) res after then_held (from_place acts tail first held ops slice before actor now place op is here so_far lt)
-    (subst (λ (n : Option ℕ). acts actor op n now res then_held after) next_is acted)
+    (subst (λ (n : Option ℕ). acts actor op n now res then_held after) next_is acted) number (ne_eqb (res_status res).number 0 failed)
 
 -- all were answered with status 0
 pub ends : {S : Type 0} (acts : Acts S) (tail : Tail) (first : S) (held : Held) (ops : List Op) (before : List Res) (actor : S) (now : Held) (place : ℕ) (more : List Res)

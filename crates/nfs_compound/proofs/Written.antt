@@ -11,8 +11,8 @@ use Rattle.wire_xdr.specs.StepLaws.{IsBytes-drop}
 use Rattle.nfs_compound.specs.declared.tail.Tail.{Tail}
 use Rattle.nfs_compound.specs.declared.tail.Tail.TheVariants.{Whole}
 use Rattle.nfs_compound.specs.declared.compound.Compound.{Compound}
-use Rattle.nfs_compound.specs.declared.callback.CbCompound.{CbCompound}
-use Rattle.nfs_compound.specs.declared.callback.CbOp.{CbOp}
+use Rattle.nfs_compound.specs.declared.cb_compound.CbCompound.{CbCompound}
+use Rattle.nfs_compound.specs.declared.cb_op.CbOp.{CbOp}
 use Rattle.nfs_compound.specs.Body.{one_at, IsBody}
 use Rattle.nfs_compound.specs.Whole.{start}
 use Rattle.nfs_compound.specs.Ops.{op_class, op_arg, op_is_cut, operation}

@@ -5,6 +5,7 @@ use Rattle.outcome.specs.declared.memory.NoMemory.{NoMemory}
 use Rattle.wire_xdr.specs.Cursor.{Cursor, ◌>>=◌}
 use Rattle.wire_xdr.specs.Form.{Passes, Form}
 use Rattle.wire_xdr.specs.WordReads.{word_read}
+use Rattle.file_ops.specs.declared.operation.TheConstants.{OP_ILLEGAL}
 use Rattle.nfs_compound.specs.declared.tail.Tail.{Tail}
 use Rattle.nfs_compound.specs.declared.tail.Tail.TheVariants.{Whole, Unreadable, Unsupported, Illegal}
 use Rattle.nfs_compound.specs.declared.operation.Class.{Class}
@@ -21,10 +22,10 @@ by_class class.Listed form place op c = or_unreadable place op ((form op).read c
 by_class class.Unsupported form place op c = Err (Unsupported place op)
 by_class class.Illegal form place op c = Err (Illegal place op)
 
--- an operation whose number is cut short is told under number 10044
+-- an operation whose number is cut short is told under the number of ILLEGAL
 abbrev pub behind_number : {A : Type 0} → (ℕ → Class) → (ℕ → Form A) → ℕ → Result (ℕ × Cursor) ℕ → Result (A × Cursor) Tail
 behind_number class form place (Ok op) = by_class (class op.0) form place op.0 op.1
-behind_number class form place (Err at) = Err (Unreadable place 10044 at)
+behind_number class form place (Err at) = Err (Unreadable place OP_ILLEGAL at)
 
 -- the operation at a place of the body
 unfoldable pub one_at : {A : Type 0} → (ℕ → Class) → (ℕ → Form A) → ℕ → Cursor → Result (A × Cursor) Tail

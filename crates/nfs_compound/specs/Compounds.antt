@@ -1,5 +1,5 @@
 -- COMPOUND and CB_COMPOUND as they are read and spelled (RFC 8881 sections 16.2 and 20.2).
-use Rattle.std.specs.Prelude.{ℕ, ◌<◌, ◌^◌, List, ◌++◌, length, Result, Ok, Err}
+use Rattle.std.specs.Prelude.{ℕ, ◌<◌, ◌≤◌, ◌^◌, List, ◌++◌, length, Result, Ok, Err}
 use Rattle.std.proofs.Common.{lit<}
 use Rattle.wire_xdr.specs.declared.form.bad.BadXdr.{BadXdr}
 use Rattle.wire_xdr.specs.Cursor.{Cursor, ◌>>=◌}
@@ -7,8 +7,10 @@ use Rattle.wire_xdr.specs.Form.{Passes, Form}
 use Rattle.wire_xdr.specs.Words.{word_bytes, opaque_bytes}
 use Rattle.wire_xdr.specs.Forms.{word, opaque, both}
 use Rattle.wire_xdr.specs.Parts.{list_spell, list_Fits}
+use Rattle.nfs_base.specs.declared.limits.TheConstants.{TEXT_LIMIT}
+use Rattle.nfs_compound.specs.declared.limits.TheConstants.{NO_LIMIT}
 use Rattle.nfs_compound.specs.declared.compound.Compound.{Compound}
-use Rattle.nfs_compound.specs.declared.callback.CbCompound.{CbCompound}
+use Rattle.nfs_compound.specs.declared.cb_compound.CbCompound.{CbCompound}
 use Rattle.nfs_compound.specs.Body.{one_at, body_at, IsBody}
 use Rattle.nfs_compound.specs.Whole.{start}
 use Rattle.nfs_compound.specs.Ops.{op_class, op_arg, op_is_cut, operation}
@@ -17,7 +19,7 @@ use Rattle.nfs_compound.specs.Callbacks.{cb_class, cb_arg, cb_is_cut, cb_operati
 -- ---- COMPOUND: a tag, a minor version, and operations behind their count
 
 abbrev pub compound_head : Form (List ℕ × (ℕ × ℕ))
-compound_head = both (opaque 4294967295 (lit< tt)) (both word word)
+compound_head = both (opaque TEXT_LIMIT (lit< tt)) (both word word)
 
 unfoldable pub compound_at : Cursor → Result Compound ℕ
 compound_at c = do
@@ -34,9 +36,9 @@ unfoldable pub compound_bytes : Compound → List ℕ
 compound_bytes c = opaque_bytes c.tag ++ (word_bytes c.minor ++ list_spell operation c.ops)
 
 pub record CompoundFits (c : Compound) : Type 0 where
-  pub tag : length c.tag < 2 ^ 32
+  pub tag : length c.tag ≤ TEXT_LIMIT
   pub minor : c.minor < 2 ^ 32
-  pub ops : list_Fits 4294967295 operation c.ops
+  pub ops : list_Fits NO_LIMIT operation c.ops
 
 -- The bytes are this compound: a tag, a minor version and a number are spelled, and then the operations, up to the
 -- tail.
@@ -54,7 +56,7 @@ IsFound bytes (Err bad) = Unit {0}
 -- ---- CB_COMPOUND: a tag, a minor version, a callback_ident, and operations behind their count
 
 abbrev pub cb_compound_head : Form (List ℕ × (ℕ × (ℕ × ℕ)))
-cb_compound_head = both (opaque 4294967295 (lit< tt)) (both word (both word word))
+cb_compound_head = both (opaque TEXT_LIMIT (lit< tt)) (both word (both word word))
 
 unfoldable pub cb_compound_at : Cursor → Result CbCompound ℕ
 cb_compound_at c = do
@@ -70,10 +72,10 @@ unfoldable pub cb_compound_bytes : CbCompound → List ℕ
 cb_compound_bytes c = opaque_bytes c.tag ++ (word_bytes c.minor ++ (word_bytes c.ident ++ list_spell cb_operation c.ops))
 
 pub record CbCompoundFits (c : CbCompound) : Type 0 where
-  pub tag : length c.tag < 2 ^ 32
+  pub tag : length c.tag ≤ TEXT_LIMIT
   pub minor : c.minor < 2 ^ 32
   pub ident : c.ident < 2 ^ 32
-  pub ops : list_Fits 4294967295 cb_operation c.ops
+  pub ops : list_Fits NO_LIMIT cb_operation c.ops
 
 pub record IsCbCompound (c : CbCompound) (bytes : List ℕ) : Type 0 where
   pub behind : Cursor

@@ -9,20 +9,21 @@ use Rattle.wire_xdr.specs.Cursor.{Cursor}
 use Rattle.wire_xdr.specs.Form.{Passes, IsForm, Form}
 use Rattle.wire_xdr.specs.StepLaws.{at_start}
 use Rattle.wire_xdr.specs.Parts.{as_read}
+use Rattle.nfs_compound.specs.declared.op.TheConstants.{FIRST_OP, LAST_OP}
 use Rattle.nfs_compound.specs.declared.op.Op.{Op}
 use Rattle.nfs_compound.specs.declared.op.Op.TheVariants.{Copy, File}
 use Rattle.nfs_compound.specs.declared.operation.Class.{Class}
 use Rattle.nfs_compound.specs.declared.operation.Class.TheVariants.{Listed, Unsupported, Illegal}
 use Rattle.nfs_compound.specs.Numbered.{Own, numbered, variant_takes, variant_again, made_refuses, by_test}
 
--- What is known of an operation's number: those of copy_ops and file_ops are listed. Of the others 3 to 71 are
+-- What is known of an operation's number: those of copy_ops and file_ops are listed. Of the others those from the first to the last are
 -- operations of the protocol.
 abbrev pub op_class : ℕ → Class
 op_class n =
     if is_copy_op n then Listed
     else if is_file_op n then Listed
-    else if nat_lt n 3 then Illegal
-    else if nat_lt 71 n then Illegal
+    else if nat_lt n FIRST_OP then Illegal
+    else if nat_lt LAST_OP n then Illegal
     else Unsupported
 
 abbrev pub op_number : Op → ℕ

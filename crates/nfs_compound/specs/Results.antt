@@ -1,7 +1,9 @@
 -- The results of a COMPOUND by their operations' numbers, and its reply (RFC 8881 section 16.2, RFC 7863).
 use Rattle.std.proofs.Common.{◌≡◌, ℕ, ◌+◌, Bool, true, false, cond, List, ◌++◌, length, Result, Ok, Err, refl, sym, ap, subst, ◌∙◌, lit<}
 use Rattle.std.specs.Prelude.{not, ◌==◌, if◌then◌else◌}
+use Rattle.nfs_base.specs.declared.limits.TheConstants.{TEXT_LIMIT}
 use Rattle.nfs_base.specs.declared.status.Status.{Status}
+use Rattle.nfs_compound.specs.declared.limits.TheConstants.{NO_LIMIT}
 use Rattle.nfs_base.specs.Forms.{status}
 use Rattle.copy_ops.specs.Forms.{copy_res, copy_res_number, copy_res_own}
 use Rattle.copy_ops.specs.Operations.{is_copy_op, copy_res_status}
@@ -112,4 +114,4 @@ pub record IsRefusal (op number : ℕ) (res : Res) : Type 0 where
 -- ---- the reply: the status of the last result, a tag, and the results behind their count
 
 unfoldable pub reply : Form Reply
-reply = seen_as (λ v. record { status = v.0; tag = v.1.0; results = v.1.1 }) (λ v. (v.status, (v.tag, v.results))) (λ v. refl) (λ v. refl) (both status (both (opaque 4294967295 (lit< tt)) (list 4294967295 (lit< tt) outcome)))
+reply = seen_as (λ v. record { status = v.0; tag = v.1.0; results = v.1.1 }) (λ v. (v.status, (v.tag, v.results))) (λ v. refl) (λ v. refl) (both status (both (opaque TEXT_LIMIT (lit< tt)) (list NO_LIMIT (lit< tt) outcome)))

@@ -6,14 +6,14 @@ ghost use Rattle.nfs_compound.specs.Compounds.{compound_at, compound_of, compoun
 ghost use Rattle.nfs_compound.specs.Whole.{IsTold, Answers};
 
 use crate::body::parse_body;
-use crate::limits::NO_LIMIT;
 use crate::op::Op;
 use crate::tail::Tail;
+use nfs_base::TEXT_LIMIT;
 use outcome::{Mem, NoMemory};
 use std::alloc::Global;
 use wire_xdr::{BadXdr, Items, Octets, ReadError, Reader, Writer, Xdr};
 
-/// The arguments of COMPOUND, COMPOUND4args (RFC 8881 section 16.2).
+/// The arguments of COMPOUND, COMPOUND4args (RFC 8881 section 16.2). A tag has at most 1,024 bytes.
 #[derive(Drop)]
 pub struct Compound {
     pub tag: Octets,
@@ -27,8 +27,8 @@ pub struct Compound {
 }
 
 /// Reads a COMPOUND, which is all of the bytes. It is refused exactly where the tag, the minor version or the
-/// number of operations can't be read, at the item that can't, and where bytes follow the last operation, at
-/// the first of them. Otherwise its operations are read up to the first that can't be read or isn't served,
+/// number of operations can't be read, at the item that can't, also at the length of a tag that is longer than
+/// 1,024 bytes, and where bytes follow the last operation, at the first of them. Otherwise its operations are read up to the first that can't be read or isn't served,
 /// however many there are, and the tail says where that stands and why. Behind an operation that is cut nothing
 /// is looked at. What was read may be written again, where the tail is `Whole`.
 pub fn read_compound(alloc: Global, bytes: &[u8]) -> Mem<Result<Compound, BadXdr>>
@@ -49,7 +49,7 @@ pub fn read_compound(alloc: Global, bytes: &[u8]) -> Mem<Result<Compound, BadXdr
 fn parse_compound(alloc: Global, reader: &mut Reader) -> Result<Compound, ReadError>
     ensures { IsTold result (compound_at reader.old) }
 {
-    let tag = Octets::parse(alloc, reader, NO_LIMIT)?;
+    let tag = Octets::parse(alloc, reader, TEXT_LIMIT)?;
     let minor = u32::parse(alloc, reader)?;
     let count = u32::parse(alloc, reader)?;
     let (ops, tail) = parse_body(alloc, reader, count)?;

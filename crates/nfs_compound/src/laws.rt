@@ -5,7 +5,7 @@ ghost use Rattle.std.specs.List.{AllByRecursion};
 ghost use Rattle.wire_xdr.specs.Cursor.{IsBytes};
 ghost use Rattle.nfs_compound.specs.declared.tail.Tail.TheVariants.{Whole};
 ghost use Rattle.nfs_compound.specs.declared.compound.Compound.{Compound};
-ghost use Rattle.nfs_compound.specs.declared.callback.CbCompound.{CbCompound};
+ghost use Rattle.nfs_compound.specs.declared.cb_compound.CbCompound.{CbCompound};
 ghost use Rattle.nfs_compound.specs.Ops.{op_is_cut};
 ghost use Rattle.nfs_compound.specs.Compounds.{compound_of, compound_bytes, CompoundFits, IsCompound, cb_compound_of, cb_compound_bytes, CbCompoundFits, IsCbCompound};
 

@@ -9,7 +9,10 @@
 #![tactic(auto)]
 
 mod body;
-mod callback;
+mod cb_compound;
+mod cb_op;
+mod cb_reply;
+mod cb_res;
 mod compound;
 mod evaluation;
 mod held;
@@ -21,14 +24,12 @@ mod refusal;
 mod reply;
 mod res;
 mod tail;
-#[cfg(test)]
-mod tests;
 mod whole;
 
-pub use callback::{
-    CbCompound, CbOp, CbReply, CbRes, read_cb_compound, read_cb_reply, write_cb_compound,
-    write_cb_reply,
-};
+pub use cb_compound::{CbCompound, read_cb_compound, write_cb_compound};
+pub use cb_op::{CbOp, cb_name_of};
+pub use cb_reply::{CbReply, read_cb_reply, write_cb_reply};
+pub use cb_res::CbRes;
 pub use compound::{Compound, read_compound, write_compound};
 pub use evaluation::{Actor, walk};
 pub use held::Held;

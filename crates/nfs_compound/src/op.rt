@@ -13,6 +13,12 @@ use outcome::Mem;
 use std::alloc::Global;
 use wire_xdr::{ReadError, Reader, Writer, Xdr, XdrBy};
 
+/// The lowest number of an operation of the protocol (RFC 8881 section 16.2.1, ACCESS).
+const FIRST_OP: u32 = 3;
+
+/// The highest number of an operation of the protocol (RFC 7862 section 13, CLONE).
+const LAST_OP: u32 = 71;
+
 /// An operation of a COMPOUND and its arguments (RFC 8881 section 16.2, RFC 7862 section 15).
 #[derive(Drop)]
 pub enum Op {
@@ -106,7 +112,7 @@ impl Operation for Op {
         if is_copy_op(op) || is_file_op(op) {
             return Class::Listed;
         }
-        if op < 3 || op > 71 {
+        if op < FIRST_OP || op > LAST_OP {
             return Class::Illegal;
         }
         Class::Unsupported

@@ -1,6 +1,7 @@
 //! Operations that are refused, by their numbers.
 
 ghost use Rattle.std.specs.Prelude.{◌≡◌, ◌≢◌, false, MatchOption};
+ghost use Rattle.nfs_base.specs.declared.status.TheConstants.Status.{OFFLOAD_NO_REQS};
 ghost use Rattle.file_ops.specs.Operations.{is_file_op};
 ghost use Rattle.copy_ops.specs.Operations.{is_copy_op};
 ghost use Rattle.nfs_compound.specs.Results.{IsRefusal};
@@ -22,7 +23,7 @@ impl Res {
     #[tactic(auto, unfolding(crate::specs::Results::outcome, crate::specs::Results::res_body, nfs_base::specs::Forms::status))]
     pub fn refused(op: u32, status: Status) -> Res
         requires failed { status.number ≢ 0 }
-        requires no_more { status.number ≢ 10094 }
+        requires no_more { status.number ≢ OFFLOAD_NO_REQS.number }
         ensures { IsRefusal op status.number result }
     {
         match refused_copy(op, status) {
@@ -39,7 +40,7 @@ impl Res {
 #[tactic(auto, unfolding(crate::specs::Results::outcome, crate::specs::Results::res_body, copy_ops::specs::Forms::copy_res, copy_ops::specs::Forms::copy_answer, nfs_base::specs::Forms::answer, nfs_base::specs::Forms::status))]
 fn refused_copy(op: u32, status: Status) -> Option<Res>
     requires failed { status.number ≢ 0 }
-    requires no_more { status.number ≢ 10094 }
+    requires no_more { status.number ≢ OFFLOAD_NO_REQS.number }
     ensures { MatchOption result (is_copy_op op ≡ false) (IsRefusal op status.number) }
 {
     match op {

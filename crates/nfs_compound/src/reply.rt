@@ -7,7 +7,7 @@ ghost use Rattle.nfs_compound.specs.Whole.{IsWholeRead};
 use crate::limits::NO_LIMIT;
 use crate::res::Res;
 use crate::whole::{read_whole, write_whole};
-use nfs_base::Status;
+use nfs_base::{Status, TEXT_LIMIT};
 use outcome::Mem;
 use std::alloc::Global;
 use wire_xdr::{BadXdr, Items, Octets, ReadError, Reader, Writer, Xdr};
@@ -28,7 +28,7 @@ impl Xdr for Reply {
     fn parse(alloc: Global, reader: &mut Reader) -> Result<Reply, ReadError> {
         Ok(Reply {
             status: Status::parse(alloc, reader)?,
-            tag: Octets::parse(alloc, reader, NO_LIMIT)?,
+            tag: Octets::parse(alloc, reader, TEXT_LIMIT)?,
             results: Items::parse(alloc, reader, NO_LIMIT)?,
         })
     }

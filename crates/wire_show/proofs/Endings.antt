@@ -15,7 +15,7 @@ use Rattle.rpc_msg.specs.Underway.{fresh, Under, State, Open, Shut, Flow, then_f
 use Rattle.streams.proofs.Fronts.{front_wider, front_more, front_none, front_all}
 use Rattle.rpc_msg.proofs.Streams.{flow-append, flow-records}
 use Rattle.rpc_msg.proofs.Pumping.{flow-nil}
-use Rattle.wire_show.specs.declared.line.Line.TheVariants as lines
+use Rattle.wire_show.specs.declared.line.ShownLine.TheVariants as lines
 use Rattle.wire_show.specs.declared.show.Shown.{Shown}
 use Rattle.wire_show.specs.declared.show.Shown.TheVariants as ends
 use Rattle.wire_show.specs.Text.{line_text, lines_text}

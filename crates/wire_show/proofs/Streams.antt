@@ -14,7 +14,7 @@ use Rattle.rpc_msg.specs.declared.records.Fed.TheVariants as fed
 use Rattle.streams.proofs.Fronts.{front_wider, front_more}
 use Rattle.rpc_msg.proofs.Streams.{flow-append}
 use Rattle.rpc_msg.proofs.Pumping.{fed_flow, fed_now, flow_said}
-use Rattle.wire_show.specs.declared.line.Line.{Line}
+use Rattle.wire_show.specs.declared.line.ShownLine.{ShownLine}
 use Rattle.wire_show.specs.Text.{line_text, lines_text}
 use Rattle.wire_show.specs.Shown.{record_lines, all_lines, most_bytes}
 use Rattle.wire_show.specs.declared.piece.Piece.{Piece}
@@ -32,13 +32,13 @@ unfolding all_lines
 all_lines-append n [] b = let same : n ≡ n + 0 = omega arith in ap (λ (m : ℕ). all_lines m b) same
 all_lines-append n (x ∷ a) b =
     let same : n + 1 + length a ≡ n + length (x ∷ a) = omega arith in
-    ap (λ (l : List Line). record_lines n x ++ l) (all_lines-append (n + 1) a b)
+    ap (λ (l : List ShownLine). record_lines n x ++ l) (all_lines-append (n + 1) a b)
     ∙ sym (append_assoc (record_lines n x) (all_lines (n + 1) a) (all_lines (n + 1 + length a) b))
     ∙ ap (λ (m : ℕ). (record_lines n x ++ all_lines (n + 1) a) ++ all_lines m b) same
 
 pub text-append : (n : ℕ) (a b : List (List ℕ)) → lines_text (all_lines n (a ++ b)) ≡ lines_text (all_lines n a) ++ lines_text (all_lines (n + length a) b)
 text-append n a b =
-    ap (λ (l : List Line). lines_text l) (all_lines-append n a b)
+    ap (λ (l : List ShownLine). lines_text l) (all_lines-append n a b)
     ∙ flat_map-append line_text (all_lines n a) (all_lines (n + length a) b)
 
 one_text : (n : ℕ) (told : List ℕ) (others : List (List ℕ)) → lines_text (all_lines n (told ∷ others)) ≡ lines_text (record_lines n told) ++ lines_text (all_lines (n + 1) others)

@@ -6,15 +6,15 @@ use Rattle.rpc_msg.specs.Heads.{stat_case}
 use Rattle.rpc_msg.specs.declared.reply.Denial.{Denial}
 use Rattle.rpc_msg.specs.declared.reply.Denial.TheVariants as denials
 use Rattle.nfs_compound.specs.OpNames.{op_name, cb_op_name}
-use Rattle.wire_show.specs.declared.line.Line.{Line}
-use Rattle.wire_show.specs.declared.line.Line.TheVariants.{Record, Call, Accepted, Denied, Op, Callback, Unreadable, Unsupported, Illegal, Unread, Rest, Large, TooMuch}
+use Rattle.wire_show.specs.declared.line.ShownLine.{ShownLine}
+use Rattle.wire_show.specs.declared.line.ShownLine.TheVariants.{Record, Call, Accepted, Denied, Op, Callback, Unreadable, Unsupported, Illegal, Unread, Rest, Large, TooMuch}
 
 abbrev pub denied_words : ℕ → Denial → List ℕ
 denied_words xid (denials.Mismatch low high) = codes "reply " ++ decimal xid ++ codes " 1 mismatch"
 denied_words xid (denials.Auth stat) = codes "reply " ++ decimal xid ++ codes " 1 denied " ++ decimal stat
 
 -- a line without its newline
-abbrev pub line_words : Line → List ℕ
+abbrev pub line_words : ShownLine → List ℕ
 line_words (Record number len) = codes "record " ++ decimal number ++ codes " " ++ decimal len
 line_words (Call xid prog vers proc flavor) =
     codes "call " ++ decimal xid ++ codes " " ++ decimal prog ++ codes " " ++ decimal vers ++ codes " " ++ decimal proc ++ codes " " ++ decimal flavor
@@ -31,9 +31,9 @@ line_words (Large len) = codes "large " ++ decimal len
 line_words TooMuch = codes "too much"
 
 -- a line, with its newline
-abbrev pub line_text : Line → List ℕ
+abbrev pub line_text : ShownLine → List ℕ
 line_text line = line_words line ++ 10 ∷ []
 
 -- lines one after the other
-abbrev pub lines_text : List Line → List ℕ
+abbrev pub lines_text : List ShownLine → List ℕ
 lines_text lines = flat_map line_text lines

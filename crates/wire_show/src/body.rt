@@ -7,7 +7,8 @@ ghost use Rattle.wire_xdr.specs.WordReads.{opaque_read};
 ghost use Rattle.nfs_compound.specs.Compounds.{compound_of, cb_compound_of};
 ghost use Rattle.wire_show.specs.Body.{is_compound, is_callback, numbered, op_line, callback_line, tail_lines, compound_lines, callback_lines, args_lines, behind_number, sealed_lines, is_sealed, by_flavor, body_lines};
 
-use crate::line::Line;
+use crate::line::ShownLine;
+use nfs_base::{CALLBACK_PROGRAM, CALLBACK_VERSION, NFS_PROGRAM, NFS_VERSION, PROC_COMPOUND};
 use nfs_compound::{CbOp, Op, Tail, read_cb_compound, read_compound};
 use outcome::{Mem, NoMemory};
 use rpc_msg::{CallHead, read_gss_cred};
@@ -16,7 +17,12 @@ use wire_xdr::{Octets, ReadError, Reader};
 
 /// The lines of a call's body, which begins at a place of the record.
 #[tactic(auto, unfolding(crate::specs::Body::body_lines))]
-pub(crate) fn body_lines(alloc: Global, head: &CallHead, at: u128, body: &[u8]) -> Mem<Vec<Line>>
+pub(crate) fn body_lines(
+    alloc: Global,
+    head: &CallHead,
+    at: u128,
+    body: &[u8],
+) -> Mem<Vec<ShownLine>>
     requires { at < 2 ^ 64 }
     ensures { IfOk result (λ lines. lines.items ≡ body_lines head.now at body.now) }
 {
@@ -29,28 +35,28 @@ pub(crate) fn body_lines(alloc: Global, head: &CallHead, at: u128, body: &[u8]) 
     Ok(Vec::new(alloc))
 }
 
-// Whether it is a call of CB_COMPOUND.
+/// Whether it is a call of CB_COMPOUND.
 fn is_callback(head: &CallHead) -> bool
     ensures { result ≡ is_callback head.now }
 {
-    head.prog == 0x4000_0000 && head.vers == 1 && head.proc == 1
+    head.prog == CALLBACK_PROGRAM && head.vers == CALLBACK_VERSION && head.proc == PROC_COMPOUND
 }
 
-// Whether it is a call of COMPOUND.
+/// Whether it is a call of COMPOUND.
 fn is_compound(head: &CallHead) -> bool
     ensures { result ≡ is_compound head.now }
 {
-    head.prog == 100_003 && head.vers == 4 && head.proc == 1
+    head.prog == NFS_PROGRAM && head.vers == NFS_VERSION && head.proc == PROC_COMPOUND
 }
 
-// The lines of the body, by the flavor of the credential.
+/// The lines of the body, by the flavor of the credential.
 fn by_flavor(
     alloc: Global,
     head: &CallHead,
     callback: bool,
     at: u128,
     body: &[u8],
-) -> Mem<Vec<Line>>
+) -> Mem<Vec<ShownLine>>
     requires { at < 2 ^ 64 }
     ensures { IfOk result (λ lines. lines.items ≡ by_flavor head.now callback at body.now) }
 {
@@ -63,7 +69,7 @@ fn by_flavor(
     Ok(Vec::new(alloc))
 }
 
-// Whether the body of a credential of flavor 6 says that data is sealed for integrity.
+/// Whether the body of a credential of flavor 6 says that data is sealed for integrity.
 fn is_sealed(alloc: Global, body: &[u8]) -> Mem<bool>
     ensures { IfOk result (λ is. is ≡ is_sealed (whole (gss_cred.read (first body.now)))) }
 {
@@ -73,8 +79,8 @@ fn is_sealed(alloc: Global, body: &[u8]) -> Mem<bool>
     }
 }
 
-// The lines of a sealed body.
-fn sealed_lines(alloc: Global, callback: bool, at: u128, body: &[u8]) -> Mem<Vec<Line>>
+/// The lines of a sealed body.
+fn sealed_lines(alloc: Global, callback: bool, at: u128, body: &[u8]) -> Mem<Vec<ShownLine>>
     requires { at < 2 ^ 64 }
     ensures { IfOk result (λ lines. lines.items ≡ sealed_lines callback at (opaque_read 4294967295 (first body.now))) }
 {
@@ -86,8 +92,8 @@ fn sealed_lines(alloc: Global, callback: bool, at: u128, body: &[u8]) -> Mem<Vec
     }
 }
 
-// The lines of what was sealed, behind its sequence number.
-fn behind_number(alloc: Global, callback: bool, at: u128, sealed: &[u8]) -> Mem<Vec<Line>>
+/// The lines of what was sealed, behind its sequence number.
+fn behind_number(alloc: Global, callback: bool, at: u128, sealed: &[u8]) -> Mem<Vec<ShownLine>>
     requires { at < 2 ^ 64 }
     ensures { IfOk result (λ lines. lines.items ≡ behind_number callback at sealed.now) }
 {
@@ -97,8 +103,8 @@ fn behind_number(alloc: Global, callback: bool, at: u128, sealed: &[u8]) -> Mem<
     args_lines(alloc, callback, at + 8, &sealed[4..])
 }
 
-// The lines of arguments, which begin at a place of the record.
-fn args_lines(alloc: Global, callback: bool, at: u128, bytes: &[u8]) -> Mem<Vec<Line>>
+/// The lines of arguments, which begin at a place of the record.
+fn args_lines(alloc: Global, callback: bool, at: u128, bytes: &[u8]) -> Mem<Vec<ShownLine>>
     requires { at < 2 ^ 65 }
     ensures { IfOk result (λ lines. lines.items ≡ args_lines callback at bytes.now) }
 {
@@ -109,8 +115,8 @@ fn args_lines(alloc: Global, callback: bool, at: u128, bytes: &[u8]) -> Mem<Vec<
     }
 }
 
-// The lines of a COMPOUND.
-fn compound_lines(alloc: Global, at: u128, bytes: &[u8]) -> Mem<Vec<Line>>
+/// The lines of a COMPOUND.
+fn compound_lines(alloc: Global, at: u128, bytes: &[u8]) -> Mem<Vec<ShownLine>>
     requires { at < 2 ^ 65 }
     ensures { IfOk result (λ lines. lines.items ≡ compound_lines at (compound_of bytes.now)) }
 {
@@ -124,8 +130,8 @@ fn compound_lines(alloc: Global, at: u128, bytes: &[u8]) -> Mem<Vec<Line>>
     }
 }
 
-// The lines of a CB_COMPOUND.
-fn callback_lines(alloc: Global, at: u128, bytes: &[u8]) -> Mem<Vec<Line>>
+/// The lines of a CB_COMPOUND.
+fn callback_lines(alloc: Global, at: u128, bytes: &[u8]) -> Mem<Vec<ShownLine>>
     requires { at < 2 ^ 65 }
     ensures { IfOk result (λ lines. lines.items ≡ callback_lines at (cb_compound_of bytes.now)) }
 {
@@ -139,20 +145,20 @@ fn callback_lines(alloc: Global, at: u128, bytes: &[u8]) -> Mem<Vec<Line>>
     }
 }
 
-// The one line of what can't be read from a place on.
-fn unread(alloc: Global, at: u128) -> Mem<Vec<Line>>
-    ensures { IfOk result (λ lines. lines.items ≡ Line.Unread at ∷ []) }
+/// The one line of what can't be read from a place on.
+fn unread(alloc: Global, at: u128) -> Mem<Vec<ShownLine>>
+    ensures { IfOk result (λ lines. lines.items ≡ ShownLine.Unread at ∷ []) }
 {
-    Ok(vec![in alloc; Line::Unread { at }]?)
+    Ok(vec![in alloc; ShownLine::Unread { at }]?)
 }
 
-// A line for each operation, by its place.
-fn op_lines(alloc: Global, ops: &[Op]) -> Mem<Vec<Line>>
+/// A line for each operation, by its place.
+fn op_lines(alloc: Global, ops: &[Op]) -> Mem<Vec<ShownLine>>
     ensures { IfOk result (λ lines. lines.items ≡ numbered op_line 0 ops.now) }
 {
     let mut lines = Vec::new(alloc);
     for (place, op) in ops.iter().enumerate() {
-        lines.push(Line::Op {
+        lines.push(ShownLine::Op {
             place,
             op: op.number(),
         })?;
@@ -160,13 +166,13 @@ fn op_lines(alloc: Global, ops: &[Op]) -> Mem<Vec<Line>>
     Ok(lines)
 }
 
-// The same for callbacks.
-fn cb_lines(alloc: Global, ops: &[CbOp]) -> Mem<Vec<Line>>
+/// The same for callbacks.
+fn cb_lines(alloc: Global, ops: &[CbOp]) -> Mem<Vec<ShownLine>>
     ensures { IfOk result (λ lines. lines.items ≡ numbered callback_line 0 ops.now) }
 {
     let mut lines = Vec::new(alloc);
     for (place, op) in ops.iter().enumerate() {
-        lines.push(Line::Callback {
+        lines.push(ShownLine::Callback {
             place,
             op: op.number(),
         })?;
@@ -174,15 +180,15 @@ fn cb_lines(alloc: Global, ops: &[CbOp]) -> Mem<Vec<Line>>
     Ok(lines)
 }
 
-// The line of what stands behind the operations that were read, where there is something.
-fn push_tail(lines: &mut Vec<Line>, tail: Tail) -> Mem<()>
+/// The line of what stands behind the operations that were read, where there is something.
+fn push_tail(lines: &mut Vec<ShownLine>, tail: Tail) -> Mem<()>
     ensures { OnOk result (lines.new.items ≡ lines.old.items ++ tail_lines tail) }
 {
     match tail {
         Tail::Whole => {}
-        Tail::Unreadable { place, .. } => lines.push(Line::Unreadable { place })?,
-        Tail::Unsupported { place, .. } => lines.push(Line::Unsupported { place })?,
-        Tail::Illegal { place, .. } => lines.push(Line::Illegal { place })?,
+        Tail::Unreadable { place, .. } => lines.push(ShownLine::Unreadable { place })?,
+        Tail::Unsupported { place, .. } => lines.push(ShownLine::Unsupported { place })?,
+        Tail::Illegal { place, .. } => lines.push(ShownLine::Illegal { place })?,
     }
     Ok(())
 }

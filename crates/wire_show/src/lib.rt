@@ -11,9 +11,7 @@ mod line;
 mod message;
 mod piece;
 mod show;
-#[cfg(test)]
-mod tests;
 
-pub use line::Line;
+pub use line::ShownLine;
 pub use message::record_lines;
 pub use show::{Shown, do_show};

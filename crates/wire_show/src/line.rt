@@ -1,7 +1,4 @@
-ghost use Rattle.std.specs.Prelude.{◌≡◌};
-ghost use Rattle.nfs_compound.specs.OpNames.{cb_op_name};
-
-use nfs_compound::name_of;
+use nfs_compound::{cb_name_of, name_of};
 use outcome::Mem;
 use rpc_msg::{Denial, Stat};
 use std::alloc::Global;
@@ -9,7 +6,7 @@ use std::fmt;
 
 /// One line of what is shown. Places are counted in bytes from the start of the record.
 #[derive(Clone, Copy, Debug, PartialEq, Eq)]
-pub enum Line {
+pub enum ShownLine {
     /// A record, counted from 1, and its length in bytes.
     Record {
         number: u64,
@@ -83,7 +80,7 @@ pub enum Line {
     TooMuch,
 }
 
-impl fmt::Display for Line {
+impl fmt::Display for ShownLine {
     ghost use Rattle.std.specs.Prelude.{Some};
     ghost use Rattle.wire_show.specs.Text.{line_words};
 
@@ -91,42 +88,42 @@ impl fmt::Display for Line {
 
     fn fmt<W: fmt::Write>(&self, f: &mut fmt::Formatter<W>) -> fmt::Result {
         match self {
-            Line::Record { number, len } => write!(f, "record {number} {len}"),
-            Line::Call {
+            ShownLine::Record { number, len } => write!(f, "record {number} {len}"),
+            ShownLine::Call {
                 xid,
                 prog,
                 vers,
                 proc,
                 flavor,
             } => write!(f, "call {xid} {prog} {vers} {proc} {flavor}"),
-            Line::Accepted { xid, stat } => {
+            ShownLine::Accepted { xid, stat } => {
                 let number = stat.number();
                 write!(f, "reply {xid} 0 {number}")
             }
-            Line::Denied { xid, why } => match why {
+            ShownLine::Denied { xid, why } => match why {
                 Denial::Mismatch { .. } => write!(f, "reply {xid} 1 mismatch"),
                 Denial::Auth(stat) => write!(f, "reply {xid} 1 denied {stat}"),
             },
-            Line::Op { place, op } => {
+            ShownLine::Op { place, op } => {
                 let name = name_of(*op);
                 write!(f, "op {place} {name}")
             }
-            Line::Callback { place, op } => {
-                let name = callback_name(*op);
+            ShownLine::Callback { place, op } => {
+                let name = cb_name_of(*op);
                 write!(f, "op {place} {name}")
             }
-            Line::Unreadable { place } => write!(f, "tail {place} unreadable"),
-            Line::Unsupported { place } => write!(f, "tail {place} unsupported"),
-            Line::Illegal { place } => write!(f, "tail {place} illegal"),
-            Line::Unread { at } => write!(f, "unread {at}"),
-            Line::Rest { count } => write!(f, "rest {count}"),
-            Line::Large { len } => write!(f, "large {len}"),
-            Line::TooMuch => f.write_str("too much"),
+            ShownLine::Unreadable { place } => write!(f, "tail {place} unreadable"),
+            ShownLine::Unsupported { place } => write!(f, "tail {place} unsupported"),
+            ShownLine::Illegal { place } => write!(f, "tail {place} illegal"),
+            ShownLine::Unread { at } => write!(f, "unread {at}"),
+            ShownLine::Rest { count } => write!(f, "rest {count}"),
+            ShownLine::Large { len } => write!(f, "large {len}"),
+            ShownLine::TooMuch => f.write_str("too much"),
         }
     }
 }
 
-impl Line {
+impl ShownLine {
     ghost use Rattle.std.specs.Prelude.{◌≡◌, ◌++◌, IfOk, OnOk};
     ghost use Rattle.std.specs.String.{string_bytes};
     ghost use Rattle.wire_show.specs.Text.{line_text, lines_text};
@@ -141,7 +138,7 @@ impl Line {
     }
 
     /// The text of lines, one after the other.
-    pub fn text_of(alloc: Global, lines: &[Line]) -> Mem<String>
+    pub fn text_of(alloc: Global, lines: &[ShownLine]) -> Mem<String>
         ensures { IfOk result (λ text. string_bytes text ≡ lines_text lines.now) }
     {
         let mut text = String::new(alloc);
@@ -149,16 +146,5 @@ impl Line {
             line.push_to(&mut text)?;
         }
         Ok(text)
-    }
-}
-
-// The name of an operation of a CB_COMPOUND (RFC 8881 section 20, RFC 7862 section 16).
-fn callback_name(op: u32) -> &'static str
-    ensures { result.now ≡ cb_op_name op }
-{
-    match op {
-        11 => "CB_SEQUENCE",
-        15 => "CB_OFFLOAD",
-        _ => "",
     }
 }

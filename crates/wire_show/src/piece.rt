@@ -5,7 +5,7 @@ ghost use Rattle.wire_show.specs.Text.{lines_text};
 ghost use Rattle.wire_show.specs.Shown.{record_lines};
 ghost use Rattle.wire_show.specs.Showing.{PutsText, PieceIs, PieceHasCause, RestWithin};
 
-use crate::line::Line;
+use crate::line::ShownLine;
 use crate::message::record_lines;
 use outcome::Mem;
 use rpc_msg::{Fed, RecordFeed, Sink, WriteFault, put_all};
@@ -25,18 +25,19 @@ pub(crate) enum Piece {
 /// Puts lines, as one piece.
 pub(crate) fn put_lines<K: Sink>(
     alloc: Global,
-    lines: &[Line],
+    lines: &[ShownLine],
     output: &mut K,
 ) -> Mem<Result<(), WriteFault>>
     ensures puts { PutsText (K.takes output.old).taken (K.takes output.new).taken (lines_text lines.now) result }
     ensures cause { IfOk result (HasCause (K.takes output.old).faults (K.takes output.new).faults) }
     ensures later { (K.takes output.old).faults ≤ (K.takes output.new).faults }
+    ensures failing { (K.takes output.new).failing ≡ (K.takes output.old).failing }
 {
-    let text = Line::text_of(alloc, lines)?;
+    let text = ShownLine::text_of(alloc, lines)?;
     Ok(put_all(output, text.as_bytes()))
 }
 
-// Puts the lines of the record with this number.
+/// Puts the lines of the record with this number.
 fn show_record<K: Sink>(
     alloc: Global,
     number: u64,
@@ -46,6 +47,7 @@ fn show_record<K: Sink>(
     ensures puts { PutsText (K.takes output.old).taken (K.takes output.new).taken (lines_text (record_lines number bytes.now)) result }
     ensures cause { IfOk result (HasCause (K.takes output.old).faults (K.takes output.new).faults) }
     ensures later { (K.takes output.old).faults ≤ (K.takes output.new).faults }
+    ensures failing { (K.takes output.new).failing ≡ (K.takes output.old).failing }
 {
     let lines = record_lines(alloc, number, bytes)?;
     put_lines(alloc, &lines, output)
@@ -69,6 +71,7 @@ pub(crate) fn show_piece<K: Sink>(
     ensures few { number.new ≤ number.old + length piece.now }
     ensures cause { IfOk result (PieceHasCause (K.takes output.old).faults (K.takes output.new).faults) }
     ensures later { (K.takes output.old).faults ≤ (K.takes output.new).faults }
+    ensures failing { (K.takes output.new).failing ≡ (K.takes output.old).failing }
 {
     let mut rest = rest;
     let mut at = 0;

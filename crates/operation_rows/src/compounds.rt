@@ -1,36 +1,15 @@
-mod vectors;
+//! COMPOUND and CB_COMPOUND, read, written and evaluated.
 
-ghost use Rattle.std.specs.Prelude.{◌<◌};
+ghost use Rattle.std.specs.Prelude.{false};
 
-use crate::*;
-use file_ops::FileRes;
+use crate::compound_vectors::{CALLBACK, CALLBACK_REPLY, CALLS, REPLIES};
+use file_ops::{FileArg, FileRes};
 use nfs_base::{StateId, Status};
+use nfs_compound::*;
 use outcome::Mem;
 use std::alloc::Global;
 use std::test::Fail;
-use vectors::{CALLBACK, CALLBACK_REPLY, CALLS, REPLIES};
 use wire_xdr::{BadXdr, Octets};
-
-/// The value of a hexadecimal digit.
-fn digit(c: u8) -> u8
-    ensures { result < 16 }
-{
-    match c {
-        b'0'..=b'9' => c - b'0',
-        b'a'..=b'f' => c - b'a' + 10,
-        _ => 0,
-    }
-}
-
-/// The bytes that two digits each spell.
-fn bytes_of(alloc: Global, hex: &str) -> Result<Vec<u8>, Fail> {
-    let digits = hex.as_bytes();
-    let mut bytes = Vec::new(alloc);
-    for i in 0..digits.len() / 2 {
-        bytes.push(digit(digits[2 * i]) * 16 + digit(digits[2 * i + 1]))?;
-    }
-    Ok(bytes)
-}
 
 /// How many operations were read and what stands behind them, or the place that was refused.
 #[derive(Clone, Copy, Debug, PartialEq, Eq)]
@@ -144,8 +123,8 @@ const BODIES: [(&str, Told); 17] = [
 #[test]
 fn bodies_and_their_tails(rt: HostRuntime) -> Result<(), Fail> {
     for (body, want) in BODIES {
-        let mut bytes = bytes_of(rt.alloc(), "0000000000000002")?;
-        let rest = bytes_of(rt.alloc(), body)?;
+        let mut bytes = hex::decode(rt.alloc(), "0000000000000002")?;
+        let rest = hex::decode(rt.alloc(), body)?;
         bytes.extend_from_slice(&rest)?;
         let read = read_as(rt.alloc(), &bytes)?;
         assert_eq!(rt; read, want, "{body}");
@@ -155,7 +134,7 @@ fn bodies_and_their_tails(rt: HostRuntime) -> Result<(), Fail> {
 
 #[test]
 fn all_operations_are_read(rt: HostRuntime) -> Result<(), Fail> {
-    let mut bytes = bytes_of(rt.alloc(), "000000000000000200000028")?;
+    let mut bytes = hex::decode(rt.alloc(), "000000000000000200000028")?;
     for _ in 0..40 {
         bytes.extend_from_slice(&[0, 0, 0, 24])?;
     }
@@ -179,7 +158,7 @@ fn written(alloc: Global, bytes: &[u8]) -> Result<Option<(usize, Octets)>, Fail>
 #[test]
 fn recorded_calls_are_read_and_written(rt: HostRuntime) -> Result<(), Fail> {
     for (count, hex) in CALLS {
-        let bytes = bytes_of(rt.alloc(), hex)?;
+        let bytes = hex::decode(rt.alloc(), hex)?;
         match written(rt.alloc(), &bytes)? {
             Some((ops, again)) => {
                 assert_eq!(rt; ops, count, "{hex}");
@@ -194,7 +173,7 @@ fn recorded_calls_are_read_and_written(rt: HostRuntime) -> Result<(), Fail> {
 #[test]
 fn recorded_replies_are_read_and_written(rt: HostRuntime) -> Result<(), Fail> {
     for (count, hex) in REPLIES {
-        let mut bytes = bytes_of(rt.alloc(), hex)?;
+        let mut bytes = hex::decode(rt.alloc(), hex)?;
         let reply = read_reply_body(rt.alloc(), &bytes)??;
         assert_eq!(rt; reply.results.len(), count, "{hex}");
         let again = write_reply_body(rt.alloc(), &reply)?;
@@ -209,7 +188,7 @@ fn recorded_replies_are_read_and_written(rt: HostRuntime) -> Result<(), Fail> {
 
 #[test]
 fn a_number_that_is_not_served_is_answered_bare(rt: HostRuntime) -> Result<(), Fail> {
-    let bytes = bytes_of(rt.alloc(), "0000271400000000000000010000000300002714")?;
+    let bytes = hex::decode(rt.alloc(), "0000271400000000000000010000000300002714")?;
     let reply = read_reply_body(rt.alloc(), &bytes)??;
     match reply.results.as_slice() {
         [res] => {
@@ -218,7 +197,7 @@ fn a_number_that_is_not_served_is_answered_bare(rt: HostRuntime) -> Result<(), F
         }
         _ => assert!(rt; false),
     }
-    let bytes = bytes_of(rt.alloc(), "0000271400000000000000010000000300000000")?;
+    let bytes = hex::decode(rt.alloc(), "0000271400000000000000010000000300000000")?;
     let refused = read_reply_body(rt.alloc(), &bytes)?.err();
     assert_eq!(rt; refused, Some(BadXdr { at: 16 }));
     Ok(())
@@ -260,7 +239,7 @@ fn cut_short(n: usize) -> Told {
 #[test]
 fn no_front_of_a_compound_is_whole(rt: HostRuntime) -> Result<(), Fail> {
     let (_, hex) = CALLS[6];
-    let bytes = bytes_of(rt.alloc(), hex)?;
+    let bytes = hex::decode(rt.alloc(), hex)?;
     for n in 0..bytes.len() {
         let read = read_as(rt.alloc(), &bytes[..n])?;
         assert_eq!(rt; read, cut_short(n), "of {n} bytes");
@@ -313,13 +292,13 @@ const CALLBACKS: [(&str, Told); 7] = [
 #[test]
 fn callbacks(rt: HostRuntime) -> Result<(), Fail> {
     for (body, want) in CALLBACKS {
-        let mut bytes = bytes_of(rt.alloc(), "000000000000000200000000")?;
-        let rest = bytes_of(rt.alloc(), body)?;
+        let mut bytes = hex::decode(rt.alloc(), "000000000000000200000000")?;
+        let rest = hex::decode(rt.alloc(), body)?;
         bytes.extend_from_slice(&rest)?;
         let read = cb_read_as(rt.alloc(), &bytes)?;
         assert_eq!(rt; read, want, "{body}");
     }
-    let bytes = bytes_of(rt.alloc(), CALLBACK)?;
+    let bytes = hex::decode(rt.alloc(), CALLBACK)?;
     match read_cb_compound(rt.alloc(), &bytes)? {
         Ok(compound) => match compound.tail {
             Tail::Whole => {
@@ -331,7 +310,7 @@ fn callbacks(rt: HostRuntime) -> Result<(), Fail> {
         },
         Err(_) => assert!(rt; false),
     }
-    let bytes = bytes_of(rt.alloc(), CALLBACK_REPLY)?;
+    let bytes = hex::decode(rt.alloc(), CALLBACK_REPLY)?;
     let reply = read_cb_reply(rt.alloc(), &bytes)??;
     let again = write_cb_reply(rt.alloc(), &reply)?;
     assert_eq!(rt; again.as_slice(), bytes.as_slice());
@@ -351,7 +330,9 @@ struct Counts {
 impl Actor for Counts {
     ghost acts = { λ before op next held res left after. Unit {0} };
 
-    #[tactic(auto, unfolding(crate::specs::Results::outcome, crate::specs::Results::res_body, file_ops::specs::Results::file_res, nfs_base::specs::Forms::status))]
+    ghost wants_memory = { false };
+
+    #[tactic(auto, unfolding(nfs_compound::specs::Results::outcome, nfs_compound::specs::Results::res_body, file_ops::specs::Results::file_res, nfs_base::specs::Forms::status))]
     fn act(&mut self, _alloc: Global, op: &Op, next: Option<u32>, held: &mut Held) -> Mem<Res> {
         let counted = match held.id {
             Some(id) => id.number,
@@ -369,24 +350,29 @@ impl Actor for Counts {
         if self.calls == self.failing {
             return Ok(Res::refused(op.number(), Status::ACCESS));
         }
-        Ok(Res::File(FileRes::PutRootFh(Status::OK)))
+        Ok(match op {
+            Op::File(FileArg::PutRootFh) => Res::File(FileRes::PutRootFh(Status::OK)),
+            Op::File(FileArg::SaveFh) => Res::File(FileRes::SaveFh(Status::OK)),
+            Op::File(FileArg::RestoreFh) => Res::File(FileRes::RestoreFh(Status::OK)),
+            _ => Res::refused(op.number(), Status::NOTSUPP),
+        })
     }
 }
 
-/// PUTROOTFH, SAVEFH, GETFH and an operation that isn't served, evaluated by an actor that fails at call 1, 2, 3
+/// PUTROOTFH, SAVEFH, RESTOREFH and an operation that isn't served, evaluated by an actor that fails at call 1, 2, 3
 /// or none: the number of calls and results, the reply's status, and the number behind the last operation.
 const ENDS: [(u32, u32, usize, Status, Option<u32>); 4] = [
     (1, 1, 1, Status::ACCESS, Some(32)),
-    (2, 2, 2, Status::ACCESS, Some(10)),
+    (2, 2, 2, Status::ACCESS, Some(31)),
     (3, 3, 3, Status::ACCESS, None),
     (4, 3, 4, Status::NOTSUPP, None),
 ];
 
 #[test]
 fn evaluation_ends_at_the_first_failure(rt: HostRuntime) -> Result<(), Fail> {
-    let bytes = bytes_of(
+    let bytes = hex::decode(
         rt.alloc(),
-        "00000000000000020000000400000018000000200000000a0000000c",
+        "00000000000000020000000400000018000000200000001f0000000c",
     )?;
     let compound = read_compound(rt.alloc(), &bytes)??;
     for (failing, calls, count, status, next) in ENDS {
@@ -421,7 +407,7 @@ const ANSWERS: [(&str, u32, Status); 4] = [
 #[test]
 fn tails_are_answered(rt: HostRuntime) -> Result<(), Fail> {
     for (hex, op, status) in ANSWERS {
-        let bytes = bytes_of(rt.alloc(), hex)?;
+        let bytes = hex::decode(rt.alloc(), hex)?;
         let compound = read_compound(rt.alloc(), &bytes)??;
         let mut actor = Counts {
             calls: 0,

@@ -1,6 +1,8 @@
-use crate::*;
+//! The types that more than one operation has, read and written.
+
+use nfs_base::*;
 use std::test::Fail;
-use wire_xdr::{BadXdr, Octets, Reader, Writer, Xdr, read, write};
+use wire_xdr::{BadXdr, Reader, Writer, Xdr, read, write};
 
 /// A status that has no name, a stateid, a handle of five bytes, `tcp` `127.0.0.1.8.1`, and a second before
 /// the first.

@@ -1,11 +1,11 @@
-mod vectors;
+//! Operations of a copy, read and written.
 
-use crate::*;
+use crate::copy_vectors::VECTORS;
+use copy_ops::*;
 use nfs_base::{StateId, Status};
 use outcome::Mem;
 use std::alloc::Global;
 use std::test::Fail;
-use vectors::VECTORS;
 use wire_xdr::{BadXdr, Items, Octets, Reader, Writer};
 
 /// What a text is to be read as.
@@ -176,7 +176,7 @@ fn at_most_eight_places(rt: HostRuntime) -> Result<(), Fail> {
 }
 
 /// The arguments of a copy within one server, written.
-#[tactic(auto, unfolding(crate::specs::Forms::copy_arg, crate::specs::Forms::copy_args, nfs_base::specs::Forms::state_id))]
+#[tactic(auto, unfolding(copy_ops::specs::Forms::copy_arg, copy_ops::specs::Forms::copy_args, nfs_base::specs::Forms::state_id))]
 fn copy_within(alloc: Global) -> Mem<Octets> {
     let mut writer = Writer::new(alloc)?;
     let src_id = StateId {
@@ -203,7 +203,7 @@ fn copy_within(alloc: Global) -> Mem<Octets> {
 }
 
 /// A copy's result with OFFLOAD_NO_REQS, written.
-#[tactic(auto, unfolding(crate::specs::Forms::copy_res, crate::specs::Forms::copy_answer))]
+#[tactic(auto, unfolding(copy_ops::specs::Forms::copy_res, copy_ops::specs::Forms::copy_answer))]
 fn no_reqs(alloc: Global) -> Mem<Octets> {
     let mut writer = Writer::new(alloc)?;
     let res = CopyRes::Copy(CopyAnswer::NoReqs {
@@ -224,6 +224,5 @@ fn built_values_are_written(rt: HostRuntime) -> Result<(), Fail> {
     let refused = CopyRes::Clone(Status::STALE);
     assert_eq!(rt; refused.number(), OP_CLONE);
     assert_eq!(rt; refused.status(), Status::STALE);
-    spelled_once();
     Ok(())
 }

@@ -3,7 +3,7 @@ use Rattle.wire_xdr.specs.Cursor.{Cursor, IsBytes}
 use Rattle.nfs_compound.specs.Compounds.{cb_compound_at}
 use Rattle.nfs_compound.proofs.Reading.{starts}
 use Rattle.nfs_compound.proofs.Compounds.{cb_compound_found}
-use Rattle.nfs_compound.proofs.callback.read_cb_compound.Goals as goal
+use Rattle.nfs_compound.proofs.cb_compound.read_cb_compound.Goals as goal
 
 pub returns-in-Ok-clause-found : goal.returns-in-Ok-clause-found
 returns-in-Ok-clause-found c =

@@ -1,30 +1,9 @@
-ghost use Rattle.std.specs.Prelude.{◌<◌};
+//! Operations on files and sessions, and callbacks, read and written.
 
-use crate::*;
+use file_ops::*;
 use std::alloc::Global;
 use std::test::Fail;
 use wire_xdr::{Reader, Writer};
-
-/// The value of a hexadecimal digit.
-fn digit(c: u8) -> u8
-    ensures { result < 16 }
-{
-    match c {
-        b'0'..=b'9' => c - b'0',
-        b'a'..=b'f' => c - b'a' + 10,
-        _ => 0,
-    }
-}
-
-/// The bytes that two digits each spell.
-fn bytes_of(alloc: Global, hex: &str) -> Result<Vec<u8>, Fail> {
-    let digits = hex.as_bytes();
-    let mut bytes = Vec::new(alloc);
-    for i in 0..digits.len() / 2 {
-        bytes.push(digit(digits[2 * i]) * 16 + digit(digits[2 * i + 1]))?;
-    }
-    Ok(bytes)
-}
 
 /// Arguments by number and name, from a copy between two servers where one of these is in it, without the
 /// number.
@@ -81,7 +60,6 @@ fn arguments_are_read_and_written(rt: HostRuntime) -> Result<(), Fail> {
         assert_eq!(rt; told, Told::Whole(hex.len() / 2), "{name}");
         assert_eq!(rt; file_op_name(op).as_bytes(), name.as_bytes());
     }
-    arguments_have_one_spelling();
     Ok(())
 }
 
@@ -149,10 +127,9 @@ fn answer(alloc: Global, op: u32, bytes: &[u8]) -> Result<Option<(usize, u32)>, 
 #[test]
 fn answers_are_read_and_written(rt: HostRuntime) -> Result<(), Fail> {
     for (op, status, hex) in RESULTS {
-        let told = answer(rt.alloc(), op, &bytes_of(rt.alloc(), hex)?)?;
+        let told = answer(rt.alloc(), op, &hex::decode(rt.alloc(), hex)?)?;
         assert_eq!(rt; told, Some((hex.len() / 2, status)), "{op}");
     }
-    results_have_one_spelling();
     Ok(())
 }
 
@@ -169,8 +146,8 @@ enum Told {
 
 /// What is told of the operation with these bytes.
 fn reading(alloc: Global, op: u32, head: &str, tail: &str) -> Result<Told, Fail> {
-    let mut bytes = bytes_of(alloc, head)?;
-    bytes.extend_from_slice(&bytes_of(alloc, tail)?)?;
+    let mut bytes = hex::decode(alloc, head)?;
+    bytes.extend_from_slice(&hex::decode(alloc, tail)?)?;
     let mut reader = Reader::new(&bytes);
     if !is_file_op(op) {
         return Ok(Told::Wrong);
@@ -262,18 +239,17 @@ fn callbacks_are_read_and_written(rt: HostRuntime) -> Result<(), Fail> {
         00000001000000010000000000000002000000020000000500000000000000060000000f";
     for hex in [sent, referring] {
         assert!(rt;
-            is_cb_seq(rt.alloc(), &bytes_of(rt.alloc(), hex)?)?,
+            is_cb_seq(rt.alloc(), &hex::decode(rt.alloc(), hex)?)?,
             "{hex}"
         );
     }
     let done = "000000000000000100000001000000000000000000000001000000000000000f0000000f";
     for hex in [done, "00002745"] {
         assert!(rt;
-            is_cb_seq_res(rt.alloc(), &bytes_of(rt.alloc(), hex)?)?,
+            is_cb_seq_res(rt.alloc(), &hex::decode(rt.alloc(), hex)?)?,
             "{hex}"
         );
     }
-    cb_seq_has_one_spelling();
     Ok(())
 }
 

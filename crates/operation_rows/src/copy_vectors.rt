@@ -2,10 +2,10 @@
 //! result, the leave, its result and the completion stand so in a recorded run, which another program
 //! read without a fault; what each turned word gives was told by a second reader of the same formats.
 
-use super::Kind::{Args, Callback, Res};
-use super::Told::{Read, Refused};
-use super::Vector;
-use crate::*;
+use crate::copies::Kind::{Args, Callback, Res};
+use crate::copies::Told::{Read, Refused};
+use crate::copies::Vector;
+use copy_ops::*;
 
 /// Each operation, and one result of each kind.
 pub const VECTORS: [Vector; 15] = [

@@ -1,18 +1,20 @@
-use crate::{Shown, do_show};
+//! What is shown of streams of records.
+
 use outcome::Mem;
 use rpc_msg::{MemSink, MemSource, Source, Stream, Take, mark};
 use std::alloc::Global;
 use std::fmt::Write;
 use std::process::Abort;
 use std::test::Fail;
+use wire_show::{Shown, do_show};
 
-// A call to NFS version 4, procedure 0, in one fragment.
+/// A call to NFS version 4, procedure 0, in one fragment.
 const CALL: [u8; 44] = [
     128, 0, 0, 40, 0, 0, 0, 1, 0, 0, 0, 0, 0, 0, 0, 2, 0, 1, 134, 163, 0, 0, 0, 4, 0, 0, 0, 0, 0,
     0, 0, 0, 0, 0, 0, 0, 0, 0, 0, 0, 0, 0, 0, 0,
 ];
 
-// The same in fragments of 1, 0 and 39 bytes.
+/// The same in fragments of 1, 0 and 39 bytes.
 const PARTS: [u8; 52] = [
     0, 0, 0, 1, 0, 0, 0, 0, 0, 128, 0, 0, 39, 0, 0, 1, 0, 0, 0, 0, 0, 0, 0, 2, 0, 1, 134, 163, 0,
     0, 0, 4, 0, 0, 0, 0, 0, 0, 0, 0, 0, 0, 0, 0, 0, 0, 0, 0, 0, 0, 0, 0,
@@ -20,7 +22,7 @@ const PARTS: [u8; 52] = [
 
 const CALL_LINES: &str = "record 1 40\ncall 1 100003 4 0 0\nrest 0\n";
 
-// A source that gives at most the bytes up to a cut, and those behind it by later calls.
+/// A source that gives at most the bytes up to a cut, and those behind it by later calls.
 #[derive(Drop)]
 struct Halves<'a> {
     bytes: &'a [u8],
@@ -47,7 +49,7 @@ impl Source for Halves<'_> {
     }
 }
 
-// Shows bytes, where the calls with these numbers fail; 0 is that of no call.
+/// Shows bytes, where the calls with these numbers fail; 0 is that of no call.
 fn check(
     rt: &impl Abort,
     alloc: Global,
@@ -107,15 +109,15 @@ fn streams(rt: HostRuntime) -> Result<(), Fail> {
     Ok(())
 }
 
-// The front of a call to procedure 1 of version 4 of NFS, and its empty credential and verifier.
+/// The front of a call to procedure 1 of version 4 of NFS, and its empty credential and verifier.
 const HEAD: [u8; 24] = [
     0, 0, 0, 1, 0, 0, 0, 0, 0, 0, 0, 2, 0, 1, 134, 163, 0, 0, 0, 4, 0, 0, 0, 1,
 ];
 
-// An empty tag, minor version 2 and one operation.
+/// An empty tag, minor version 2 and one operation.
 const ONE: [u8; 12] = [0, 0, 0, 0, 0, 0, 0, 2, 0, 0, 0, 1];
 
-// A record of these pieces in one fragment.
+/// A record of these pieces in one fragment.
 fn joined(alloc: Global, pieces: &[&[u8]]) -> Mem<Vec<u8>> {
     let mut bytes = Vec::new(alloc);
     for piece in pieces {
@@ -196,7 +198,7 @@ fn cuts(rt: HostRuntime) -> Result<(), Fail> {
     Ok(())
 }
 
-// 16,777,216 bytes: 227 records of the greatest length, and 40,052 bytes behind them.
+/// 16,777,216 bytes: 227 records of the greatest length, and 40,052 bytes behind them.
 #[test]
 fn limits(rt: HostRuntime) -> Result<(), Fail> {
     let alloc = rt.alloc();
