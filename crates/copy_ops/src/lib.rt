@@ -12,6 +12,7 @@ mod args;
 mod callback;
 mod calls;
 mod laws;
+mod lengths;
 mod operation;
 mod res;
 mod results;
@@ -23,6 +24,7 @@ pub use calls::{
     read_cb_offload, read_copy_op, read_copy_res, write_cb_offload, write_copy_op, write_copy_res,
 };
 pub use laws::spelled_once;
+pub use lengths::operations_have_lengths;
 pub use operation::{
     OP_CB_OFFLOAD, OP_CLONE, OP_COPY, OP_COPY_NOTIFY, OP_OFFLOAD_CANCEL, OP_OFFLOAD_STATUS,
     is_copy_op,

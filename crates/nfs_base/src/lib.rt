@@ -14,6 +14,7 @@ mod cause;
 mod copy_spec;
 mod handle;
 mod job;
+mod lengths;
 mod limits;
 mod net_loc;
 mod note;
@@ -34,6 +35,7 @@ pub use cause::{Cause, PrivCause};
 pub use copy_spec::CopySpec;
 pub use handle::Handle;
 pub use job::{JobName, Stop};
+pub use lengths::{answers_have_lengths, common_types_have_lengths};
 pub use limits::{
     BLOCK_SIZE, CHUNK_SIZE, CONTEXT_IDLE, DATA_LIMIT, HANDLE_LIMIT, INPUT_LIMIT, LEASE_SECONDS,
     MOST_BLOCKS, MOST_CLIENTS, MOST_CONTEXTS, MOST_FILES, MOST_GRANTS, MOST_JOBS, MOST_NET_LOCS,
