@@ -2,6 +2,7 @@ pub mod Args
 pub mod Callbacks
 pub mod Files
 pub mod Free
+pub mod LengthLaws
 pub mod Opening
 pub mod Operations
 pub mod Parms

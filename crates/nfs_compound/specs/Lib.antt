@@ -1,6 +1,7 @@
 pub mod Body
 pub mod Callbacks
 pub mod Compounds
+pub mod LengthLaws
 pub mod Numbered
 pub mod OpNames
 pub mod Ops
