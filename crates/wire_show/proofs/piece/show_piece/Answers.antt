@@ -1,10 +1,10 @@
-use Rattle.std.proofs.Common.{arith}
+use Rattle.std.proofs.Common.{◌∙◌, refl, arith}
 use Rattle.rpc_msg.proofs.Pumping.{flow-nil, said_now, within_now}
 use Rattle.wire_show.proofs.Streams.{passed_quiet, passed_need, passed_large, passed_whole, passed_fault, piece_err}
 use Rattle.wire_show.proofs.piece.show_piece.Goals as goal
 
 pub feeds-init : goal.feeds-init
-feeds-init g c = (passed_quiet _ _ _ _ _ (flow-nil _), omega arith, c.requires.open_now, omega arith, omega arith, omega arith)
+feeds-init g c = (passed_quiet _ _ _ _ _ (flow-nil _), omega arith, c.requires.open_now, omega arith, omega arith, omega arith, refl)
 
 pub feeds-preserved-in-Need : goal.feeds-preserved-in-Need
 feeds-preserved-in-Need g c =
@@ -16,6 +16,7 @@ feeds-preserved-in-Need g c =
       kept.3,
       omega (arith, kept.4),
       omega (arith, kept.5),
+      kept.6,
     )
 
 pub returns-in-TooLarge-clause-passed : goal.returns-in-TooLarge-clause-passed
@@ -49,4 +50,5 @@ feeds-preserved g c =
       omega (arith, kept.3, calls.later),
       omega arith,
       omega (arith, kept.5, c.feed-count.ensures.some c.in-Whole.is),
+      calls.failing ∙ kept.6,
     )

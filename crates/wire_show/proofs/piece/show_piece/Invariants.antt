@@ -10,6 +10,7 @@ invariant-feeds g l =
     l.initial.number l.number (take l.at l.piece)
     × (l.at ≤ length l.piece) × (l.feed.large ≡ None) × ((g.K.Stream.takes l.initial.output).faults ≤ (g.K.Stream.takes l.output).faults)
     × (l.rest ≤ l.initial.rest + l.at) × (l.number ≤ l.initial.number + l.at)
+    × ((g.K.Stream.takes l.output).failing ≡ (g.K.Stream.takes l.initial.output).failing)
 
 abbrev pub decreases-feeds : goal.decreases-feeds
 decreases-feeds g l = length l.piece - l.at

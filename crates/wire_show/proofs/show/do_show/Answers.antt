@@ -1,4 +1,4 @@
-use Rattle.std.proofs.Common.{◌≡◌, ◌≤◌, List, [], ℕ, length, take, arith, length-take}
+use Rattle.std.proofs.Common.{◌≡◌, ◌≤◌, ◌∙◌, List, [], ℕ, refl, length, take, arith, length-take}
 use Rattle.std.proofs.KnownBytes.{Consumes-nil}
 use Rattle.rpc_msg.specs.Underway.{fresh, Open}
 use Rattle.rpc_msg.proofs.Pumping.{flow-nil, none_given}
@@ -23,6 +23,8 @@ takes-init g c = (
   },
   omega arith,
   omega arith,
+  refl,
+  refl,
 )
 
 pub returns-in_err-after-in-Took-clause-shown : goal.returns-in_err-after-in-Took-clause-shown
@@ -47,6 +49,8 @@ takes-preserved g c =
           kept.0 gave len took.1 passed.0 passed.1 (rw c.in-Taken.is at calls.within) calls.few,
       omega (arith, kept.1, read),
       omega (arith, kept.2, calls.later),
+      c.take_some.ensures.failing ∙ kept.3,
+      calls.failing ∙ kept.4,
     )
 
 pub returns-in-TooLarge-clause-shown : goal.returns-in-TooLarge-clause-shown
