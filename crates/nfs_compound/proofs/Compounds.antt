@@ -1,5 +1,5 @@
 -- A compound is read exactly where it is spelled.
-use Rattle.std.proofs.Common.{◌≡◌, ℕ, ◌^◌, ◌≤◌, ◌<◌, List, length, Result, Ok, refl, sym, ap, subst, ◌∙◌, arith}
+use Rattle.std.proofs.Common.{◌≡◌, ℕ, ◌≤◌, List, length, Result, Ok, refl, sym, ap, subst, ◌∙◌, arith}
 use Rattle.wire_xdr.specs.Cursor.{Cursor, IsBytes, ◌>>=◌}
 use Rattle.wire_xdr.specs.StepLaws.{bind_ok, ok_is}
 use Rattle.nfs_compound.specs.declared.tail.Tail.{Tail}
@@ -11,7 +11,7 @@ use Rattle.nfs_compound.specs.declared.cb_op.CbOp.TheVariants as callbacks
 use Rattle.nfs_compound.specs.declared.compound.Compound.{Compound}
 use Rattle.nfs_compound.specs.declared.cb_compound.CbCompound.{CbCompound}
 use Rattle.nfs_compound.specs.Body.{one_at, body_at}
-use Rattle.nfs_compound.specs.Whole.{start}
+use Rattle.wire_xdr.specs.All.{start}
 use Rattle.nfs_compound.specs.Ops.{op_class, op_arg, op_number, op_own, op_is_cut, operation}
 use Rattle.nfs_compound.specs.Callbacks.{cb_class, cb_arg, cb_op_number, cb_op_own, cb_is_cut, cb_operation}
 use Rattle.nfs_compound.specs.Compounds.{compound_head, compound_at, compound_of, IsCompound, cb_compound_head, cb_compound_at, cb_compound_of, IsCbCompound}

@@ -12,7 +12,7 @@ use Rattle.nfs_compound.specs.declared.limits.TheConstants.{NO_LIMIT}
 use Rattle.nfs_compound.specs.declared.compound.Compound.{Compound}
 use Rattle.nfs_compound.specs.declared.cb_compound.CbCompound.{CbCompound}
 use Rattle.nfs_compound.specs.Body.{one_at, body_at, IsBody}
-use Rattle.nfs_compound.specs.Whole.{start}
+use Rattle.wire_xdr.specs.All.{start}
 use Rattle.nfs_compound.specs.Ops.{op_class, op_arg, op_is_cut, operation}
 use Rattle.nfs_compound.specs.Callbacks.{cb_class, cb_arg, cb_is_cut, cb_operation}
 

@@ -45,6 +45,11 @@ pub reply_sized : (v : Reply) → reply.Fits v → length (reply.spell v) ≤ TE
 unfolding reply
 reply_sized v fits =
     omega (
-      arith, length-append (status.spell v.status) (opaque_bytes v.tag ++ list_spell outcome v.results), length-append (opaque_bytes v.tag) (list_spell outcome v.results), status_bounded v.status fits.0,
-      opaque_bounded TEXT_LIMIT (lit< tt) v.tag fits.1.0, list_length outcome v.results, sum_sized v.results fits.1.1.1,
+      arith,
+      length-append (status.spell v.status) (opaque_bytes v.tag ++ list_spell outcome v.results),
+      length-append (opaque_bytes v.tag) (list_spell outcome v.results),
+      status_bounded v.status fits.0,
+      opaque_bounded TEXT_LIMIT (lit< tt) v.tag fits.1.0,
+      list_length outcome v.results,
+      sum_sized v.results fits.1.1.1,
     )

@@ -1,16 +1,15 @@
 //! The reply to a CB_COMPOUND.
 
 ghost use Rattle.std.specs.Prelude.{◌≡◌, IfOk};
+ghost use Rattle.wire_xdr.specs.All.{ReadsAll};
 ghost use Rattle.nfs_compound.specs.Callbacks.{cb_reply};
-ghost use Rattle.nfs_compound.specs.Whole.{IsWholeRead};
 
 use crate::cb_res::CbRes;
 use crate::limits::NO_LIMIT;
-use crate::whole::{read_whole, write_whole};
 use nfs_base::{Status, TEXT_LIMIT};
 use outcome::Mem;
 use std::alloc::Global;
-use wire_xdr::{BadXdr, Items, Octets, ReadError, Reader, Writer, Xdr};
+use wire_xdr::{BadXdr, Items, Octets, ReadError, Reader, Writer, Xdr, read_all, write_all};
 
 /// The reply to a CB_COMPOUND, CB_COMPOUND4res (RFC 8881 section 20.2).
 #[derive(Drop)]
@@ -43,9 +42,9 @@ impl Xdr for CbReply {
 /// Reads the body of a reply to CB_COMPOUND, which is all of the bytes, as [`crate::read_reply_body`] reads
 /// that of a reply to COMPOUND.
 pub fn read_cb_reply(alloc: Global, bytes: &[u8]) -> Mem<Result<CbReply, BadXdr>>
-    ensures { IfOk result (IsWholeRead cb_reply bytes.now) }
+    ensures { IfOk result (ReadsAll cb_reply bytes.now) }
 {
-    read_whole(alloc, bytes)
+    read_all(alloc, bytes)
 }
 
 /// The spelling of a reply to CB_COMPOUND.
@@ -53,5 +52,5 @@ pub fn write_cb_reply(alloc: Global, value: &CbReply) -> Mem<Octets>
     requires { cb_reply.Fits value.now }
     ensures { IfOk result (λ bytes. bytes ≡ cb_reply.spell value.now) }
 {
-    write_whole(alloc, value)
+    write_all(alloc, value)
 }

@@ -25,7 +25,6 @@ mod refusal;
 mod reply;
 mod res;
 mod tail;
-mod whole;
 
 pub use cb_compound::{CbCompound, read_cb_compound, write_cb_compound};
 pub use cb_op::{CbOp, cb_name_of};
