@@ -33,7 +33,9 @@ fn push_tag(bytes: &mut Vec<u8>, len: u32) -> Mem<()> {
 /// What is shown of the record with these bytes.
 fn shown(alloc: Global, record_: &[u8]) -> Mem<MemSink> {
     let mut bytes = Vec::new(alloc);
-    bytes.extend_from_slice(&mark(record_.len() as u32 % 65_536))?;
+    if record_.len() < 65_536 {
+        bytes.extend_from_slice(&mark(record_.len() as u32))?;
+    }
     bytes.extend_from_slice(record_)?;
     let mut input = MemSource::new(bytes, Vec::new(alloc));
     let mut output = MemSink::new(alloc, Vec::new(alloc));
