@@ -6,7 +6,7 @@ use Rattle.copy_model.specs.Moment.{History}
 use Rattle.copy_model.specs.Promise.{InRange, IsAcceptedBy, IsCompletedBy, IsStableBy, IsStoppedBy, IsDuring, IsTouched}
 use Rattle.copy_model.specs.Laws.{Progress, IsLawfulRun}
 
-at_or_before : (i k : ℕ) → i ≤ suc k → (i ≤ k) ⊎ (i ≡ suc k)
+pub at_or_before : (i k : ℕ) → i ≤ suc k → (i ≤ k) ⊎ (i ≡ suc k)
 at_or_before i k le = grind arith
 
 -- what holds at i and goes on holds from i on

@@ -8,20 +8,20 @@ use Rattle.copy_model.specs.Promise.{MayLeave}
 use Rattle.copy_model.proofs.Bytes.{file_at-crash, file_at-crash_old}
 
 -- the byte that a crash leaves of these files
-abbrev left_of : List File → ℕ → ℕ → ℕ
+abbrev pub left_of : List File → ℕ → ℕ → ℕ
 left_of files file place = byte_at (get_or files file no_file).safe place
 
-doubted-same : (d : Doubt) (file place : ℕ) → d.file ≡ file → doubted (Some d) file place ≡ Some (byte_at d.bytes place)
+pub doubted-same : (d : Doubt) (file place : ℕ) → d.file ≡ file → doubted (Some d) file place ≡ Some (byte_at d.bytes place)
 doubted-same d file place same = cond-true (eqb d.file file) (Some (byte_at d.bytes place)) None (eq-eqb d.file file same)
 
-doubted-other : (d : Doubt) (file place : ℕ) → (d.file ≡ file → ⊥) → doubted (Some d) file place ≡ None
+pub doubted-other : (d : Doubt) (file place : ℕ) → (d.file ≡ file → ⊥) → doubted (Some d) file place ≡ None
 doubted-other d file place other = cond-false (eqb d.file file) (Some (byte_at d.bytes place)) None (ne_eqb d.file file other)
 
-left_new : (files : List File) (d : Doubt) (file place : ℕ) → d.file ≡ file → d.file < length files → left_of (settled files (Some d) New) file place ≡ byte_at d.bytes place
+pub left_new : (files : List File) (d : Doubt) (file place : ℕ) → d.file ≡ file → d.file < length files → left_of (settled files (Some d) New) file place ≡ byte_at d.bytes place
 left_new files d file place same there =
     ap (λ n. left_of (settled files (Some d) New) n place) (sym same) ∙ ap (λ (f : File). byte_at f.safe place) (get_or-set_same files d.file _ no_file there)
 
-left_other : (files : List File) (d : Doubt) (file place : ℕ) → (d.file ≡ file → ⊥) → left_of (settled files (Some d) New) file place ≡ left_of files file place
+pub left_other : (files : List File) (d : Doubt) (file place : ℕ) → (d.file ≡ file → ⊥) → left_of (settled files (Some d) New) file place ≡ left_of files file place
 left_other files d file place other =
     ap (λ (f : File). byte_at f.safe place) (get_or-set_other files d.file file _ no_file (λ same. other (sym same)))
 

@@ -7,3 +7,8 @@ mod Runs
 mod GoodRun
 mod RefusedRuns
 mod Leavings
+mod Effects
+mod Changes
+mod Entries
+mod Chunks
+mod Sound

@@ -106,6 +106,12 @@ unlanded_from es off (suc n) = if has_landed es off then unlanded_from es (off +
 abbrev pub unlanded : List Entry → ℕ → Option ℕ
 unlanded es total = unlanded_from es 0 (chunks_of total)
 
+-- the first chunk of a range that has not landed begins at off
+pub record FirstUnlanded (es : List Entry) (total off : ℕ) : Type 0 where
+  pub chunk : IsChunk total off
+  pub is_new : has_landed es off ≡ false
+  pub earlier : (start : ℕ) → IsChunk total start → start < off → has_landed es start ≡ true
+
 -- A landing names a chunk of the sized range that has not landed; in a consecutive job every earlier
 -- chunk has.
 pub record AllowsLanding (consecutive : Bool) (es : List Entry) (off len : ℕ) : Type 0 where

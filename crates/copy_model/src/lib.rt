@@ -8,10 +8,14 @@
 //! The words are those of RFC 7862 (COPY, CB_OFFLOAD) and RFC 8881 (WRITE, COMMIT, change).
 #![tactic(auto)]
 
+mod logs;
 mod promise;
 mod sanity;
+mod steps;
 mod volume;
 
+pub use logs::{first_chunks, log_marks, logs_grow};
 pub use promise::lawful_runs;
 pub use sanity::{crash_leavings, kept_example, refused_examples};
+pub use steps::{alike_volumes, change_names_contents, volume_effects};
 pub use volume::{recovered_files, written_bytes, written_files};

@@ -1,0 +1,6 @@
+mod Ends
+mod Openings
+mod Roots
+mod Mounts
+mod Slots
+mod Answered
