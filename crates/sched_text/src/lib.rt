@@ -15,8 +15,6 @@ mod laws;
 mod line;
 mod numerals;
 mod schedule;
-#[cfg(test)]
-mod tests;
 mod words;
 
 pub use context::Context;

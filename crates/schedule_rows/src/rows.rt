@@ -1,6 +1,6 @@
-use super::*;
-use nfs_base::{JobName, Side};
+use nfs_base::{JobName, Note, Side};
 use outcome::Mem;
+use sched_text::{BadLine, Context, Event, Line, Schedule};
 use std::alloc::Global;
 use std::test::Fail;
 use wire_xdr::Octets;
@@ -156,7 +156,7 @@ fn contexts(rt: HostRuntime) {
 fn lines(rt: HostRuntime) -> Result<(), Fail> {
     let mut text = String::new(rt.alloc());
     let job = JobName { boot: 1, number: 2 };
-    Line::Note(nfs_base::Note::Sized { job, len: 70 }).push_to(&mut text)?;
+    Line::Note(Note::Sized { job, len: 70 }).push_to(&mut text)?;
     Line::Bytes {
         side: Side::Source,
         file: 3,
