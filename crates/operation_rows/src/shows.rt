@@ -1,11 +1,12 @@
 //! What is shown of streams of records.
 
 use outcome::Mem;
-use rpc_msg::{MemSink, MemSource, Source, Stream, Take, mark};
+use rpc_msg::mark;
 use std::alloc::Global;
 use std::fmt::Write;
 use std::process::Abort;
 use std::test::Fail;
+use streams::{MemSink, MemSource, Source, Stream, Take};
 use wire_show::{Shown, do_show};
 
 /// A call to NFS version 4, procedure 0, in one fragment.

@@ -3,9 +3,10 @@
 use nfs_base::{CALLBACK_PROGRAM, CALLBACK_VERSION, NFS_PROGRAM, NFS_VERSION};
 use nfs_compound::{read_cb_reply, read_reply_body};
 use outcome::Mem;
-use rpc_msg::{MemSink, MemSource, mark};
+use rpc_msg::mark;
 use std::alloc::Global;
 use std::test::Fail;
+use streams::{MemSink, MemSource};
 use wire_show::do_show;
 use wire_xdr::BadXdr;
 
