@@ -8,27 +8,17 @@
 //! the change attribute (section 5.8.1.4).
 #![tactic(auto)]
 
-#[cfg(test)]
-mod blind_disk;
 mod blocks;
 mod bytes;
 mod cell;
-#[cfg(test)]
-mod cell_tests;
-#[cfg(test)]
-mod crash_tests;
 mod faults;
 mod flaws;
 mod format;
-#[cfg(test)]
-mod format_tests;
 mod head;
 mod info;
 mod laws;
 mod load;
 mod memory;
-#[cfg(test)]
-mod open_tests;
 mod opening;
 mod shape;
 mod tables;

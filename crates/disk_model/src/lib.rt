@@ -14,8 +14,6 @@ mod file_disk;
 mod fuse;
 mod memory_disk;
 mod store;
-#[cfg(test)]
-mod tests;
 
 pub use crashes::crash_laws;
 pub use disk::{Block, CrashDisk, Disk, Io};

@@ -1,4 +1,4 @@
-use crate::{FormatFault, Volume};
+use block_file::{FormatFault, Volume};
 use disk_model::{Disk, Io, MemoryDisk};
 use std::test::Fail;
 

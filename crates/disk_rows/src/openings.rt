@@ -1,5 +1,5 @@
 use crate::blind_disk::{BlindDisk, formatted, opened};
-use crate::{FileInfo, OpenFault, ReadFault, Volume, WriteFault};
+use block_file::{FileInfo, OpenFault, ReadFault, Volume, WriteFault};
 use disk_model::{Disk, Io, MemoryDisk};
 use std::alloc::Global;
 use std::test::Fail;

@@ -1,4 +1,4 @@
-use crate::{Block, Counts, CrashDisk, Disk, FileDisk, Fuse, Io, MemoryDisk};
+use disk_model::{Block, Counts, CrashDisk, Disk, FileDisk, Fuse, Io, MemoryDisk};
 use std::fs::OpenOptions;
 use std::process::Abort;
 use std::test::Fail;

@@ -1,4 +1,4 @@
-use crate::GatedCell;
+use block_file::GatedCell;
 use disk_model::{Block, CrashDisk, Disk, Io, MemoryDisk};
 use std::process::Abort;
 use std::test::Fail;

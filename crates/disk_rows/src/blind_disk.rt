@@ -4,7 +4,7 @@ ghost use Rattle.disk_model.specs.Elapsed.{untold};
 ghost use Rattle.disk_model.specs.MemoryDisk.{size_of, fuse_of};
 ghost use Rattle.block_file.specs.Opened.{IsFresh};
 
-use crate::Volume;
+use block_file::Volume;
 use disk_model::{Block, CrashDisk, Disk, Io, MemoryDisk};
 use std::alloc::Global;
 use std::test::Fail;
