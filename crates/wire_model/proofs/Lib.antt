@@ -4,3 +4,7 @@ mod Roots
 mod Mounts
 mod Slots
 mod Answered
+mod Below
+mod Jobs
+mod Fetched
+mod Steps

@@ -4,3 +4,8 @@ pub mod ServerLaws
 pub mod CallerLaws
 pub mod Check
 pub mod Told
+pub mod Meaning
+pub mod Copies
+pub mod System
+pub mod CopyLaws
+pub mod Lawful
