@@ -7,9 +7,11 @@ use Rattle.std.specs.declared.option.Option.TheVariants.{None, Some}
 use Rattle.std.specs.Io.KnownBytes.{Appends, Consumes, Keeps}
 use Rattle.std.proofs.KnownBytes.{Appends-trans, Appends-nil, Consumes-trans, Consumes-nil, Consumes-kept}
 use Rattle.std.proofs.Math.Seq.{take-append_seam, take-add}
+use Rattle.streams.specs.Stream.{Taking}
+use Rattle.streams.specs.Sink.{Offers}
 use Rattle.rpc_msg.specs.Records.{mark_of}
 use Rattle.rpc_msg.specs.Underway.{Under, fresh, Step, Goes, Ends, Passes, Cut, Part, Whole, Large, cut, cut_on, on_byte, State, Open, Shut, Flow, then_flow, flow, Feed, Feeds, FeedsCut}
-use Rattle.rpc_msg.specs.Serving.{Serves, sent, Passed, PassedFront, Ran, Stops, StopsFront, RanShort}
+use Rattle.rpc_msg.specs.Serving.{Serves, OffersEach, sent, Passed, PassedFront, Ran, Stops, StopsFront, RanShort}
 use Rattle.rpc_msg.specs.declared.records.Fed.{Fed}
 use Rattle.rpc_msg.specs.declared.records.Fed.TheVariants as fed
 use Rattle.rpc_msg.proofs.Streams.{flow-cut, flow-append}
@@ -102,8 +104,19 @@ Serves-append answers old middle new (told ∷ first) more [] others done later 
 Serves-append answers old middle new (told ∷ first) more (reply ∷ replies) others done later =
     (done.0, done.1, Serves-append answers done.0 middle new first more replies others done.2 later)
 
+-- the replies were offered, and then the others
+offers_join : (a b c : Option (List (List ℕ))) (replies others : List (List ℕ))
+    → OffersEach a b replies → OffersEach b c others → OffersEach a c (replies ++ others)
+offers_join a b c [] others first later = rw (← first) later
+offers_join a b c (reply ∷ replies) others first later = (first.0, first.1, offers_join first.0 b c replies others first.2 later)
+
+-- nothing was offered
+pub offers_none : (old : Option (List (List ℕ))) → Offers old old []
+offers_none None = record { pieces = []; told = refl; whole = tt; some = λ no. absurd (omega (arith, no)) }
+offers_none (Some earlier) = record { pieces = []; told = rw (append-nil earlier) refl; whole = tt; some = λ no. absurd (omega (arith, no)) }
+
 -- bytes that end no record
-pub passed_quiet : {H : Type 0} (answers : H → List ℕ → List ℕ → H → Type 0) (old_state new_state : State) (old : H) (put : Option (List ℕ)) (left : ℕ) (bytes : List ℕ)
+pub passed_quiet : {H : Type 0} (answers : H → List ℕ → List ℕ → H → Type 0) (old_state new_state : State) (old : H) (put : Taking) (left : ℕ) (bytes : List ℕ)
     → flow old_state bytes ≡ record { records = []; state = new_state }
     → Passed answers Appends old_state new_state old old put put left left bytes
 passed_quiet answers old_state new_state old put left bytes is =
@@ -111,29 +124,32 @@ passed_quiet answers old_state new_state old put left bytes is =
       replies = [];
       state = rw is refl;
       served = rw is refl;
-      put = Appends-nil put;
+      put = Appends-nil put.taken;
+      offered = refl;
       counted = rw is (omega arith);
     }
 
 -- bytes that end one record
 pub passed_one : {H : Type 0} (answers : H → List ℕ → List ℕ → H → Type 0) (Puts : Option (List ℕ) → Option (List ℕ) → List ℕ → Type 0)
-    (old_state new_state : State) (old new : H) (old_put new_put : Option (List ℕ)) (old_left new_left : ℕ) (bytes told reply : List ℕ)
+    (old_state new_state : State) (old new : H) (old_put new_put : Taking) (old_left new_left : ℕ) (bytes told reply : List ℕ)
     → flow old_state bytes ≡ record { records = told ∷ []; state = new_state }
-    → answers old told reply new → Puts old_put new_put (sent reply) → old_left ≡ new_left + 1
+    → answers old told reply new → Puts old_put.taken new_put.taken (sent reply) → Offers old_put.pieces new_put.pieces (sent reply)
+    → old_left ≡ new_left + 1
     → Passed answers Puts old_state new_state old new old_put new_put old_left new_left bytes
-passed_one answers Puts old_state new_state old new old_put new_put old_left new_left bytes told reply is answered put counted =
+passed_one answers Puts old_state new_state old new old_put new_put old_left new_left bytes told reply is answered put offered counted =
     record {
       replies = reply ∷ [];
       state = rw is refl;
       served = rw is (new, answered, refl);
       put = rw (append-nil (sent reply)) put;
+      offered = (new_put.pieces, offered, refl);
       counted = rw is (omega arith);
     }
 
 -- bytes that were passed one after the other
 pub passed_join : {H : Type 0} (answers : H → List ℕ → List ℕ → H → Type 0) (Puts : Option (List ℕ) → Option (List ℕ) → List ℕ → Type 0)
     (join : (a b c : Option (List ℕ)) (x y : List ℕ) → Appends a b x → Puts b c y → Puts a c (x ++ y))
-    (s m n : State) (old middle new : H) (a b c : Option (List ℕ)) (l k j : ℕ) (first more : List ℕ)
+    (s m n : State) (old middle new : H) (a b c : Taking) (l k j : ℕ) (first more : List ℕ)
     → Passed answers Appends s m old middle a b l k first → Passed answers Puts m n middle new b c k j more
     → Passed answers Puts s n old new a c l j (first ++ more)
 passed_join answers Puts join s m n old middle new a b c l k j first more done later =
@@ -143,7 +159,8 @@ passed_join answers Puts join s m n old middle new a b c l k j first more done l
       replies = done.replies ++ later.replies;
       state = rw (both, at) later.state;
       served = rw (both, at) (Serves-append answers old middle new _ _ done.replies later.replies done.served later.served);
-      put = rw (flat_map-append sent done.replies later.replies) (join a b c _ _ done.put later.put);
+      put = rw (flat_map-append sent done.replies later.replies) (join a.taken b.taken c.taken _ _ done.put later.put);
+      offered = offers_join a.pieces b.pieces c.pieces done.replies later.replies done.offered later.offered;
       counted = rw (both, at, length-append (flow s first).records (flow m more).records) (omega (arith, done.counted, later.counted));
     }
 
@@ -152,7 +169,7 @@ appends_join a b c x y first more = Appends-trans a b c x y first more
 
 -- as far as the bytes were passed, a piece taken so far
 pub record Running {H : Type 0} (answers : H → List ℕ → List ℕ → H → Type 0) (state : State) (rest : ℕ) (feed : Feed)
-    (old new : H) (old_put new_put : Option (List ℕ)) (old_left new_left : ℕ)
+    (old new : H) (old_put new_put : Taking) (old_left new_left : ℕ)
     (old_source new_source : Option (List ℕ)) (unspent budget : ℕ) : Type 0 where
   pub bytes : List ℕ
   pub taken : Consumes old_source new_source bytes
@@ -192,7 +209,7 @@ within_now piece at n inside within =
 -- one more call of the feed, and what it brought
 pub passed_on : {H : Type 0} (answers : H → List ℕ → List ℕ → H → Type 0) (Puts : Option (List ℕ) → Option (List ℕ) → List ℕ → Type 0)
     (join : (a b c : Option (List ℕ)) (x y : List ℕ) → Appends a b x → Puts b c y → Puts a c (x ++ y))
-    (s n : State) (rest : ℕ) (feed new_feed : Feed) (old middle new : H) (a b c : Option (List ℕ)) (l k j : ℕ)
+    (s n : State) (rest : ℕ) (feed new_feed : Feed) (old middle new : H) (a b c : Taking) (l k j : ℕ)
     (piece : List ℕ) (at : ℕ) (result : ℕ × Fed) → feed.large ≡ None
     → Feeds feed.large feed (take (length piece - at) (drop at piece)) result new_feed
     → Passed answers Appends s (Open rest feed.under) old middle a b l k (take at piece)
@@ -205,7 +222,7 @@ passed_on answers Puts join s n rest feed new_feed old middle new a b c l k j pi
 
 -- it ended no record
 pub passed_need : {H : Type 0} (answers : H → List ℕ → List ℕ → H → Type 0)
-    (s : State) (rest : ℕ) (feed new_feed : Feed) (old middle : H) (a b : Option (List ℕ)) (l k : ℕ)
+    (s : State) (rest : ℕ) (feed new_feed : Feed) (old middle : H) (a b : Taking) (l k : ℕ)
     (piece : List ℕ) (at : ℕ) (result : ℕ × Fed) → feed.large ≡ None
     → Feeds feed.large feed (take (length piece - at) (drop at piece)) result new_feed
     → Passed answers Appends s (Open rest feed.under) old middle a b l k (take at piece)
@@ -217,7 +234,7 @@ passed_need answers s rest feed new_feed old middle a b l k piece at result smal
 
 -- it met a record too large
 pub passed_large : {H : Type 0} (answers : H → List ℕ → List ℕ → H → Type 0)
-    (s : State) (rest sum : ℕ) (feed new_feed : Feed) (old middle : H) (a b : Option (List ℕ)) (l k : ℕ)
+    (s : State) (rest sum : ℕ) (feed new_feed : Feed) (old middle : H) (a b : Taking) (l k : ℕ)
     (piece : List ℕ) (at : ℕ) (result : ℕ × Fed) → feed.large ≡ None
     → Feeds feed.large feed (take (length piece - at) (drop at piece)) result new_feed
     → Passed answers Appends s (Open rest feed.under) old middle a b l k (take at piece)
@@ -230,21 +247,21 @@ passed_large answers s rest sum feed new_feed old middle a b l k piece at result
 -- it ended a record, which was served
 pub passed_whole : {H : Type 0} (answers : H → List ℕ → List ℕ → H → Type 0) (Puts : Option (List ℕ) → Option (List ℕ) → List ℕ → Type 0)
     (join : (a b c : Option (List ℕ)) (x y : List ℕ) → Appends a b x → Puts b c y → Puts a c (x ++ y))
-    (s : State) (rest : ℕ) (feed new_feed : Feed) (old middle new : H) (a b c : Option (List ℕ)) (l k j : ℕ)
+    (s : State) (rest : ℕ) (feed new_feed : Feed) (old middle new : H) (a b c : Taking) (l k j : ℕ)
     (piece : List ℕ) (at : ℕ) (result : ℕ × Fed) (told reply : List ℕ) → feed.large ≡ None
     → Feeds feed.large feed (take (length piece - at) (drop at piece)) result new_feed
     → Passed answers Appends s (Open rest feed.under) old middle a b l k (take at piece)
     → result.1 ≡ fed.Whole → told ≡ new_feed.told
-    → answers middle told reply new → Puts b c (sent reply) → k ≡ j + 1
+    → answers middle told reply new → Puts b.taken c.taken (sent reply) → Offers b.pieces c.pieces (sent reply) → k ≡ j + 1
     → Passed answers Puts s (Open 0 fresh) old new a c l j (take (at + result.0) piece)
-passed_whole answers Puts join s rest feed new_feed old middle new a b c l k j piece at result told reply small exact done said same answered put counted =
+passed_whole answers Puts join s rest feed new_feed old middle new a b c l k j piece at result told reply small exact done said same answered put offered counted =
     passed_on answers Puts join s (Open 0 fresh) rest feed new_feed old middle new a b c l k j piece at result small exact done
-    (λ is. passed_one answers Puts _ _ middle new b c k j _ told reply (rw (said, ← same) at is) answered put counted)
+    (λ is. passed_one answers Puts _ _ middle new b c k j _ told reply (rw (said, ← same) at is) answered put offered counted)
 
 -- the whole of a piece was passed
 pub running_taken : {H : Type 0} (answers : H → List ℕ → List ℕ → H → Type 0) (s : State) (rest : ℕ) (feed : Feed) (old middle : H)
-    (a b : Option (List ℕ)) (l k : ℕ) (source now : Option (List ℕ)) (unspent budget : ℕ)
-    (after : ℕ) (new_feed : Feed) (new : H) (c : Option (List ℕ)) (j : ℕ) (later : Option (List ℕ)) (piece : List ℕ) (n : ℕ)
+    (a b : Taking) (l k : ℕ) (source now : Option (List ℕ)) (unspent budget : ℕ)
+    (after : ℕ) (new_feed : Feed) (new : H) (c : Taking) (j : ℕ) (later : Option (List ℕ)) (piece : List ℕ) (n : ℕ)
     → Running answers s rest feed old middle a b l k source now unspent budget
     → Consumes now later piece → length piece ≡ n → n ≤ unspent
     → Passed answers Appends (Open rest feed.under) (Open after new_feed.under) middle new b c k j piece
@@ -266,8 +283,8 @@ running_taken answers s rest feed old middle a b l k source now unspent budget a
 pub ran_stopped : {H : Type 0} (answers : H → List ℕ → List ℕ → H → Type 0) (Puts : Option (List ℕ) → Option (List ℕ) → List ℕ → Type 0)
     (join : (a b c : Option (List ℕ)) (x y : List ℕ) → Appends a b x → Puts b c y → Puts a c (x ++ y))
     (s n : State) (rest : ℕ) (feed : Feed) (old middle : H)
-    (a b : Option (List ℕ)) (l k : ℕ) (source now : Option (List ℕ)) (unspent budget : ℕ)
-    (new : H) (c : Option (List ℕ)) (j : ℕ) (later : Option (List ℕ)) (piece : List ℕ)
+    (a b : Taking) (l k : ℕ) (source now : Option (List ℕ)) (unspent budget : ℕ)
+    (new : H) (c : Taking) (j : ℕ) (later : Option (List ℕ)) (piece : List ℕ)
     → Running answers s rest feed old middle a b l k source now unspent budget
     → Consumes now later piece → length piece ≤ unspent
     → PassedFront answers Puts (Open rest feed.under) n middle new b c k j piece
@@ -289,7 +306,7 @@ ran_stopped answers Puts join s n rest feed old middle a b l k source now unspen
 
 -- all that was passed, and bytes besides
 pub ran_here : {H : Type 0} (answers : H → List ℕ → List ℕ → H → Type 0) (s : State) (rest : ℕ) (feed : Feed) (old middle : H)
-    (a b : Option (List ℕ)) (l k : ℕ) (source now : Option (List ℕ)) (unspent budget : ℕ) (later : Option (List ℕ)) (over : List ℕ)
+    (a b : Taking) (l k : ℕ) (source now : Option (List ℕ)) (unspent budget : ℕ) (later : Option (List ℕ)) (over : List ℕ)
     → Running answers s rest feed old middle a b l k source now unspent budget → Consumes now later over
     → Ran answers Appends s (Open rest feed.under) old middle a b l k source later budget
 ran_here answers s rest feed old middle a b l k source now unspent budget later over run taken =
@@ -304,7 +321,7 @@ ran_here answers s rest feed old middle a b l k source now unspent budget later 
 
 -- the source ended, or gave nothing more
 pub ran_end : {H : Type 0} (answers : H → List ℕ → List ℕ → H → Type 0) (s : State) (rest : ℕ) (feed : Feed) (old middle : H)
-    (a b : Option (List ℕ)) (l k : ℕ) (source now : Option (List ℕ)) (unspent budget : ℕ) (later : Option (List ℕ))
+    (a b : Taking) (l k : ℕ) (source now : Option (List ℕ)) (unspent budget : ℕ) (later : Option (List ℕ))
     → Running answers s rest feed old middle a b l k source now unspent budget → Consumes now later []
     → (ran : Ran answers Appends s (Open rest feed.under) old middle a b l k source later budget) × (ran.over ≡ [])
 unfolding ran_here
@@ -313,7 +330,7 @@ ran_end answers s rest feed old middle a b l k source now unspent budget later r
 
 -- the source gave more than the budget
 pub ran_much : {H : Type 0} (answers : H → List ℕ → List ℕ → H → Type 0) (s : State) (rest : ℕ) (feed : Feed) (old middle : H)
-    (a b : Option (List ℕ)) (l k : ℕ) (source now : Option (List ℕ)) (unspent budget : ℕ) (later : Option (List ℕ)) (over : List ℕ)
+    (a b : Taking) (l k : ℕ) (source now : Option (List ℕ)) (unspent budget : ℕ) (later : Option (List ℕ)) (over : List ℕ)
     → Running answers s rest feed old middle a b l k source now unspent budget → unspent ≤ 0 → 0 < length over → Consumes now later over
     → (ran : Ran answers Appends s (Open rest feed.under) old middle a b l k source later budget)
     × (length ran.bytes ≡ budget) × (0 < length ran.over)
@@ -328,7 +345,7 @@ pub none_given : (now later : Option (List ℕ)) → Keeps now later → Consume
 none_given now later kept = Consumes-kept now now later [] (Consumes-nil now) kept
 
 -- before anything was taken
-pub ran_none : {H : Type 0} (answers : H → List ℕ → List ℕ → H → Type 0) (s : State) (old : H) (a : Option (List ℕ)) (l : ℕ) (source : Option (List ℕ)) (budget : ℕ)
+pub ran_none : {H : Type 0} (answers : H → List ℕ → List ℕ → H → Type 0) (s : State) (old : H) (a : Taking) (l : ℕ) (source : Option (List ℕ)) (budget : ℕ)
     → Ran answers Appends s s old old a a l l source source budget
 ran_none answers s old a l source budget =
     record {
@@ -345,7 +362,7 @@ take_front n most buf room within = take-append-le n buf (drop most room) within
 
 -- it ended a record, for which memory was wanted
 pub stops_whole : {H : Type 0} (answers : H → List ℕ → List ℕ → H → Type 0)
-    (s : State) (rest : ℕ) (feed new_feed : Feed) (old middle : H) (a b : Option (List ℕ)) (l k : ℕ)
+    (s : State) (rest : ℕ) (feed new_feed : Feed) (old middle : H) (a b : Taking) (l k : ℕ)
     (piece : List ℕ) (at : ℕ) (result : ℕ × Fed) → feed.large ≡ None
     → Feeds feed.large feed (take (length piece - at) (drop at piece)) result new_feed
     → Passed answers Appends s (Open rest feed.under) old middle a b l k (take at piece)
@@ -364,11 +381,12 @@ stops_whole answers s rest feed new_feed old middle a b l k piece at result smal
       told = rw (both, done.state) (rw one refl);
       served = done.served;
       put = done.put;
+      offered = done.offered;
       counted = done.counted;
     })
 
 stops_join : {H : Type 0} (answers : H → List ℕ → List ℕ → H → Type 0)
-    (s m : State) (old middle new : H) (a b c : Option (List ℕ)) (l k j : ℕ) (first more : List ℕ) (feed : Feed)
+    (s m : State) (old middle new : H) (a b c : Taking) (l k j : ℕ) (first more : List ℕ) (feed : Feed)
     → Passed answers Appends s m old middle a b l k first → Stops answers m middle new b c k j more feed
     → Stops answers s old new a c l j (first ++ more) feed
 stops_join answers s m old middle new a b c l k j first more feed done later =
@@ -378,14 +396,15 @@ stops_join answers s m old middle new a b c l k j first more feed done later =
       replies = done.replies ++ later.replies;
       told = rw (both, done.state) (rw later.told (rw (append_assoc (flow s first).records later.records (feed.told ∷ [])) refl));
       served = Serves-append answers old middle new _ _ done.replies later.replies done.served later.served;
-      put = rw (flat_map-append sent done.replies later.replies) (appends_join a b c _ _ done.put later.put);
+      put = rw (flat_map-append sent done.replies later.replies) (appends_join a.taken b.taken c.taken _ _ done.put later.put);
+      offered = offers_join a.pieces b.pieces c.pieces done.replies later.replies done.offered later.offered;
       counted = omega (arith, done.counted, later.counted, length-append (flow s first).records later.records);
     }
 
 -- a front of a piece was passed, and then memory was wanted
 pub ran_short : {H : Type 0} (answers : H → List ℕ → List ℕ → H → Type 0) (s : State) (rest : ℕ) (feed new_feed : Feed) (old middle : H)
-    (a b : Option (List ℕ)) (l k : ℕ) (source now : Option (List ℕ)) (unspent budget : ℕ)
-    (new : H) (c : Option (List ℕ)) (j : ℕ) (later : Option (List ℕ)) (piece : List ℕ)
+    (a b : Taking) (l k : ℕ) (source now : Option (List ℕ)) (unspent budget : ℕ)
+    (new : H) (c : Taking) (j : ℕ) (later : Option (List ℕ)) (piece : List ℕ)
     → Running answers s rest feed old middle a b l k source now unspent budget
     → Consumes now later piece → length piece ≤ unspent
     → StopsFront answers (Open rest feed.under) middle new b c k j piece new_feed

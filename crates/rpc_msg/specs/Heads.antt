@@ -4,6 +4,7 @@ use Rattle.std.proofs.Common.{lit<}
 use Rattle.wire_xdr.specs.Form.{Form}
 use Rattle.wire_xdr.specs.Arms.{Case, ArmOf, IsListed, arm, holds}
 use Rattle.wire_xdr.specs.Forms.{word, opaque, void, both, seen_as, union}
+use Rattle.rpc_msg.specs.declared.numbers.TheConstants.{AUTH_ERROR, AUTH_LIMIT, CALL, GARBAGE_ARGS, MSG_ACCEPTED, MSG_DENIED, PROC_UNAVAIL, PROG_MISMATCH, PROG_UNAVAIL, REPLY, RPC_MISMATCH, SUCCESS, SYSTEM_ERR}
 use Rattle.rpc_msg.specs.declared.auth.Auth.{Auth}
 use Rattle.rpc_msg.specs.declared.call.CallHead.{CallHead}
 use Rattle.rpc_msg.specs.declared.reply.Stat.{Stat}
@@ -16,9 +17,9 @@ use Rattle.rpc_msg.specs.declared.reply.ReplyHead.TheVariants as replies
 -- ---- a credential or a verifier (section 8.2)
 
 unfoldable pub auth : Form Auth
-auth = seen_as (λ v. record { flavor = v.0; body = v.1 }) (λ v. (v.flavor, v.body)) (λ v. refl) (λ v. refl) (both word (opaque 400 (lit< tt)))
+auth = seen_as (λ v. record { flavor = v.0; body = v.1 }) (λ v. (v.flavor, v.body)) (λ v. refl) (λ v. refl) (both word (opaque AUTH_LIMIT (lit< tt)))
 
--- ---- a call: its number, the message type 0, and what is called
+-- ---- a call: its number, its message type, and what is called
 
 abbrev pub four_words : Form (ℕ × (ℕ × (ℕ × ℕ)))
 four_words = both word (both word (both word word))
@@ -30,10 +31,10 @@ abbrev pub call_fields : Form CallFields
 call_fields = both four_words (both auth auth)
 
 abbrev pub call_case : CallFields → Case CallFields
-call_case v = holds 0 call_fields (λ fields. fields) v
+call_case v = holds CALL call_fields (λ fields. fields) v
 
 abbrev pub call_arms : List (ArmOf call_case)
-call_arms = arm 0 call_fields (λ fields. fields) (λ v. refl) ∷ []
+call_arms = arm CALL call_fields (λ fields. fields) (λ v. refl) ∷ []
 
 pub call_listed : (v : CallFields) → IsListed call_arms v
 call_listed v = record { reads = λ otherwise c. refl; whole = refl }
@@ -58,17 +59,17 @@ call = seen_as to_call from_call (λ v. refl) (λ v. refl) (both word (union cal
 -- ---- what became of a call that was accepted
 
 abbrev pub stat_case : Stat → Case Stat
-stat_case Success = holds 0 void (λ v. Success) tt
-stat_case ProgUnavail = holds 1 void (λ v. ProgUnavail) tt
-stat_case (ProgMismatch low high) = holds 2 (both word word) (λ v. ProgMismatch v.0 v.1) (low, high)
-stat_case ProcUnavail = holds 3 void (λ v. ProcUnavail) tt
-stat_case Garbage = holds 4 void (λ v. Garbage) tt
-stat_case SystemErr = holds 5 void (λ v. SystemErr) tt
+stat_case Success = holds SUCCESS void (λ v. Success) tt
+stat_case ProgUnavail = holds PROG_UNAVAIL void (λ v. ProgUnavail) tt
+stat_case (ProgMismatch low high) = holds PROG_MISMATCH (both word word) (λ v. ProgMismatch v.0 v.1) (low, high)
+stat_case ProcUnavail = holds PROC_UNAVAIL void (λ v. ProcUnavail) tt
+stat_case Garbage = holds GARBAGE_ARGS void (λ v. Garbage) tt
+stat_case SystemErr = holds SYSTEM_ERR void (λ v. SystemErr) tt
 
 abbrev pub stat_arms : List (ArmOf stat_case)
 stat_arms =
-    arm 0 void (λ v. Success) (λ v. refl) ∷ arm 1 void (λ v. ProgUnavail) (λ v. refl) ∷ arm 2 (both word word) (λ v. ProgMismatch v.0 v.1) (λ v. refl)
-    ∷ arm 3 void (λ v. ProcUnavail) (λ v. refl) ∷ arm 4 void (λ v. Garbage) (λ v. refl) ∷ arm 5 void (λ v. SystemErr) (λ v. refl) ∷ []
+    arm SUCCESS void (λ v. Success) (λ v. refl) ∷ arm PROG_UNAVAIL void (λ v. ProgUnavail) (λ v. refl) ∷ arm PROG_MISMATCH (both word word) (λ v. ProgMismatch v.0 v.1) (λ v. refl)
+    ∷ arm PROC_UNAVAIL void (λ v. ProcUnavail) (λ v. refl) ∷ arm GARBAGE_ARGS void (λ v. Garbage) (λ v. refl) ∷ arm SYSTEM_ERR void (λ v. SystemErr) (λ v. refl) ∷ []
 
 pub stat_listed : (v : Stat) → IsListed stat_arms v
 stat_listed Success = record { reads = λ otherwise c. refl; whole = refl }
@@ -80,11 +81,11 @@ stat = union stat_arms stat_listed
 -- ---- why a call was denied
 
 abbrev pub denial_case : Denial → Case Denial
-denial_case (denials.Mismatch low high) = holds 0 (both word word) (λ v. denials.Mismatch v.0 v.1) (low, high)
-denial_case (denials.Auth why) = holds 1 word denials.Auth why
+denial_case (denials.Mismatch low high) = holds RPC_MISMATCH (both word word) (λ v. denials.Mismatch v.0 v.1) (low, high)
+denial_case (denials.Auth why) = holds AUTH_ERROR word denials.Auth why
 
 abbrev pub denial_arms : List (ArmOf denial_case)
-denial_arms = arm 0 (both word word) (λ v. denials.Mismatch v.0 v.1) (λ v. refl) ∷ arm 1 word denials.Auth (λ v. refl) ∷ []
+denial_arms = arm RPC_MISMATCH (both word word) (λ v. denials.Mismatch v.0 v.1) (λ v. refl) ∷ arm AUTH_ERROR word denials.Auth (λ v. refl) ∷ []
 
 pub denial_listed : (v : Denial) → IsListed denial_arms v
 denial_listed (denials.Mismatch low high) = record { reads = λ otherwise c. refl; whole = refl }
@@ -93,18 +94,18 @@ denial_listed _ = record { reads = λ otherwise c. refl; whole = refl }
 unfoldable pub denial : Form Denial
 denial = union denial_arms denial_listed
 
--- ---- a reply: the number of the call, the message type 1, and what became of the call
+-- ---- a reply: the number of the call, its message type, and what became of the call
 
 pub data ReplyBody : Type 0 where
   Accepted : Auth → Stat → ReplyBody
   Denied : Denial → ReplyBody
 
 abbrev pub body_case : ReplyBody → Case ReplyBody
-body_case (Accepted verf what) = holds 0 (both auth stat) (λ v. Accepted v.0 v.1) (verf, what)
-body_case (Denied why) = holds 1 denial Denied why
+body_case (Accepted verf what) = holds MSG_ACCEPTED (both auth stat) (λ v. Accepted v.0 v.1) (verf, what)
+body_case (Denied why) = holds MSG_DENIED denial Denied why
 
 abbrev pub body_arms : List (ArmOf body_case)
-body_arms = arm 0 (both auth stat) (λ v. Accepted v.0 v.1) (λ v. refl) ∷ arm 1 denial Denied (λ v. refl) ∷ []
+body_arms = arm MSG_ACCEPTED (both auth stat) (λ v. Accepted v.0 v.1) (λ v. refl) ∷ arm MSG_DENIED denial Denied (λ v. refl) ∷ []
 
 pub body_listed : (v : ReplyBody) → IsListed body_arms v
 body_listed (Accepted verf what) = record { reads = λ otherwise c. refl; whole = refl }
@@ -114,10 +115,10 @@ abbrev pub reply_body : Form ReplyBody
 reply_body = union body_arms body_listed
 
 abbrev pub reply_case : ReplyBody → Case ReplyBody
-reply_case v = holds 1 reply_body (λ body. body) v
+reply_case v = holds REPLY reply_body (λ body. body) v
 
 abbrev pub reply_arms : List (ArmOf reply_case)
-reply_arms = arm 1 reply_body (λ body. body) (λ v. refl) ∷ []
+reply_arms = arm REPLY reply_body (λ body. body) (λ v. refl) ∷ []
 
 pub reply_listed : (v : ReplyBody) → IsListed reply_arms v
 reply_listed v = record { reads = λ otherwise c. refl; whole = refl }

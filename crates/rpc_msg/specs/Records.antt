@@ -2,15 +2,16 @@
 -- a header of four bytes and its bytes; the header's top bit marks the record's last fragment, and
 -- its other 31 bits are the fragment's length.
 use Rattle.std.specs.Prelude.{ℕ, ◌+◌, ◌-◌, zero, suc, Bool, nat_lt, nat_le, List, [], ◌∷◌, ◌++◌, length, take, drop, if◌then◌else◌}
+use Rattle.rpc_msg.specs.declared.records.TheConstants.{RECORD_LIMIT, LAST}
 use Rattle.std.specs.Int.{w32, from_be_bytes, to_be_bytes}
 
 -- No record has more bytes than this (own limit).
 abbrev pub record_limit : ℕ
-record_limit = 73728
+record_limit = RECORD_LIMIT
 
 -- What the top bit of a header is worth.
 abbrev pub last_mark : ℕ
-last_mark = 2147483648
+last_mark = LAST
 
 abbrev pub is_last : ℕ → Bool
 is_last header = nat_le last_mark header

@@ -8,7 +8,8 @@ use Rattle.std.specs.declared.result.Result.{Result}
 use Rattle.std.specs.Io.KnownBytes.{Appends, Consumes, IsAtEnd}
 use Rattle.outcome.specs.Causes.{Rose}
 use Rattle.rpc_msg.specs.Records.{marked}
-use Rattle.streams.specs.Sink.{AppendsFront}
+use Rattle.streams.specs.Stream.{Taking}
+use Rattle.streams.specs.Sink.{AppendsFront, Offers}
 use Rattle.rpc_msg.specs.Underway.{Feed, State, Open, Shut, fresh, flow}
 use Rattle.rpc_msg.specs.declared.pump.Pumped.{Pumped}
 use Rattle.rpc_msg.specs.declared.pump.Pumped.TheVariants as pumped
@@ -28,6 +29,12 @@ abbrev pub sent : List ℕ → List ℕ
 sent [] = []
 sent (byte ∷ bytes) = marked (byte ∷ bytes)
 
+-- Each reply in turn was offered to the sink as one piece with its mark, and nothing for an empty one.
+abbrev pub OffersEach : Option (List (List ℕ)) → Option (List (List ℕ)) → List (List ℕ) → Type 0
+OffersEach old new [] = new ≡ old
+OffersEach old new (reply ∷ replies) =
+    (middle : Option (List (List ℕ))) × Offers old middle (sent reply) × OffersEach middle new replies
+
 -- Where the stream stands, so many bytes after its last whole record.
 abbrev pub state_from : Option ℕ → ℕ → Feed → State
 state_from None count feed = Open count feed.under
@@ -40,25 +47,27 @@ state_of count feed = state_from feed.large count feed
 -- was served, its reply was put, and `left` fell by one for it.
 pub record Passed {H : Type 0} (answers : H → List ℕ → List ℕ → H → Type 0)
     (Puts : Option (List ℕ) → Option (List ℕ) → List ℕ → Type 0)
-    (old_state new_state : State) (old new : H) (old_put new_put : Option (List ℕ)) (old_left new_left : ℕ)
+    (old_state new_state : State) (old new : H) (old_put new_put : Taking) (old_left new_left : ℕ)
     (bytes : List ℕ) : Type 0 where
   pub replies : List (List ℕ)
   pub state : (flow old_state bytes).state ≡ new_state
   pub served : Serves answers old (flow old_state bytes).records replies new
-  pub put : Puts old_put new_put (flat_map sent replies)
+  pub put : Puts old_put.taken new_put.taken (flat_map sent replies)
+  pub offered : OffersEach old_put.pieces new_put.pieces replies
   pub counted : old_left ≡ new_left + length (flow old_state bytes).records
 
 -- One record was served: the handler gave a reply, which was put, or a front of it before a fault.
 pub record Served {H T E : Type 0} (answers : H → List ℕ → List ℕ → H → Type 0) (old new : H) (told : List ℕ)
-    (old_put new_put : Option (List ℕ)) (put : Result T E) : Type 0 where
+    (old_put new_put : Taking) (put : Result T E) : Type 0 where
   pub reply : List ℕ
   pub answered : answers old told reply new
-  pub all_put : MatchResult put (λ _. Appends old_put new_put (sent reply)) (λ _. AppendsFront old_put new_put (sent reply))
+  pub all_put : MatchResult put (λ _. Appends old_put.taken new_put.taken (sent reply)) (λ _. AppendsFront old_put.taken new_put.taken (sent reply))
+  pub offered : Offers old_put.pieces new_put.pieces (sent reply)
 
 -- What became of a piece: the front of it that was passed.
 pub record PassedFront {H : Type 0} (answers : H → List ℕ → List ℕ → H → Type 0)
     (Puts : Option (List ℕ) → Option (List ℕ) → List ℕ → Type 0)
-    (old_state new_state : State) (old new : H) (old_put new_put : Option (List ℕ)) (old_left new_left : ℕ)
+    (old_state new_state : State) (old new : H) (old_put new_put : Taking) (old_left new_left : ℕ)
     (bytes : List ℕ) : Type 0 where
   pub count : ℕ
   pub within : count ≤ length bytes
@@ -67,21 +76,22 @@ pub record PassedFront {H : Type 0} (answers : H → List ℕ → List ℕ → H
 -- Memory was wanted at a record, the one that the feed lends: those before it were served, each reply
 -- was put, and `left` fell by one for each; it wasn't answered and isn't counted.
 pub record Stops {H : Type 0} (answers : H → List ℕ → List ℕ → H → Type 0) (old_state : State) (old new : H)
-    (old_put new_put : Option (List ℕ)) (old_left new_left : ℕ) (bytes : List ℕ) (feed : Feed) : Type 0 where
+    (old_put new_put : Taking) (old_left new_left : ℕ) (bytes : List ℕ) (feed : Feed) : Type 0 where
   pub records : List (List ℕ)
   pub replies : List (List ℕ)
   pub told : flow old_state bytes ≡ record { records = records ++ feed.told ∷ []; state = Open 0 fresh }
   pub served : Serves answers old records replies new
-  pub put : Appends old_put new_put (flat_map sent replies)
+  pub put : Appends old_put.taken new_put.taken (flat_map sent replies)
+  pub offered : OffersEach old_put.pieces new_put.pieces replies
   pub counted : old_left ≡ new_left + length records
 
 pub record StopsFront {H : Type 0} (answers : H → List ℕ → List ℕ → H → Type 0) (old_state : State) (old new : H)
-    (old_put new_put : Option (List ℕ)) (old_left new_left : ℕ) (bytes : List ℕ) (feed : Feed) : Type 0 where
+    (old_put new_put : Taking) (old_left new_left : ℕ) (bytes : List ℕ) (feed : Feed) : Type 0 where
   pub count : ℕ
   pub within : count ≤ length bytes
   pub stopped : Stops answers old_state old new old_put new_put old_left new_left (take count bytes) feed
 
-abbrev pub PieceIs : {H : Type 0} → (H → List ℕ → List ℕ → H → Type 0) → State → Feed → H → H → Option (List ℕ) → Option (List ℕ)
+abbrev pub PieceIs : {H : Type 0} → (H → List ℕ → List ℕ → H → Type 0) → State → Feed → H → H → Taking → Taking
     → ℕ → ℕ → List ℕ → Piece → Type 0
 PieceIs answers state feed old new old_put new_put old_left new_left bytes (piece.Taken rest) =
     Passed answers Appends state (Open rest feed.under) old new old_put new_put old_left new_left bytes
@@ -98,7 +108,7 @@ PieceIs answers state feed old new old_put new_put old_left new_left bytes piece
 -- The source gave these bytes: those that were passed, and others that came with them.
 pub record Ran {H : Type 0} (answers : H → List ℕ → List ℕ → H → Type 0)
     (Puts : Option (List ℕ) → Option (List ℕ) → List ℕ → Type 0)
-    (old_state new_state : State) (old new : H) (old_put new_put : Option (List ℕ)) (old_left new_left : ℕ)
+    (old_state new_state : State) (old new : H) (old_put new_put : Taking) (old_left new_left : ℕ)
     (old_source new_source : Option (List ℕ)) (budget : ℕ) : Type 0 where
   pub bytes : List ℕ
   pub over : List ℕ
@@ -108,7 +118,7 @@ pub record Ran {H : Type 0} (answers : H → List ℕ → List ℕ → H → Typ
 
 -- The same where the source gave these bytes, and others that came with them.
 pub record RanShort {H : Type 0} (answers : H → List ℕ → List ℕ → H → Type 0) (old_state : State) (old new : H)
-    (old_put new_put : Option (List ℕ)) (old_left new_left : ℕ)
+    (old_put new_put : Taking) (old_left new_left : ℕ)
     (old_source new_source : Option (List ℕ)) (budget : ℕ) (feed : Feed) : Type 0 where
   pub bytes : List ℕ
   pub over : List ℕ
@@ -116,7 +126,9 @@ pub record RanShort {H : Type 0} (answers : H → List ℕ → List ℕ → H �
   pub within : length bytes ≤ budget
   pub stopped : Stops answers old_state old new old_put new_put old_left new_left bytes feed
 
-abbrev pub PumpIs : {H : Type 0} → (H → List ℕ → List ℕ → H → Type 0) → Feed → Feed → H → H → Option (List ℕ) → Option (List ℕ)
+-- Why no more records are taken, and what was done. The bytes of the stream are counted from where the feed stood:
+-- what it was given before isn't in `rest`.
+abbrev pub PumpIs : {H : Type 0} → (H → List ℕ → List ℕ → H → Type 0) → Feed → Feed → H → H → Taking → Taking
     → ℕ → ℕ → Option (List ℕ) → Option (List ℕ) → ℕ → Pumped → Type 0
 PumpIs answers feed now old new old_put new_put old_left new_left source source_now budget (pumped.End rest) =
     (ran : Ran answers Appends (state_of 0 feed) (Open rest now.under) old new old_put new_put old_left new_left source source_now budget)
@@ -132,6 +144,7 @@ PumpIs answers feed now old new old_put new_put old_left new_left source source_
     × (new_left ≡ 0)
 PumpIs answers feed now old new old_put new_put old_left new_left source source_now budget pumped.ReadFault =
     (rest : ℕ) × Ran answers Appends (state_of 0 feed) (Open rest now.under) old new old_put new_put old_left new_left source source_now budget
+    × (0 < new_left)
 PumpIs answers feed now old new old_put new_put old_left new_left source source_now budget pumped.WriteFault =
     Ran answers AppendsFront (state_of 0 feed) (state_of 0 now) old new old_put new_put old_left new_left source source_now budget
 

@@ -5,6 +5,7 @@ use Rattle.std.specs.declared.option.Option.{Option}
 use Rattle.std.specs.declared.option.Option.TheVariants.{None, Some}
 use Rattle.std.specs.Io.KnownBytes.{Consumes, Keeps, IsAtEnd}
 use Rattle.outcome.specs.Causes.{Rose}
+use Rattle.rpc_msg.specs.declared.watched.TheConstants.{BYTES_LIMIT}
 use Rattle.rpc_msg.specs.Records.{record_limit}
 use Rattle.rpc_msg.specs.Underway.{fresh, Cut, Part, Whole, Large, cut, State, Open, Shut, flow, Feed}
 use Rattle.streams.specs.declared.sink.Put.{Put}
@@ -18,7 +19,7 @@ use Rattle.rpc_msg.specs.declared.watched.Asked.TheVariants as asked
 
 -- No more bytes than this may come without a record's end (own limit).
 abbrev pub bytes_limit : ℕ
-bytes_limit = 1048576
+bytes_limit = BYTES_LIMIT
 
 -- What speaks against a link: how many of its calls failed, whether it ended, and the length or the
 -- bytes that passed a limit, 0 where none did.

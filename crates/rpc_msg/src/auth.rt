@@ -1,6 +1,7 @@
 ghost use Rattle.std.specs.Prelude.{◌≡◌, []};
 ghost use Rattle.rpc_msg.specs.Heads.{auth};
 
+use crate::numbers::{AUTH_LIMIT, AUTH_NONE};
 use outcome::Mem;
 use std::alloc::Global;
 use wire_xdr::{Octets, ReadError, Reader, Writer, Xdr};
@@ -15,10 +16,10 @@ pub struct Auth {
 impl Auth {
     /// That of flavor 0, AUTH_NONE, whose body is empty. It takes no memory.
     pub fn none(alloc: Global) -> Auth
-        ensures { result ≡ record { flavor = 0; body = [] } }
+        ensures { result ≡ record { flavor = AUTH_NONE; body = [] } }
     {
         Auth {
-            flavor: 0,
+            flavor: AUTH_NONE,
             body: Octets::from_vec(Vec::new(alloc)),
         }
     }
@@ -31,7 +32,7 @@ impl Xdr for Auth {
     fn parse(alloc: Global, reader: &mut Reader) -> Result<Auth, ReadError> {
         Ok(Auth {
             flavor: u32::parse(alloc, reader)?,
-            body: Octets::parse(alloc, reader, 400)?,
+            body: Octets::parse(alloc, reader, AUTH_LIMIT)?,
         })
     }
 

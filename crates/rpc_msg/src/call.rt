@@ -1,12 +1,10 @@
 ghost use Rattle.rpc_msg.specs.Heads.{call};
 
 use crate::auth::Auth;
+use crate::numbers::CALL;
 use outcome::Mem;
 use std::alloc::Global;
 use wire_xdr::{ReadError, Reader, Writer, Xdr, put_four};
-
-// The message type of a call.
-const CALL: u32 = 0;
 
 /// The head of a call (RFC 5531 section 9): its number, the version of RPC, which is 2, the program, its
 /// version and the procedure, and who calls.

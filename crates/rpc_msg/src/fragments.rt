@@ -7,7 +7,7 @@ use std::alloc::Global;
 use std::marker::Model;
 
 // The room for one record.
-const ROOM: usize = 73_728;
+const ROOM: usize = RECORD_LIMIT as usize;
 
 /// What some bytes made of a record under way.
 #[derive(Clone, Copy, Debug)]

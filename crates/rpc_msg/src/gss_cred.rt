@@ -2,6 +2,7 @@ ghost use Rattle.std.specs.Prelude.{IfOk};
 ghost use Rattle.rpc_msg.specs.GssCred.{gss_cred};
 ghost use Rattle.rpc_msg.specs.Messages.{ReadsWhole};
 
+use crate::numbers::AUTH_LIMIT;
 use outcome::Mem;
 use std::alloc::Global;
 use wire_xdr::{BadXdr, Octets, ReadError, Reader, Writer, Xdr, read};
@@ -27,7 +28,7 @@ impl Xdr for GssCred {
             gss_proc: u32::parse(alloc, reader)?,
             seq_num: u32::parse(alloc, reader)?,
             service: u32::parse(alloc, reader)?,
-            handle: Octets::parse(alloc, reader, 400)?,
+            handle: Octets::parse(alloc, reader, AUTH_LIMIT)?,
         })
     }
 

@@ -13,6 +13,7 @@ mod call;
 mod fragments;
 mod gss_cred;
 mod messages;
+mod numbers;
 mod pump;
 mod records;
 mod reply;
@@ -23,6 +24,13 @@ pub use call::CallHead;
 pub use gss_cred::{GssCred, read_gss_cred};
 pub use messages::{
     RpcFault, heads_are_spelled_once, read_call, read_reply, system_error, write_call, write_reply,
+};
+pub use numbers::{
+    AUTH_BADCRED, AUTH_ERROR, AUTH_LIMIT, AUTH_NONE, AUTH_SYS, AUTH_TOOWEAK, CALL, GARBAGE_ARGS,
+    MSG_ACCEPTED, MSG_DENIED, PROC_UNAVAIL, PROG_MISMATCH, PROG_UNAVAIL, REPLY,
+    RPC_GSS_SVC_INTEGRITY, RPC_GSS_SVC_NONE, RPC_GSS_SVC_PRIVACY, RPC_MISMATCH, RPC_VERSION,
+    RPCSEC_GSS, RPCSEC_GSS_CONTINUE_INIT, RPCSEC_GSS_CREDPROBLEM, RPCSEC_GSS_CTXPROBLEM,
+    RPCSEC_GSS_DATA, RPCSEC_GSS_DESTROY, RPCSEC_GSS_INIT, SUCCESS, SYSTEM_ERR,
 };
 pub use outcome::{Planned, nothing_planned};
 pub use pump::{Handler, Pumped, pump_records};

@@ -6,6 +6,7 @@ ghost use Rattle.rpc_msg.specs.declared.reply.Stat.TheVariants.{SystemErr};
 ghost use Rattle.rpc_msg.specs.declared.reply.ReplyHead.TheVariants.{Accepted};
 
 use crate::call::CallHead;
+use crate::numbers::{AUTH_NONE, CALL, REPLY};
 use crate::reply::ReplyHead;
 use outcome::Mem;
 use std::alloc::Global;
@@ -16,7 +17,7 @@ use wire_xdr::{Octets, Reader, Writer, Xdr, no_prefix, one_spelling, read};
 pub enum RpcFault {
     /// The bytes spell no head. `at` is the place of the item that is refused, from the first byte on.
     BadXdr { at: usize },
-    /// The message is of the other type, which is 0 for a call and 1 for a reply.
+    /// The message is of the other type, [`CALL`] or [`REPLY`].
     OtherKind { found: u32 },
 }
 
@@ -24,18 +25,18 @@ pub enum RpcFault {
 /// where the message type is that of a reply, and else `BadXdr` exactly where the bytes begin with no
 /// head's spelling.
 pub fn read_call(alloc: Global, bytes: &[u8]) -> Mem<Result<(CallHead, usize), RpcFault>>
-    ensures { IfOk result (ReadsHead call 1 bytes.now) }
+    ensures { IfOk result (ReadsHead call REPLY bytes.now) }
 {
-    read_head(alloc, bytes, 1)
+    read_head(alloc, bytes, REPLY)
 }
 
 /// Reads the head of a reply, and says where the body begins (RFC 5531 section 9). `OtherKind` comes exactly
 /// where the message type is that of a call, and else `BadXdr` exactly where the bytes begin with no head's
 /// spelling.
 pub fn read_reply(alloc: Global, bytes: &[u8]) -> Mem<Result<(ReplyHead, usize), RpcFault>>
-    ensures { IfOk result (ReadsHead reply 0 bytes.now) }
+    ensures { IfOk result (ReadsHead reply CALL bytes.now) }
 {
-    read_head(alloc, bytes, 0)
+    read_head(alloc, bytes, CALL)
 }
 
 /// A call as it is sent: its head and then the body.
@@ -56,7 +57,7 @@ pub fn write_reply(alloc: Global, head: &ReplyHead, body: &[u8]) -> Mem<Octets>
 
 /// The reply for want of memory, SYSTEM_ERR with a verifier of flavor 0. It takes no memory.
 pub fn system_error(xid: u32) -> [u8; 24]
-    ensures { result ≡ reply.spell (Accepted xid (record { flavor = 0; body = [] }) SystemErr) }
+    ensures { result ≡ reply.spell (Accepted xid (record { flavor = AUTH_NONE; body = [] }) SystemErr) }
 {
     let number = xid.to_be_bytes();
     [

@@ -4,7 +4,7 @@ ghost use Rattle.rpc_msg.specs.Underway.{Open};
 ghost use Rattle.rpc_msg.specs.Serving.{Served, PieceIs, StopsFront, RanShort, state_of, RestWithin, PieceHasCause, PumpIs, PumpHasCause};
 ghost use Rattle.outcome.specs.Causes.{HasCause};
 
-use crate::records::{Fed, RecordFeed, mark};
+use crate::records::{Fed, RECORD_LIMIT, RecordFeed, mark};
 use outcome::Mem;
 use std::alloc::Global;
 use streams::{Sink, Source, Take, WriteFault, put_all, take_some};
@@ -14,7 +14,7 @@ use wire_xdr::Octets;
 const ROOM: usize = 4096;
 
 // The room for a marked record of the greatest length.
-const MARKED_ROOM: usize = 73_732;
+const MARKED_ROOM: usize = RECORD_LIMIT as usize + 4;
 
 /// Answers records.
 pub trait Handler {
@@ -33,7 +33,8 @@ pub trait Handler {
 pub enum Pumped {
     /// The source ended.
     End {
-        /// The bytes after the last whole record, headers included.
+        /// The bytes after the last whole record, headers included. Those that the feed was given before
+        /// this call aren't counted.
         rest: u64,
     },
     /// A record was too large.
@@ -65,8 +66,8 @@ enum Piece {
 }
 
 /// Takes the records of a source, gives each to the handler, and puts the mark and the reply as one
-/// piece where the reply isn't empty, until the source ends. `left` falls by one for each record; none
-/// is taken at 0. No more than `budget` bytes are passed to the feed. Without memory what was done
+/// piece where the reply isn't empty, until the source ends. `left` falls by one for each record; at 0
+/// nothing is taken, and all is as before. No more than `budget` bytes are passed to the feed. Without memory what was done
 /// before stands: the replies to the records before the one at hand were put, and nothing else. The feed
 /// lends that record still; it isn't answered, nor counted in `left`.
 pub fn pump_records<S: Source, K: Sink, H: Handler>(
@@ -79,9 +80,11 @@ pub fn pump_records<S: Source, K: Sink, H: Handler>(
     left: &mut u64,
 ) -> Mem<Pumped>
     ensures pumped { IfOk result (PumpIs H.answers feed.old feed.new handler.old handler.new
-        (K.takes sink.old).taken (K.takes sink.new).taken left.old left.new (S.gives source.old).left (S.gives source.new).left budget) }
+        (K.takes sink.old) (K.takes sink.new) left.old left.new (S.gives source.old).left (S.gives source.new).left budget) }
     ensures err { OnErr result (RanShort H.answers (state_of 0 feed.old) handler.old handler.new
-        (K.takes sink.old).taken (K.takes sink.new).taken left.old left.new (S.gives source.old).left (S.gives source.new).left budget feed.new) }
+        (K.takes sink.old) (K.takes sink.new) left.old left.new (S.gives source.old).left (S.gives source.new).left budget feed.new) }
+    ensures none_left { left.old ≡ 0 → (result ≡ Ok Pumped.Enough) × (source.new ≡ source.old) × (sink.new ≡ sink.old)
+        × (feed.new ≡ feed.old) × (handler.new ≡ handler.old) }
     ensures cause { IfOk result (PumpHasCause (S.gives source.old).faults (S.gives source.new).faults
         (K.takes sink.old).faults (K.takes sink.new).faults) }
     ensures reads_later { (S.gives source.old).faults ≤ (S.gives source.new).faults }
@@ -132,7 +135,7 @@ fn serve<K: Sink, H: Handler>(
     left: &mut u64,
 ) -> Mem<Result<(), WriteFault>>
     requires { 0 < left.old }
-    ensures served { IfOk result (Served H.answers handler.old handler.new record_.now (K.takes sink.old).taken (K.takes sink.new).taken) }
+    ensures served { IfOk result (Served H.answers handler.old handler.new record_.now (K.takes sink.old) (K.takes sink.new)) }
     ensures counted { IfOk result (λ _. left.old ≡ left.new + 1) }
     ensures err_handler { OnErr result (handler.new ≡ handler.old) }
     ensures err_sink { OnErr result (sink.new ≡ sink.old) }
@@ -167,9 +170,9 @@ fn pump_piece<K: Sink, H: Handler>(
     requires some { 0 < left.old }
     requires fits { rest + length piece.now < 2 ^ 64 }
     ensures passed { IfOk result (PieceIs H.answers (Open rest feed.old.under) feed.new handler.old handler.new
-        (K.takes sink.old).taken (K.takes sink.new).taken left.old left.new piece.now) }
+        (K.takes sink.old) (K.takes sink.new) left.old left.new piece.now) }
     ensures err { OnErr result (StopsFront H.answers (Open rest feed.old.under) handler.old handler.new
-        (K.takes sink.old).taken (K.takes sink.new).taken left.old left.new piece.now feed.new) }
+        (K.takes sink.old) (K.takes sink.new) left.old left.new piece.now feed.new) }
     ensures within { IfOk result (RestWithin (rest + length piece.now)) }
     ensures cause { IfOk result (PieceHasCause (K.takes sink.old).faults (K.takes sink.new).faults) }
     ensures later { (K.takes sink.old).faults ≤ (K.takes sink.new).faults }

@@ -3,12 +3,13 @@ ghost use Rattle.wire_xdr.specs.Arms.{number_of};
 ghost use Rattle.rpc_msg.specs.Heads.{stat, stat_case, denial, reply};
 
 use crate::auth::Auth;
+use crate::numbers::{
+    AUTH_ERROR, GARBAGE_ARGS, MSG_ACCEPTED, MSG_DENIED, PROC_UNAVAIL, PROG_MISMATCH, PROG_UNAVAIL,
+    REPLY, RPC_MISMATCH, SUCCESS, SYSTEM_ERR,
+};
 use outcome::Mem;
 use std::alloc::Global;
 use wire_xdr::{ReadError, Reader, Writer, Xdr};
-
-// The message type of a reply.
-const REPLY: u32 = 1;
 
 /// What became of a call that was accepted (RFC 5531 section 9).
 #[derive(Clone, Copy, Debug, PartialEq, Eq)]
@@ -49,12 +50,12 @@ impl Stat {
         ensures { result ≡ number_of stat_case self }
     {
         match self {
-            Stat::Success => 0,
-            Stat::ProgUnavail => 1,
-            Stat::ProgMismatch { .. } => 2,
-            Stat::ProcUnavail => 3,
-            Stat::Garbage => 4,
-            Stat::SystemErr => 5,
+            Stat::Success => SUCCESS,
+            Stat::ProgUnavail => PROG_UNAVAIL,
+            Stat::ProgMismatch { .. } => PROG_MISMATCH,
+            Stat::ProcUnavail => PROC_UNAVAIL,
+            Stat::Garbage => GARBAGE_ARGS,
+            Stat::SystemErr => SYSTEM_ERR,
         }
     }
 }
@@ -66,15 +67,15 @@ impl Xdr for Stat {
     fn parse(alloc: Global, reader: &mut Reader) -> Result<Stat, ReadError> {
         let start = reader.at();
         match u32::parse(alloc, reader)? {
-            0 => Ok(Stat::Success),
-            1 => Ok(Stat::ProgUnavail),
-            2 => Ok(Stat::ProgMismatch {
+            SUCCESS => Ok(Stat::Success),
+            PROG_UNAVAIL => Ok(Stat::ProgUnavail),
+            PROG_MISMATCH => Ok(Stat::ProgMismatch {
                 low: u32::parse(alloc, reader)?,
                 high: u32::parse(alloc, reader)?,
             }),
-            3 => Ok(Stat::ProcUnavail),
-            4 => Ok(Stat::Garbage),
-            5 => Ok(Stat::SystemErr),
+            PROC_UNAVAIL => Ok(Stat::ProcUnavail),
+            GARBAGE_ARGS => Ok(Stat::Garbage),
+            SYSTEM_ERR => Ok(Stat::SystemErr),
             _ => Err(ReadError::at(start)),
         }
     }
@@ -83,28 +84,28 @@ impl Xdr for Stat {
     fn put(&self, writer: &mut Writer) -> Mem<()> {
         match self {
             Stat::Success => {
-                0u32.put(writer)?;
+                SUCCESS.put(writer)?;
                 writer.void()
             }
             Stat::ProgUnavail => {
-                1u32.put(writer)?;
+                PROG_UNAVAIL.put(writer)?;
                 writer.void()
             }
             Stat::ProgMismatch { low, high } => {
-                2u32.put(writer)?;
+                PROG_MISMATCH.put(writer)?;
                 low.put(writer)?;
                 high.put(writer)
             }
             Stat::ProcUnavail => {
-                3u32.put(writer)?;
+                PROC_UNAVAIL.put(writer)?;
                 writer.void()
             }
             Stat::Garbage => {
-                4u32.put(writer)?;
+                GARBAGE_ARGS.put(writer)?;
                 writer.void()
             }
             Stat::SystemErr => {
-                5u32.put(writer)?;
+                SYSTEM_ERR.put(writer)?;
                 writer.void()
             }
         }
@@ -118,11 +119,11 @@ impl Xdr for Denial {
     fn parse(alloc: Global, reader: &mut Reader) -> Result<Denial, ReadError> {
         let start = reader.at();
         match u32::parse(alloc, reader)? {
-            0 => Ok(Denial::Mismatch {
+            RPC_MISMATCH => Ok(Denial::Mismatch {
                 low: u32::parse(alloc, reader)?,
                 high: u32::parse(alloc, reader)?,
             }),
-            1 => Ok(Denial::Auth(u32::parse(alloc, reader)?)),
+            AUTH_ERROR => Ok(Denial::Auth(u32::parse(alloc, reader)?)),
             _ => Err(ReadError::at(start)),
         }
     }
@@ -131,12 +132,12 @@ impl Xdr for Denial {
     fn put(&self, writer: &mut Writer) -> Mem<()> {
         match self {
             Denial::Mismatch { low, high } => {
-                0u32.put(writer)?;
+                RPC_MISMATCH.put(writer)?;
                 low.put(writer)?;
                 high.put(writer)
             }
             Denial::Auth(why) => {
-                1u32.put(writer)?;
+                AUTH_ERROR.put(writer)?;
                 why.put(writer)
             }
         }
@@ -155,12 +156,12 @@ impl Xdr for ReplyHead {
         }
         let start = reader.at();
         match u32::parse(alloc, reader)? {
-            0 => Ok(ReplyHead::Accepted {
+            MSG_ACCEPTED => Ok(ReplyHead::Accepted {
                 xid,
                 verf: Auth::parse(alloc, reader)?,
                 stat: Stat::parse(alloc, reader)?,
             }),
-            1 => Ok(ReplyHead::Denied {
+            MSG_DENIED => Ok(ReplyHead::Denied {
                 xid,
                 why: Denial::parse(alloc, reader)?,
             }),
@@ -174,14 +175,14 @@ impl Xdr for ReplyHead {
             ReplyHead::Accepted { xid, verf, stat } => {
                 xid.put(writer)?;
                 REPLY.put(writer)?;
-                0u32.put(writer)?;
+                MSG_ACCEPTED.put(writer)?;
                 verf.put(writer)?;
                 stat.put(writer)
             }
             ReplyHead::Denied { xid, why } => {
                 xid.put(writer)?;
                 REPLY.put(writer)?;
-                1u32.put(writer)?;
+                MSG_DENIED.put(writer)?;
                 why.put(writer)
             }
         }

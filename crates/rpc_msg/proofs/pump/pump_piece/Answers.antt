@@ -50,7 +50,7 @@ returns-in-Err-clause-passed g c =
       count = c.feeds.at + c.feed-count.result.0;
       within = within_now _ _ _ kept.1 c.feed-count.ensures.within;
       passed = rw (said.1, said.0) (passed_whole _ AppendsFront front_join _ _ c.feeds.feed c.feed-count.new.self _ _ _ _ _ _ _ _ _ c.args.piece.now c.feeds.at c.feed-count.result _ served.reply
-          kept.2 fed kept.0 c.in-Whole.is c.record.ensures served.answered (rw c.in-Err.is at served.all_put) c.in_ok-serve-in-Whole.ensures.counted);
+          kept.2 fed kept.0 c.in-Whole.is c.record.ensures served.answered (rw c.in-Err.is at served.all_put) served.offered c.in_ok-serve-in-Whole.ensures.counted);
     }
 
 pub returns-then-left-eq0-clause-passed : goal.returns-then-left-eq0-clause-passed
@@ -63,7 +63,7 @@ returns-then-left-eq0-clause-passed g c =
         count = c.feeds.at + c.feed-count.result.0;
         within = within_now _ _ _ kept.1 c.feed-count.ensures.within;
         passed = rw (said.1, said.0) (passed_whole _ Appends appends_join _ _ c.feeds.feed c.feed-count.new.self _ _ _ _ _ _ _ _ _ c.args.piece.now c.feeds.at c.feed-count.result _ served.reply
-            kept.2 fed kept.0 c.in-Whole.is c.record.ensures served.answered (rw c.in-Ok.is at served.all_put) c.in_ok-serve-in-Whole.ensures.counted);
+            kept.2 fed kept.0 c.in-Whole.is c.record.ensures served.answered (rw c.in-Ok.is at served.all_put) served.offered c.in_ok-serve-in-Whole.ensures.counted);
       },
       c.if-left-eq0.true,
     )
@@ -76,7 +76,7 @@ feeds-preserved g c =
     let calls = c.in_ok-serve-in-Whole.ensures in
     let said = rw c.in-Whole.is at (said_now c.feeds.feed c.feed-count.new.self c.args.piece.now c.feeds.at c.feed-count.result kept.2 fed) in (
       rw said.0 (passed_whole _ Appends appends_join _ _ c.feeds.feed c.feed-count.new.self _ _ _ _ _ _ _ _ _ c.args.piece.now c.feeds.at c.feed-count.result _ served.reply
-          kept.2 fed kept.0 c.in-Whole.is c.record.ensures served.answered (rw c.in-Ok.is at served.all_put) calls.counted),
+          kept.2 fed kept.0 c.in-Whole.is c.record.ensures served.answered (rw c.in-Ok.is at served.all_put) served.offered calls.counted),
       within_now _ _ _ kept.1 c.feed-count.ensures.within,
       said.1,
       omega (arith, c.if-left-eq0.false),
@@ -92,7 +92,7 @@ returns-in_err-serve-in-Whole-clause-err g c =
     let fed = c.feed-count.ensures.exact in
     let calls = c.in_err-serve-in-Whole.ensures in
     let short : StopsFront g.H.Handler.answers (Open c.args.rest c.args.feed.now.under) c.args.handler.now c.serve.new.handler
-    (g.K.Stream.takes c.args.sink.now).taken (g.K.Stream.takes c.serve.new.sink).taken c.args.left.now c.serve.new.left c.args.piece.now c.feed-count.new.self =
+    (g.K.Stream.takes c.args.sink.now) (g.K.Stream.takes c.serve.new.sink) c.args.left.now c.serve.new.left c.args.piece.now c.feed-count.new.self =
     rw (calls.err_handler, calls.err_sink, calls.err_left) (record {
       count = c.feeds.at + c.feed-count.result.0;
       within = within_now _ _ _ kept.1 c.feed-count.ensures.within;

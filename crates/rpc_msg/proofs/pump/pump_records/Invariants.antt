@@ -6,7 +6,7 @@ use Rattle.rpc_msg.proofs.pump.pump_records.Given as goal
 abbrev pub invariant-takes : goal.invariant-takes
 invariant-takes g l =
     Running g.H.Handler.answers (state_of 0 l.initial.feed) l.rest l.feed l.initial.handler l.handler
-    (g.K.Stream.takes l.initial.sink).taken (g.K.Stream.takes l.sink).taken l.initial.left l.left
+    (g.K.Stream.takes l.initial.sink) (g.K.Stream.takes l.sink) l.initial.left l.left
     (g.S.Stream.gives l.initial.source).left (g.S.Stream.gives l.source).left l.unspent l.budget
     × ((g.S.Stream.gives l.initial.source).faults ≤ (g.S.Stream.gives l.source).faults) × ((g.S.Stream.gives l.source).failing ≡ (g.S.Stream.gives l.initial.source).failing)
     × ((g.K.Stream.takes l.initial.sink).faults ≤ (g.K.Stream.takes l.sink).faults) × ((g.K.Stream.takes l.sink).failing ≡ (g.K.Stream.takes l.initial.sink).failing)
