@@ -7,7 +7,7 @@ use Rattle.std.proofs.KnownBytes.{Consumes-all, Keeps-trans}
 use Rattle.outcome.specs.Causes.{Rose}
 use Rattle.streams.specs.Sink.{AppendsFront}
 use Rattle.streams.specs.Whole.{TakesAll}
-use Rattle.streams.proofs.Fronts.{front_none}
+use Rattle.streams.specs.FrontLaws.{front_none}
 use Rattle.copy_model.specs.Promise.{IsKept, IsStopped}
 use Rattle.nfs_base.specs.declared.side.Side.TheVariants.{Source, Dest}
 use Rattle.sched_text.specs.declared.event.Event.{Event}

@@ -17,8 +17,8 @@ use Rattle.streams.specs.declared.sink.Put.{Put}
 use Rattle.streams.specs.declared.sink.Put.TheVariants as puts
 use Rattle.rpc_msg.specs.declared.records.Fed.{Fed}
 use Rattle.rpc_msg.specs.declared.records.Fed.TheVariants as fed
-use Rattle.rpc_msg.proofs.Streams.{flow-append}
-use Rattle.rpc_msg.proofs.Pumping.{flow_said, fed_flow, flow-nil, SaidOf, said_at}
+use Rattle.rpc_msg.specs.StreamLaws.{flow-append}
+use Rattle.rpc_msg.specs.FeedLaws.{flow_said, fed_flow, flow-nil, SaidOf, said_at}
 
 -- lengths pass the limit only above it
 abbrev StepOver : Step → Type 0

@@ -7,3 +7,5 @@ pub mod Watching
 pub mod Heads
 pub mod GssCred
 pub mod Messages
+pub mod StreamLaws
+pub mod FeedLaws

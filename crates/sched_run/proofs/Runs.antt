@@ -8,7 +8,7 @@ use Rattle.std.proofs.Math.ListN.{drop_of_length-le}
 use Rattle.std.specs.Io.KnownBytes.{Appends}
 use Rattle.std.proofs.KnownBytes.{Appends-trans, Appends-nil}
 use Rattle.streams.specs.Sink.{AppendsFront}
-use Rattle.streams.proofs.Fronts.{front_all, front_wider, front_more}
+use Rattle.streams.specs.FrontLaws.{front_all, front_wider, front_more}
 use Rattle.nfs_base.specs.declared.side.Side.TheVariants.{Source, Dest}
 use Rattle.sched_text.specs.declared.context.Context.{Context}
 use Rattle.sched_text.specs.declared.event.Event.{Event}

@@ -5,3 +5,4 @@ pub mod Memory
 pub mod Adapters
 pub mod Whole
 pub mod Draws
+pub mod FrontLaws

@@ -12,9 +12,9 @@ use Rattle.outcome.specs.declared.memory.NoMemory.{NoMemory}
 use Rattle.streams.specs.Sink.{AppendsFront}
 use Rattle.rpc_msg.specs.Records.{Told, records_of}
 use Rattle.rpc_msg.specs.Underway.{fresh, Under, State, Open, Shut, Flow, then_flow, flow, told_of, Feed}
-use Rattle.streams.proofs.Fronts.{front_wider, front_more, front_none, front_all}
-use Rattle.rpc_msg.proofs.Streams.{flow-append, flow-records}
-use Rattle.rpc_msg.proofs.Pumping.{flow-nil}
+use Rattle.streams.specs.FrontLaws.{front_wider, front_more, front_none, front_all}
+use Rattle.rpc_msg.specs.StreamLaws.{flow-append, flow-records}
+use Rattle.rpc_msg.specs.FeedLaws.{flow-nil}
 use Rattle.wire_show.specs.declared.line.ShownLine.TheVariants as lines
 use Rattle.wire_show.specs.declared.show.Shown.{Shown}
 use Rattle.wire_show.specs.declared.show.Shown.TheVariants as ends

@@ -11,9 +11,9 @@ use Rattle.streams.specs.Sink.{AppendsFront}
 use Rattle.rpc_msg.specs.Underway.{fresh, State, Open, Shut, then_flow, flow, Feed, Feeds}
 use Rattle.rpc_msg.specs.declared.records.Fed.{Fed}
 use Rattle.rpc_msg.specs.declared.records.Fed.TheVariants as fed
-use Rattle.streams.proofs.Fronts.{front_wider, front_more}
-use Rattle.rpc_msg.proofs.Streams.{flow-append}
-use Rattle.rpc_msg.proofs.Pumping.{fed_flow, fed_now, flow_said}
+use Rattle.streams.specs.FrontLaws.{front_wider, front_more}
+use Rattle.rpc_msg.specs.StreamLaws.{flow-append}
+use Rattle.rpc_msg.specs.FeedLaws.{fed_flow, fed_now, flow_said}
 use Rattle.wire_show.specs.declared.line.ShownLine.{ShownLine}
 use Rattle.wire_show.specs.Text.{line_text, lines_text}
 use Rattle.wire_show.specs.Shown.{record_lines, all_lines, most_bytes}

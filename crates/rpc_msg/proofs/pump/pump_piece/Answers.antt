@@ -3,8 +3,9 @@ use Rattle.std.specs.Io.KnownBytes.{Appends}
 use Rattle.streams.specs.Sink.{AppendsFront}
 use Rattle.rpc_msg.specs.Serving.{StopsFront}
 use Rattle.rpc_msg.specs.Underway.{Open}
-use Rattle.streams.proofs.Fronts.{front_join}
-use Rattle.rpc_msg.proofs.Pumping.{passed_quiet, flow-nil, passed_need, passed_large, passed_whole, stops_whole, said_now, within_now, appends_join}
+use Rattle.streams.specs.FrontLaws.{front_join}
+use Rattle.rpc_msg.specs.FeedLaws.{flow-nil, said_now, within_now}
+use Rattle.rpc_msg.proofs.Pumping.{passed_quiet, passed_need, passed_large, passed_whole, stops_whole, appends_join}
 use Rattle.rpc_msg.proofs.Pumping.{on_err}
 use Rattle.rpc_msg.proofs.pump.pump_piece.Goals as goal
 

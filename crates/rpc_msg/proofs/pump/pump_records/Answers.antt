@@ -3,8 +3,9 @@ use Rattle.std.specs.declared.option.Option.TheVariants.{None, Some}
 use Rattle.std.specs.Io.KnownBytes.{Appends}
 use Rattle.std.proofs.KnownBytes.{Consumes-nil}
 use Rattle.streams.specs.Sink.{AppendsFront}
-use Rattle.streams.proofs.Fronts.{front_join}
-use Rattle.rpc_msg.proofs.Pumping.{passed_quiet, flow-nil, appends_join, running_taken, ran_stopped, ran_short, ran_end, ran_much, ran_none, none_given}
+use Rattle.streams.specs.FrontLaws.{front_join}
+use Rattle.rpc_msg.specs.FeedLaws.{flow-nil, none_given}
+use Rattle.rpc_msg.proofs.Pumping.{passed_quiet, appends_join, running_taken, ran_stopped, ran_short, ran_end, ran_much, ran_none}
 use Rattle.rpc_msg.proofs.Pumping.{on_err}
 use Rattle.rpc_msg.proofs.pump.pump_records.Goals as goal
 

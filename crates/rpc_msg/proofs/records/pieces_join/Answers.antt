@@ -1,4 +1,4 @@
-use Rattle.rpc_msg.proofs.Streams.{flow-cut, flow-append, flow-records}
+use Rattle.rpc_msg.specs.StreamLaws.{flow-cut, flow-append, flow-records}
 use Rattle.rpc_msg.proofs.records.pieces_join.Goals as goal
 
 pub returns-clause-piece : goal.returns-clause-piece

@@ -1,5 +1,5 @@
 use Rattle.std.proofs.Common.{sym, ap, ◌∙◌}
-use Rattle.rpc_msg.proofs.Streams.{flow-records}
+use Rattle.rpc_msg.specs.StreamLaws.{flow-records}
 use Rattle.rpc_msg.proofs.Watching.{told_none, told_more, told_kept}
 use Rattle.rpc_msg.proofs.watched.nexts_join.Goals as goal
 

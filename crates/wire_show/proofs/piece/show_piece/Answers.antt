@@ -1,5 +1,5 @@
 use Rattle.std.proofs.Common.{◌∙◌, refl, arith}
-use Rattle.rpc_msg.proofs.Pumping.{flow-nil, said_now, within_now}
+use Rattle.rpc_msg.specs.FeedLaws.{flow-nil, said_now, within_now}
 use Rattle.wire_show.proofs.Streams.{passed_quiet, passed_need, passed_large, passed_whole, passed_fault, piece_err}
 use Rattle.wire_show.proofs.piece.show_piece.Goals as goal
 

@@ -1,7 +1,7 @@
 use Rattle.std.proofs.Common.{◌≡◌, ◌≤◌, ◌∙◌, List, [], ℕ, refl, length, take, arith, length-take}
 use Rattle.std.proofs.KnownBytes.{Consumes-nil}
 use Rattle.rpc_msg.specs.Underway.{fresh, Open}
-use Rattle.rpc_msg.proofs.Pumping.{flow-nil, none_given}
+use Rattle.rpc_msg.specs.FeedLaws.{flow-nil, none_given}
 use Rattle.wire_show.proofs.Streams.{passed_quiet, running_taken}
 use Rattle.wire_show.proofs.Endings.{ends_whole, ends_large, ends_much, ends_here, ends_fault, show_err}
 use Rattle.wire_show.proofs.show.do_show.Goals as goal

@@ -1,6 +1,7 @@
 use Rattle.std.proofs.Common.{arith, ap, ◌≡◌, ◌<◌}
 use Rattle.rpc_msg.specs.Underway.{Under}
-use Rattle.rpc_msg.proofs.Cuts.{cut-header, cut-take, made_cut}
+use Rattle.rpc_msg.specs.StreamLaws.{cut-take}
+use Rattle.rpc_msg.proofs.Cuts.{cut-header, made_cut}
 use Rattle.rpc_msg.proofs.fragments.Fragments.take.Goals as goal
 
 pub returns-then-self-eq0-clause-made : goal.returns-then-self-eq0-clause-made

@@ -1,7 +1,7 @@
 use Rattle.std.proofs.Common.{◌≡◌, ℕ, ◌+◌, List, [], ◌++◌, length, refl, sym, ap, ◌∙◌, arith, append-nil}
 use Rattle.rpc_msg.specs.Watching.{TooLarge, TooLong}
 use Rattle.rpc_msg.specs.declared.records.Fed.{Fed}
-use Rattle.rpc_msg.proofs.Pumping.{flow_said}
+use Rattle.rpc_msg.specs.FeedLaws.{flow_said}
 use Rattle.rpc_msg.proofs.Watching.{fact, between_places, places_none}
 use Rattle.rpc_msg.proofs.watched.Watched.read.Goals as goal
 

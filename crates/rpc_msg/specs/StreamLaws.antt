@@ -1,10 +1,54 @@
--- A stream that comes in pieces has the records of the whole, and these are its fragments joined.
-use Rattle.std.proofs.Common.{◌≡◌, ℕ, zero, suc, ◌+◌, ◌*◌, ◌<◌, ◌≤◌, ◌==◌, Bool, true, false, nat_lt, if◌then◌else◌, List, [], ◌∷◌, ◌++◌, length, take, drop, refl, sym, ap, ◌∙◌, inl, inr, arith, append_assoc, append-nil, length-drop, length-take}
-use Rattle.std.proofs.lemmas.Bool.{cases_Bool, ne_eqb, eq-eqb, le-ltb, ltb-true, ltb-false}
+-- Laws of a stream that comes in pieces: it has the records of the whole, and these are its fragments joined.
+use Rattle.std.proofs.Common.{◌≡◌, ℕ, zero, suc, ◌+◌, ◌-◌, ◌*◌, ◌<◌, ◌≤◌, ◌==◌, Bool, true, false, nat_lt, if◌then◌else◌, List, [], ◌∷◌, ◌++◌, length, take, drop, refl, sym, ap, ◌∙◌, inl, inr, arith, append_assoc, append-nil, length-append, length-drop, length-take, take-append-drop, slice_index}
+use Rattle.std.proofs.Math.ListN.{drop_of_length-le}
+use Rattle.std.proofs.lemmas.Bool.{cases_Bool, ne_eqb, eq-eqb, lt-ltb, le-ltb, ltb-true, ltb-false}
+use Rattle.std.proofs.lemmas.Bool.Decides.{eqb_tells}
 use Rattle.rpc_msg.specs.Records.{record_limit, is_last, fragment_len, fragment_at, header_of, Front, Record, front_of, Told, told_by, records_up_to, records_of, End, Rest, TooLarge}
 use Rattle.rpc_msg.specs.Records as records
 use Rattle.rpc_msg.specs.Underway.{Under, between, fresh, Step, Goes, Ends, Passes, Cut, Part, Whole, Large, cut, cut_on, on_byte, on_body, on_end, on_fragment, State, Open, Shut, then_flow, flow_step, flow_byte, flow, flow_of, told_of}
-use Rattle.rpc_msg.proofs.Cuts.{cut-take, cut-body}
+
+-- the test whether a fragment ends, at its first bytes and then at the others
+same_test : (first more lacking : ℕ) → first ≤ lacking → ((first + more) == lacking) ≡ (more == lacking - first)
+same_test first more lacking within =
+    elim (eqb_tells more (lacking - first)) [
+      | inl p ↦ (let whole : first + more ≡ lacking = omega (arith, p.1) in eq-eqb (first + more) lacking whole ∙ sym p.0)
+      | inr p ↦ ne_eqb (first + more) lacking (λ e. p.1 (omega arith)) ∙ sym p.0
+    ]
+
+-- what the rest of a fragment makes of it, after its first bytes
+abbrev pub grown : Under → List ℕ → Under
+grown under first = record under { joined = under.joined ++ first; lacking = under.lacking - length first }
+
+-- the first bytes of a fragment and then the others do what all of them do
+on_body-append : (under : Under) (first more : List ℕ) → length first ≤ under.lacking
+    → on_body under (first ++ more) ≡ on_body (grown under first) more
+on_body-append under first more within =
+    let test : (length (first ++ more) == under.lacking) ≡ (length more == under.lacking - length first) =
+    rw (length-append first more) (same_test (length first) (length more) under.lacking within) in
+    let joined : under.joined ++ (first ++ more) ≡ (under.joined ++ first) ++ more = sym (append_assoc under.joined first more) in
+    let lacking : under.lacking - length (first ++ more) ≡ under.lacking - length first - length more =
+    omega (arith, length-append first more) in
+    rw (test, joined, lacking) refl
+
+-- bytes of a fragment, one after the other, do what they do together
+pub cut-body : (under : Under) (front rest : List ℕ) → 0 < length front → length front ≤ under.lacking
+    → cut under (front ++ rest) ≡ cut_on (on_body under front) rest (λ next. cut next rest)
+unfolding cut on_byte
+cut-body under [] rest some within = absurd (omega arith)
+cut-body under (byte ∷ []) rest some within = rw (lt-ltb 0 under.lacking (omega arith)) refl
+cut-body under (byte ∷ other ∷ front) rest some within =
+    let goes : (1 == under.lacking) ≡ false = ne_eqb 1 under.lacking (λ e. omega arith) in
+    let later : cut (grown under (byte ∷ [])) (other ∷ front ++ rest) ≡ cut_on (on_body (grown under (byte ∷ [])) (other ∷ front)) rest (λ next. cut next rest) =
+    cut-body (grown under (byte ∷ [])) (other ∷ front) rest (omega arith) (omega arith) in
+    rw (lt-ltb 0 under.lacking (omega arith), goes, on_body-append under (byte ∷ []) (other ∷ front) (omega arith)) later
+
+-- the front of a piece, as far as the fragment at hand goes
+pub cut-take : (under : Under) (piece : List ℕ) (n : ℕ) → 0 < n → n ≤ length piece → n ≤ under.lacking
+    → cut under piece ≡ cut_on (on_body under (take n piece)) (drop n piece) (λ next. cut next (drop n piece))
+cut-take under piece n some within lacks =
+    let len : length (take n piece) ≡ n = rw (length-take n piece) (omega (arith, within)) in
+    ap (cut under) (sym (take-append-drop n piece))
+    ∙ cut-body under (take n piece) (drop n piece) (omega (arith, len)) (omega (arith, len))
 
 -- two pieces, one after the other, are the joined piece
 pub flow-append : (state : State) (first more : List ℕ)
