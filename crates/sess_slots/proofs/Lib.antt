@@ -1,3 +1,5 @@
 pub mod Lists
 pub mod Runs
 pub mod There
+pub mod Lasting
+pub mod Rising

@@ -4,3 +4,4 @@ pub mod Runs
 pub mod Short
 pub mod Slots
 pub mod Table
+pub mod Lives

@@ -1,8 +1,10 @@
-ghost use Rattle.std.specs.Prelude.{◌≡◌, ◌≢◌, ℕ, ◌+◌, ◌<◌, ◌≤◌, ◌%◌, ◌^◌, List, length, slice_index};
+ghost use Rattle.std.specs.Prelude.{map, ◌≡◌, ◌≢◌, ℕ, ◌+◌, ◌<◌, ◌≤◌, ◌%◌, ◌^◌, List, length, slice_index};
 ghost use Rattle.sess_slots.specs.declared.answers.Place.{Place};
 ghost use Rattle.sess_slots.specs.declared.slot.Slot.{Slot};
 ghost use Rattle.sess_slots.specs.Slots.{next_number, begin_at, after_reply};
 ghost use Rattle.sess_slots.specs.Runs.{SlotCall, executed};
+ghost use Rattle.sess_slots.specs.Lives.{TableCall, no_clients, after_all};
+ghost use Rattle.nfs_base.specs.declared.limits.TheConstants.{MOST_SESSIONS};
 
 use crate::Begin;
 
@@ -16,4 +18,13 @@ pub fn a_number_runs_once()
     ensures once { (place : Place) (slot : Slot) (calls : List SlotCall) (i j : ℕ) → i < j → j < length (executed place slot calls) → slice_index (executed place slot calls) i ≡ slice_index (executed place slot calls) j → i + 2 ^ 32 ≤ j }
     ensures retried { (place : Place) (slot : Slot) (root : ℕ) (reply : List ℕ) → begin_at (after_reply slot root reply) (next_number slot.last) root place ≡ Begin.Replay place }
     ensures guarded { (place : Place) (slot : Slot) (root other : ℕ) (reply : List ℕ) → root ≢ other → begin_at (after_reply slot root reply) (next_number slot.last) other place ≡ Begin.FalseRetry }
+{}
+
+/// What holds of the tables of one opening of a server after any list of calls, whatever is ended on the way:
+/// there are at most 32 sessions; no two clients have one ID, and no two sessions one number, which its ID is
+/// made of. Both rise in the order in which they were made.
+pub fn tables_are_kept()
+    ensures sessions { (boot : ℕ) (calls : List TableCall) → length (after_all (no_clients boot) calls).sessions ≤ MOST_SESSIONS }
+    ensures client_ids { (boot : ℕ) (calls : List TableCall) (i j : ℕ) → i < j → j < length (map (λ c. c.id) (after_all (no_clients boot) calls).clients) → slice_index (map (λ c. c.id) (after_all (no_clients boot) calls).clients) i < slice_index (map (λ c. c.id) (after_all (no_clients boot) calls).clients) j }
+    ensures session_numbers { (boot : ℕ) (calls : List TableCall) (i j : ℕ) → i < j → j < length (map (λ s. s.number) (after_all (no_clients boot) calls).sessions) → slice_index (map (λ s. s.number) (after_all (no_clients boot) calls).sessions) i < slice_index (map (λ s. s.number) (after_all (no_clients boot) calls).sessions) j }
 {}
