@@ -8,3 +8,4 @@ mod Below
 mod Jobs
 mod Fetched
 mod Steps
+mod Records

@@ -9,3 +9,4 @@ pub mod Copies
 pub mod System
 pub mod CopyLaws
 pub mod Lawful
+pub mod Log

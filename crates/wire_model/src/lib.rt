@@ -11,8 +11,10 @@
 //! RFC 7862 (copies).
 #![tactic(auto)]
 
+mod checks;
 mod systems;
 mod wires;
 
+pub use checks::checked_runs;
 pub use systems::lawful_systems;
 pub use wires::lawful_wires;
