@@ -1,66 +1,40 @@
--- How each command ends: for each status what was read and put, and why. The clause of the top call
--- cites `Ends` and nothing else.
-use Rattle.std.specs.Prelude.{◌≡◌, ℕ, ◌≤◌, true, false, Option, None, Some, is_some, List, IfSome}
-use Rattle.std.specs.Io.KnownBytes.{Appends, IsAtEnd}
+-- How each command ends. The clause of the top call cites `Ends` and nothing else.
+use Rattle.std.specs.Prelude.{◌≡◌, ℕ, ◌≤◌, true, Option, None, Some, is_some, List}
+use Rattle.std.specs.Io.KnownBytes.{Appends}
 use Rattle.outcome.specs.Causes.{Rose}
 use Rattle.streams.specs.Sink.{AppendsFront}
-use Rattle.wire_show.specs.Text.{lines_text}
-use Rattle.wire_show.specs.Shown.{shown, refused}
-use Rattle.nfscopy.specs.declared.status.Status.{Status}
-use Rattle.nfscopy.specs.declared.status.Status.TheVariants.{Done, Usage, Refused, ReadFault, WriteFault, NoMemory, DiskFault, NoVolume}
 use Rattle.nfscopy.specs.declared.command.Command.{Command}
 use Rattle.nfscopy.specs.declared.command.Command.TheVariants.{Run, Show}
-use Rattle.nfscopy.specs.Status.{code_of}
+use Rattle.nfscopy.specs.declared.exit_status.ExitStatus.{ExitStatus}
+use Rattle.nfscopy.specs.declared.ends.UsageEnd.{UsageEnd}
+use Rattle.nfscopy.specs.declared.ends.UsageEnd.TheVariants.{Put, WriteFault}
+use Rattle.nfscopy.specs.ExitStatus.{code_of, usage_status, run_status, show_status}
 use Rattle.nfscopy.specs.Notice.{usage_text}
 use Rattle.nfscopy.specs.Outside.{Outside, DiskWords, SameDisks}
 use Rattle.nfscopy.specs.RunEnds.{RunEnds}
+use Rattle.nfscopy.specs.ShowEnds.{ShowEnds}
 
--- words of no command: the one line `usage` is put, and no memory is taken
-abbrev pub UsagePuts : Option (List ℕ) → Option (List ℕ) → ℕ → ℕ → Status → Type 0
-UsagePuts old new before now Done = ⊥
-UsagePuts old new before now Usage = Appends old new usage_text
-UsagePuts old new before now Refused = ⊥
-UsagePuts old new before now ReadFault = ⊥
-UsagePuts old new before now WriteFault = Rose before now × AppendsFront old new usage_text
-UsagePuts old new before now NoMemory = ⊥
-UsagePuts old new before now DiskFault = ⊥
-UsagePuts old new before now NoVolume = ⊥
+-- words of no command: the one line `usage` is put, or a front of it; no memory is taken
+abbrev pub UsageEnds : Option (List ℕ) → Option (List ℕ) → (before now : ℕ) → UsageEnd → Type 0
+UsageEnds old new before now Put = Appends old new usage_text
+UsageEnds old new before now WriteFault = Rose before now × AppendsFront old new usage_text
 
--- What was put of the lines that are due for a stream of records: all of them, under status 2 exactly where a
--- record is too large or the stream passes its limit, and else under 0; or a front of them.
-abbrev pub ShowAnswers : Option (List ℕ) → Option (List ℕ) → Status → List ℕ → Type 0
-ShowAnswers old new Done bytes = (refused bytes ≡ false) × Appends old new (lines_text (shown bytes))
-ShowAnswers old new Usage bytes = ⊥
-ShowAnswers old new Refused bytes = (refused bytes ≡ true) × Appends old new (lines_text (shown bytes))
-ShowAnswers old new ReadFault bytes = AppendsFront old new (lines_text (shown bytes))
-ShowAnswers old new WriteFault bytes = AppendsFront old new (lines_text (shown bytes))
-ShowAnswers old new NoMemory bytes = AppendsFront old new (lines_text (shown bytes))
-ShowAnswers old new DiskFault bytes = ⊥
-ShowAnswers old new NoVolume bytes = ⊥
-
--- How `show` ends. With status 0 all of the input was read. With 3 the source's count of faults rose, with 4
--- the sink's. No disk is used.
-abbrev pub ShowEnds : {D : Type 0} → Outside D → Outside D → Status → Type 0
-ShowEnds before now Done = IsAtEnd now.left × IfSome before.left (ShowAnswers before.taken now.taken Done)
-ShowEnds before now Usage = ⊥
-ShowEnds before now Refused = IfSome before.left (ShowAnswers before.taken now.taken Refused)
-ShowEnds before now ReadFault = Rose before.reads now.reads × IfSome before.left (ShowAnswers before.taken now.taken ReadFault)
-ShowEnds before now WriteFault = Rose before.writes now.writes × IfSome before.left (ShowAnswers before.taken now.taken WriteFault)
-ShowEnds before now NoMemory = IfSome before.left (ShowAnswers before.taken now.taken NoMemory)
-ShowEnds before now DiskFault = ⊥
-ShowEnds before now NoVolume = ⊥
+-- the exit status is that of an end, of which this is said
+pub record EndsAs {E : Type 0} (status_of : E → ExitStatus) (Says : E → Type 0) (code : ℕ) : Type 0 where
+  pub end : E
+  pub is : code ≡ code_of (status_of end)
+  pub says : Says end
 
 -- how the program ends for its words, from what was outside before to what is outside then
-abbrev pub EndsBy : {D : Type 0} → DiskWords D → Option Command → Outside D → Outside D → Status → Type 0
-EndsBy w None before now status = UsagePuts before.taken now.taken before.writes now.writes status × SameDisks before now
-EndsBy w (Some Run) before now status = RunEnds w before now status
-EndsBy w (Some Show) before now status = ShowEnds before now status × SameDisks before now
+abbrev pub EndsBy : {D : Type 0} → DiskWords D → Option Command → Outside D → Outside D → ℕ → Type 0
+EndsBy w None before now code =
+    EndsAs usage_status (UsageEnds before.taken now.taken before.writes now.writes) code × SameDisks before now
+EndsBy w (Some Run) before now code = EndsAs run_status (RunEnds w before now) code
+EndsBy w (Some Show) before now code = EndsAs show_status (ShowEnds before now) code × SameDisks before now
 
--- The exit status is that of an end, and the counts of faults never fell.
+-- the same, and the counts of faults never fell
 pub record Ends {D : Type 0} (w : DiskWords D) (command : Option Command) (before now : Outside D) (code : ℕ) : Type 0 where
-  pub status : Status
-  pub is : code ≡ code_of status
-  pub ends : EndsBy w command before now status
+  pub ends : EndsBy w command before now code
   pub reads : before.reads ≤ now.reads
   pub writes : before.writes ≤ now.writes
 

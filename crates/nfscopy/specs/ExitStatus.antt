@@ -1,9 +1,15 @@
--- The program's exit statuses. Own numbers.
+-- The program's exit statuses, and the status of each end of a command. Own numbers.
 use Rattle.std.specs.Prelude.{ℕ}
-use Rattle.nfscopy.specs.declared.status.Status.{Status}
-use Rattle.nfscopy.specs.declared.status.Status.TheVariants.{Done, Usage, Refused, ReadFault, WriteFault, NoMemory, DiskFault, NoVolume}
+use Rattle.nfscopy.specs.declared.exit_status.ExitStatus.{ExitStatus}
+use Rattle.nfscopy.specs.declared.exit_status.ExitStatus.TheVariants.{Done, Usage, Refused, ReadFault, WriteFault, NoMemory, DiskFault, NoVolume}
+use Rattle.nfscopy.specs.declared.ends.UsageEnd.{UsageEnd}
+use Rattle.nfscopy.specs.declared.ends.UsageEnd.TheVariants as usage
+use Rattle.nfscopy.specs.declared.ends.RunEnd.{RunEnd}
+use Rattle.nfscopy.specs.declared.ends.RunEnd.TheVariants as run
+use Rattle.nfscopy.specs.declared.ends.ShowEnd.{ShowEnd}
+use Rattle.nfscopy.specs.declared.ends.ShowEnd.TheVariants as show
 
-abbrev pub code_of : Status → ℕ
+abbrev pub code_of : ExitStatus → ℕ
 code_of Done = 0
 code_of Usage = 1
 code_of Refused = 2
@@ -12,3 +18,23 @@ code_of WriteFault = 4
 code_of NoMemory = 5
 code_of DiskFault = 6
 code_of NoVolume = 7
+
+abbrev pub usage_status : UsageEnd → ExitStatus
+usage_status usage.Put = Usage
+usage_status usage.WriteFault = WriteFault
+
+abbrev pub run_status : RunEnd → ExitStatus
+run_status run.Done = Done
+run_status run.Refused = Refused
+run_status run.ReadFault = ReadFault
+run_status run.WriteFault = WriteFault
+run_status run.NoMemory = NoMemory
+run_status run.DiskFault = DiskFault
+run_status run.NoVolume = NoVolume
+
+abbrev pub show_status : ShowEnd → ExitStatus
+show_status show.Done = Done
+show_status show.Refused = Refused
+show_status show.ReadFault = ReadFault
+show_status show.WriteFault = WriteFault
+show_status show.NoMemory = NoMemory

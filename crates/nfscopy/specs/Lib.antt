@@ -1,7 +1,9 @@
 pub mod Command
-pub mod Status
+pub mod ExitStatus
 pub mod Notice
+pub mod Input
 pub mod Outside
 pub mod RunEnds
+pub mod ShowEnds
 pub mod Ends
 pub mod Puts

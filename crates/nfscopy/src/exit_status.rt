@@ -1,9 +1,9 @@
 ghost use Rattle.std.specs.Prelude.{◌≡◌};
-ghost use Rattle.nfscopy.specs.Status.{code_of};
+ghost use Rattle.nfscopy.specs.ExitStatus.{code_of};
 
 /// How the program ended. The numbers are its exit statuses.
 #[derive(Clone, Copy, Debug, PartialEq, Eq)]
-pub enum Status {
+pub enum ExitStatus {
     /// All of the input was read, and all lines were put.
     Done = 0,
 
@@ -29,7 +29,7 @@ pub enum Status {
     NoVolume = 7,
 }
 
-impl Status {
+impl ExitStatus {
     /// The program's exit status.
     pub fn code(self) -> u8
         ensures { result ≡ code_of self }

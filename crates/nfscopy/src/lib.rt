@@ -7,12 +7,14 @@
 #![tactic(auto)]
 
 mod command;
+mod ends;
+mod exit_status;
 mod notice;
 mod run;
 mod show;
-mod status;
 mod top;
 
 pub use command::Command;
-pub use status::Status;
+pub use ends::{RunEnd, ShowEnd, UsageEnd};
+pub use exit_status::ExitStatus;
 pub use top::nfscopy;

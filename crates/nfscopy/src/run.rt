@@ -1,31 +1,32 @@
-ghost use Rattle.std.specs.Prelude.{◌≡◌, ◌≤◌, Ok, true, is_some};
+ghost use Rattle.std.specs.Prelude.{◌≡◌, ◌≤◌, [], None, Some, Ok, true, is_some};
 ghost use Rattle.sched_text.specs.ScheduleText.{schedule_of};
+ghost use Rattle.nfscopy.specs.Input.{parsed};
 ghost use Rattle.nfscopy.specs.Outside.{outside, disk_words};
-ghost use Rattle.nfscopy.specs.RunEnds.{ParsedEnds, RunEnds};
-ghost use Rattle.nfscopy.specs.Ends.{UsagePuts};
+ghost use Rattle.nfscopy.specs.RunEnds.{CarriesOut, RunEnds};
+ghost use Rattle.nfscopy.specs.Ends.{UsageEnds};
 ghost use Rattle.nfscopy.specs.Puts.{LastPut, UnmadePut};
 
+use crate::ends::{RunEnd, UsageEnd};
 use crate::notice::{bad_line, not_volume_line, small_line, too_much_line, usage_line};
-use crate::status::Status;
 use disk_model::Disk;
 use outcome::NoMemory;
-use streams::{Sink, Source, Whole, put_all, read_whole};
 use run_machine::every_run;
 use sched_run::{Disks, Ran, System, Unmade};
 use sched_text::{Schedule, schedule_lines};
 use std::alloc::Global;
+use streams::{Sink, Source, Whole, put_all, read_whole};
 
 /// The most bytes that a schedule may have.
 const MOST_BYTES: usize = 16_777_216;
 
 /// Puts the line `usage`.
-pub fn usage<K: Sink>(output: &mut K) -> Status
-    ensures puts { UsagePuts (K.takes output.old).taken (K.takes output.new).taken (K.takes output.old).faults (K.takes output.new).faults result }
+pub fn usage<K: Sink>(output: &mut K) -> UsageEnd
+    ensures puts { UsageEnds (K.takes output.old).taken (K.takes output.new).taken (K.takes output.old).faults (K.takes output.new).faults result }
     ensures later { (K.takes output.old).faults ≤ (K.takes output.new).faults }
 {
     match put_all(output, usage_line()) {
-        Ok(()) => Status::Usage,
-        Err(_) => Status::WriteFault,
+        Ok(()) => UsageEnd::Put,
+        Err(_) => UsageEnd::WriteFault,
     }
 }
 
@@ -35,7 +36,7 @@ pub fn run<S: Source, K: Sink, D: Disk + Drop>(
     input: &mut S,
     output: &mut K,
     disks: &mut Disks<D>,
-) -> Status
+) -> RunEnd
     requires source { is_some disks.old.source ≡ true }
     requires dest { is_some disks.old.dest ≡ true }
     ensures ends { RunEnds (disk_words D.Told D.faults D.size D.timeline)
@@ -49,9 +50,9 @@ pub fn run<S: Source, K: Sink, D: Disk + Drop>(
     schedule_lines();
     match read_whole(alloc, input, MOST_BYTES) {
         Ok(Whole::Text(text)) => run_text(alloc, &text, output, disks),
-        Ok(Whole::TooMuch) => put_last(output, too_much_line(), Status::Refused),
-        Ok(Whole::Failed) => Status::ReadFault,
-        Err(NoMemory) => Status::NoMemory,
+        Ok(Whole::TooMuch) => put_last(output, too_much_line(), RunEnd::Refused),
+        Ok(Whole::Failed) => RunEnd::ReadFault,
+        Err(NoMemory) => RunEnd::NoMemory,
     }
 }
 
@@ -61,22 +62,22 @@ fn run_text<K: Sink, D: Disk + Drop>(
     text: &[u8],
     output: &mut K,
     disks: &mut Disks<D>,
-) -> Status
+) -> RunEnd
     requires source { is_some disks.old.source ≡ true }
     requires dest { is_some disks.old.dest ≡ true }
-    ensures ends { ParsedEnds (disk_words D.Told D.faults D.size D.timeline)
+    ensures ends { CarriesOut (disk_words D.Told D.faults D.size D.timeline)
         (outside None (K.takes output.old).taken 0 (K.takes output.old).faults disks.old.source disks.old.dest)
-        (outside None (K.takes output.new).taken 0 (K.takes output.new).faults disks.new.source disks.new.dest)
-        (schedule_of text.now) result }
+        (outside (Some []) (K.takes output.new).taken 0 (K.takes output.new).faults disks.new.source disks.new.dest)
+        (Some (parsed (schedule_of text.now))) result }
     ensures later { (K.takes output.old).faults ≤ (K.takes output.new).faults }
 {
     match Schedule::parse(alloc, text) {
         Ok(Ok(schedule)) => run_schedule(alloc, &schedule, output, disks),
         Ok(Err(bad)) => match bad_line(alloc, bad) {
-            Ok(line) => put_last(output, line.as_bytes(), Status::Refused),
-            Err(NoMemory) => Status::NoMemory,
+            Ok(line) => put_last(output, line.as_bytes(), RunEnd::Refused),
+            Err(NoMemory) => RunEnd::NoMemory,
         },
-        Err(NoMemory) => Status::NoMemory,
+        Err(NoMemory) => RunEnd::NoMemory,
     }
 }
 
@@ -86,13 +87,13 @@ fn run_schedule<K: Sink, D: Disk + Drop>(
     schedule: &Schedule,
     output: &mut K,
     disks: &mut Disks<D>,
-) -> Status
+) -> RunEnd
     requires source { is_some disks.old.source ≡ true }
     requires dest { is_some disks.old.dest ≡ true }
-    ensures ends { ParsedEnds (disk_words D.Told D.faults D.size D.timeline)
+    ensures ends { CarriesOut (disk_words D.Told D.faults D.size D.timeline)
         (outside None (K.takes output.old).taken 0 (K.takes output.old).faults disks.old.source disks.old.dest)
-        (outside None (K.takes output.new).taken 0 (K.takes output.new).faults disks.new.source disks.new.dest)
-        (Ok schedule.now) result }
+        (outside (Some []) (K.takes output.new).taken 0 (K.takes output.new).faults disks.new.source disks.new.dest)
+        (Some (Ok schedule.now)) result }
     ensures later { (K.takes output.old).faults ≤ (K.takes output.new).faults }
 {
     let mut system = System::new(Disks {
@@ -102,38 +103,38 @@ fn run_schedule<K: Sink, D: Disk + Drop>(
     let ran = system.run(alloc, schedule, output);
     *disks = system.hand_back();
     match ran {
-        Ok(Ran::Whole) => Status::Done,
-        Ok(Ran::WriteFault) => Status::WriteFault,
+        Ok(Ran::Whole) => RunEnd::Done,
+        Ok(Ran::WriteFault) => RunEnd::WriteFault,
         Ok(Ran::Unmade(cause)) => put_unmade(alloc, cause, output),
-        Err(NoMemory) => Status::NoMemory,
+        Err(NoMemory) => RunEnd::NoMemory,
     }
 }
 
 /// Puts why a server's volume could not be made, where that isn't a fault of its disk.
-fn put_unmade<K: Sink>(alloc: Global, cause: Unmade, output: &mut K) -> Status
+fn put_unmade<K: Sink>(alloc: Global, cause: Unmade, output: &mut K) -> RunEnd
     ensures puts { UnmadePut (K.takes output.old).taken (K.takes output.new).taken (K.takes output.old).faults (K.takes output.new).faults cause result }
     ensures later { (K.takes output.old).faults ≤ (K.takes output.new).faults }
 {
     match cause {
-        Unmade::DiskFailed => Status::DiskFault,
+        Unmade::DiskFailed => RunEnd::DiskFault,
         Unmade::TooSmall { need, have } => match small_line(alloc, need, have) {
-            Ok(line) => put_last(output, line.as_bytes(), Status::NoVolume),
-            Err(NoMemory) => Status::NoMemory,
+            Ok(line) => put_last(output, line.as_bytes(), RunEnd::NoVolume),
+            Err(NoMemory) => RunEnd::NoMemory,
         },
         Unmade::NotVolume { block, at } => match not_volume_line(alloc, block, at) {
-            Ok(line) => put_last(output, line.as_bytes(), Status::NoVolume),
-            Err(NoMemory) => Status::NoMemory,
+            Ok(line) => put_last(output, line.as_bytes(), RunEnd::NoVolume),
+            Err(NoMemory) => RunEnd::NoMemory,
         },
     }
 }
 
-/// Puts the last line of a run that ends with this status.
-fn put_last<K: Sink>(output: &mut K, line: &[u8], status: Status) -> Status
-    ensures puts { LastPut (K.takes output.old).taken (K.takes output.new).taken (K.takes output.old).faults (K.takes output.new).faults line.now status result }
+/// Puts the last line of a run that ends so.
+fn put_last<K: Sink>(output: &mut K, line: &[u8], end: RunEnd) -> RunEnd
+    ensures puts { LastPut (K.takes output.old).taken (K.takes output.new).taken (K.takes output.old).faults (K.takes output.new).faults line.now end result }
     ensures later { (K.takes output.old).faults ≤ (K.takes output.new).faults }
 {
     match put_all(output, line) {
-        Ok(()) => status,
-        Err(_) => Status::WriteFault,
+        Ok(()) => end,
+        Err(_) => RunEnd::WriteFault,
     }
 }

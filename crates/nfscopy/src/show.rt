@@ -1,15 +1,15 @@
 ghost use Rattle.std.specs.Prelude.{◌≤◌};
 ghost use Rattle.nfscopy.specs.Outside.{without_disks};
-ghost use Rattle.nfscopy.specs.Ends.{ShowEnds};
+ghost use Rattle.nfscopy.specs.ShowEnds.{ShowEnds};
 
-use crate::status::Status;
+use crate::ends::ShowEnd;
 use outcome::NoMemory;
-use streams::{Sink, Source};
 use std::alloc::Global;
+use streams::{Sink, Source};
 use wire_show::{Shown, do_show};
 
 /// Puts the lines of a stream of records.
-pub fn show<S: Source, K: Sink>(alloc: Global, input: &mut S, output: &mut K) -> Status
+pub fn show<S: Source, K: Sink>(alloc: Global, input: &mut S, output: &mut K) -> ShowEnd
     ensures ends { ShowEnds
         (without_disks (S.gives input.old).left (K.takes output.old).taken (S.gives input.old).faults (K.takes output.old).faults)
         (without_disks (S.gives input.new).left (K.takes output.new).taken (S.gives input.new).faults (K.takes output.new).faults)
@@ -18,10 +18,10 @@ pub fn show<S: Source, K: Sink>(alloc: Global, input: &mut S, output: &mut K) ->
     ensures writes_later { (K.takes output.old).faults ≤ (K.takes output.new).faults }
 {
     match do_show(alloc, input, output) {
-        Ok(Shown::Whole) => Status::Done,
-        Ok(Shown::Refused) => Status::Refused,
-        Ok(Shown::ReadFault) => Status::ReadFault,
-        Ok(Shown::WriteFault) => Status::WriteFault,
-        Err(NoMemory) => Status::NoMemory,
+        Ok(Shown::Whole) => ShowEnd::Done,
+        Ok(Shown::Refused) => ShowEnd::Refused,
+        Ok(Shown::ReadFault) => ShowEnd::ReadFault,
+        Ok(Shown::WriteFault) => ShowEnd::WriteFault,
+        Err(NoMemory) => ShowEnd::NoMemory,
     }
 }

@@ -8,9 +8,9 @@ use crate::command::Command;
 use crate::run::{run, usage};
 use crate::show::show;
 use disk_model::Disk;
-use streams::{Sink, Source};
 use sched_run::Disks;
 use std::alloc::Global;
+use streams::{Sink, Source};
 
 /// Does what the words ask for, and answers the exit status. The words don't include the program's name.
 ///
@@ -31,10 +31,9 @@ pub fn nfscopy<S: Source, K: Sink, D: Disk + Drop>(
         (outside (S.gives input.new).left (K.takes output.new).taken (S.gives input.new).faults (K.takes output.new).faults disks.new.source disks.new.dest)
         result }
 {
-    let status = match Command::from_words(words) {
-        None => usage(output),
-        Some(Command::Run) => run(alloc, input, output, disks),
-        Some(Command::Show) => show(alloc, input, output),
-    };
-    status.code()
+    match Command::from_words(words) {
+        None => usage(output).code(),
+        Some(Command::Run) => run(alloc, input, output, disks).code(),
+        Some(Command::Show) => show(alloc, input, output).code(),
+    }
 }

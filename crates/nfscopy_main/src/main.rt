@@ -2,13 +2,13 @@
 #![tactic(auto)]
 
 use disk_model::MemoryDisk;
-use nfscopy::{Status, nfscopy};
-use streams::{Reading, Writing};
+use nfscopy::{ExitStatus, nfscopy};
 use sched_run::Disks;
 use std::alloc::Global;
 use std::env::{self, Env};
 use std::io::{self, ErrorKind};
 use std::process::ExitCode;
+use streams::{Reading, Writing};
 
 /// How many blocks the largest volume has: one of 64 files and 16,384 blocks in all.
 const MOST_DISK_BLOCKS: u64 = 32_964;
@@ -35,7 +35,7 @@ fn words(rt: &(impl Env + AllocGlobal)) -> io::Result<Vec<String>> {
 
 fn main(rt: HostRuntime) -> ExitCode {
     let Ok(words) = words(&rt) else {
-        return ExitCode::from(Status::NoMemory.code());
+        return ExitCode::from(ExitStatus::NoMemory.code());
     };
     let mut input = Reading::new(rt.reader());
     let mut output = Writing::new(io::writer(&rt));

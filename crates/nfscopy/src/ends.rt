@@ -1,0 +1,105 @@
+ghost use Rattle.std.specs.Prelude.{◌≡◌};
+ghost use Rattle.nfscopy.specs.ExitStatus.{code_of, usage_status, run_status, show_status};
+
+use crate::exit_status::ExitStatus;
+
+/// How the program ends for words of no command.
+#[derive(Clone, Copy, Debug, PartialEq, Eq)]
+pub enum UsageEnd {
+    /// The line `usage` was put.
+    Put,
+
+    /// The sink failed.
+    WriteFault,
+}
+
+/// How `run` ends.
+#[derive(Clone, Copy, Debug, PartialEq, Eq)]
+pub enum RunEnd {
+    /// The schedule was carried out, and its transcript was put.
+    Done,
+
+    /// The input is no schedule.
+    Refused,
+
+    /// The source failed.
+    ReadFault,
+
+    /// The sink failed.
+    WriteFault,
+
+    /// Want of memory.
+    NoMemory,
+
+    /// A disk failed while its volume was made.
+    DiskFault,
+
+    /// A disk has too few blocks, or didn't give back what was written.
+    NoVolume,
+}
+
+/// How `show` ends.
+#[derive(Clone, Copy, Debug, PartialEq, Eq)]
+pub enum ShowEnd {
+    /// All lines of the stream were put.
+    Done,
+
+    /// The stream is refused.
+    Refused,
+
+    /// The source failed.
+    ReadFault,
+
+    /// The sink failed.
+    WriteFault,
+
+    /// Want of memory.
+    NoMemory,
+}
+
+impl UsageEnd {
+    /// The exit status that says this end.
+    pub fn code(self) -> u8
+        ensures { result ≡ code_of (usage_status self) }
+    {
+        let status = match self {
+            UsageEnd::Put => ExitStatus::Usage,
+            UsageEnd::WriteFault => ExitStatus::WriteFault,
+        };
+        status.code()
+    }
+}
+
+impl RunEnd {
+    /// The exit status that says this end.
+    pub fn code(self) -> u8
+        ensures { result ≡ code_of (run_status self) }
+    {
+        let status = match self {
+            RunEnd::Done => ExitStatus::Done,
+            RunEnd::Refused => ExitStatus::Refused,
+            RunEnd::ReadFault => ExitStatus::ReadFault,
+            RunEnd::WriteFault => ExitStatus::WriteFault,
+            RunEnd::NoMemory => ExitStatus::NoMemory,
+            RunEnd::DiskFault => ExitStatus::DiskFault,
+            RunEnd::NoVolume => ExitStatus::NoVolume,
+        };
+        status.code()
+    }
+}
+
+impl ShowEnd {
+    /// The exit status that says this end.
+    pub fn code(self) -> u8
+        ensures { result ≡ code_of (show_status self) }
+    {
+        let status = match self {
+            ShowEnd::Done => ExitStatus::Done,
+            ShowEnd::Refused => ExitStatus::Refused,
+            ShowEnd::ReadFault => ExitStatus::ReadFault,
+            ShowEnd::WriteFault => ExitStatus::WriteFault,
+            ShowEnd::NoMemory => ExitStatus::NoMemory,
+        };
+        status.code()
+    }
+}
