@@ -15,6 +15,8 @@ mod changed;
 #[cfg(test)]
 mod ends;
 #[cfg(test)]
+mod inits;
+#[cfg(test)]
 mod mechanism;
 #[cfg(test)]
 mod recorded;

@@ -1,9 +1,9 @@
 use disk_model::MemoryDisk;
 use outcome::Mem;
-use streams::{MemSink, MemSource};
 use sched_run::Disks;
 use std::alloc::Global;
 use std::process::Abort;
+use streams::{MemSink, MemSource};
 
 /// The two lines before all others: a file of one block on each side.
 pub const VOLUMES: &str = "volume s 1 1\nvolume d 1 1\n";
