@@ -18,4 +18,6 @@ mod limits;
 #[cfg(test)]
 mod rows;
 #[cfg(test)]
+mod runner;
+#[cfg(test)]
 mod shows;
