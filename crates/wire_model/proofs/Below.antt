@@ -29,6 +29,10 @@ pub record Below : Type 0 where
   pub same_change : (volume : ℕ → Volume) (effect : ℕ → Effect) → IsVolumeRun volume effect
       → (i k file place : ℕ) → (file_at (volume i) file).change ≡ (file_at (volume k) file).change
       → byte_at (file_at (volume i) file).now place ≡ byte_at (file_at (volume k) file).now place
+  pub changes_rise : (volume : ℕ → Volume) (effect : ℕ → Effect) → IsVolumeRun volume effect
+      → (i k file : ℕ) → i ≤ k → (volume i).boot ≡ (volume k).boot → (file_at (volume i) file).change ≤ (file_at (volume k) file).change
+  pub boots_rise : (volume : ℕ → Volume) (effect : ℕ → Effect) → IsVolumeRun volume effect
+      → (i k : ℕ) → i ≤ k → (volume i).boot ≤ (volume k).boot
   pub sound_none : (consecutive : Bool) → AreSound consecutive []
   pub sound : (consecutive : Bool) (es : List Entry) (e : Entry) → AreSound consecutive es → Allows consecutive es e
       → AreSound consecutive (es ++ e ∷ [])

@@ -6,7 +6,7 @@ use Rattle.copy_model.specs.Job.{Plan}
 use Rattle.nfs_base.specs.declared.seal.End.TheVariants.{Source, Dest}
 use Rattle.wire_model.specs.Spelling.{Spelling}
 use Rattle.wire_model.specs.Meaning.{Meaning}
-use Rattle.wire_model.specs.Wire.{Purpose}
+use Rattle.wire_model.specs.Wire.{Purpose, ForJob}
 use Rattle.wire_model.specs.System.{System, Chunk, wire_of, plan_at}
 use Rattle.wire_model.specs.CopyLaws.{place_in, IsAnswerFor, IsFetched, IsAtHand}
 use Rattle.wire_model.specs.Lawful.{IsLawfulSystem}
@@ -34,29 +34,21 @@ other_ends : Dest ≡ Source → ⊥
 other_ends e = absurd (cc)
 
 module _ (spell : Spelling) (meaning : Meaning) (s : System) (lawful : IsLawfulSystem spell meaning s) (below : Below) where
-  pub was_asked : (k j : ℕ) (ops results : List ℕ) → IsAnswerFor spell s k j ops results → WasAsked s k j ops results
-  was_asked k j ops results a =
+  pub was_asked : (k j : ℕ) (a : IsAnswerFor spell s Source Dest k (ForJob j)) → WasAsked s k j a.call.ops (spell.results_of a.reply)
+  was_asked k j a =
       let t = answers_told spell (wire_of s Source) lawful.source_wire k Dest a.call a.seal a.reply other_ends a.takes in
-      let ready = subst (λ (p : Purpose). (s.caller Source Dest (suc t.sent)).ready p ≡ true) a.purpose t.ready in
+      let ready = subst (λ (p : Purpose). (s.caller Source Dest (suc t.sent)).ready p ≡ true) a.purpose_is t.ready in
       let there = (lawful.copies t.sent).ready j ready in
       let after = t.after in
       let rises = made_rises spell meaning s lawful below (suc t.sent) t.step (omega arith) in
-      record {
-        step = t.step;
-        before = t.before;
-        accepted = omega arith;
-        executed =
-            t.executed
-            ∙ ap (λ (o : List ℕ). Some (record { ops = o; results = spell.results_of a.reply })) a.ops_are
-            ∙ ap (λ (r : List ℕ). Some (record { ops = ops; results = r })) a.results_are;
-      }
+      record { step = t.step; before = t.before; accepted = omega arith; executed = t.executed }
 
   was_read : (k : ℕ) (chunk : Chunk) → IsFetched spell meaning s k chunk → WasRead s k chunk
   was_read k chunk f =
-      let a = was_asked k chunk.copy f.ops f.results f.answer in
+      let a = was_asked k chunk.copy f.answer in
       let early = a.before in
       let plan = plan_stays spell meaning s lawful below chunk.copy a.step k (omega arith) a.accepted in
-      let tells = (lawful.tells a.step f.ops f.results a.executed).read (place_in (plan_at s a.step chunk.copy) chunk.off) chunk.bytes (f.reads ∙ ap (λ (p : Plan). Some (place_in p chunk.off)) plan) f.bytes in
+      let tells = (lawful.tells a.step f.answer.call.ops (spell.results_of f.answer.reply) a.executed).read (place_in (plan_at s a.step chunk.copy) chunk.off) chunk.bytes (f.reads ∙ ap (λ (p : Plan). Some (place_in p chunk.off)) plan) f.bytes in
       record { moment = a.step; before = a.before; accepted = a.accepted; readable = tells.0; byte = tells.1 }
 
   held_read : (k worker : ℕ) (chunk : Chunk) → s.holds k worker ≡ Some chunk → WasRead s k chunk

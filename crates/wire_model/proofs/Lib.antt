@@ -9,3 +9,5 @@ mod Jobs
 mod Fetched
 mod Steps
 mod Records
+mod Names
+mod Said

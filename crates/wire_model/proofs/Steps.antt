@@ -93,7 +93,7 @@ seen_crash plan (Lands j off bytes) c = absurd c
 seen_crash plan LandFails c = absurd c
 
 module _ (spell : Spelling) (meaning : Meaning) (s : System) (lawful : IsLawfulSystem spell meaning s) (below : Below) where
-  source_run : IsVolumeRun s.source s.effect
+  pub source_run : IsVolumeRun s.source s.effect
   source_run =
       record {
         files = lawful.source_files;
@@ -394,10 +394,10 @@ module _ (spell : Spelling) (meaning : Meaning) (s : System) (lawful : IsLawfulS
 
   sized_by : (k j len : ℕ) → may_land (s.job k j) ≡ true → IsSizedBy spell meaning s k j len → HasExtent (history s) j (with_len (plan_at s k j) len)
   sized_by k j len may by =
-      let a = was_asked spell meaning s lawful below k j by.ops by.results by.answer in
+      let a = was_asked spell meaning s lawful below k j by.answer in
       let early = a.before in
       let plan = plan_stays spell meaning s lawful below j a.step k (omega arith) a.accepted in
-      let size = (lawful.tells a.step by.ops by.results a.executed).size (plan_at s k j).src_file by.size by.asks by.says in
+      let size = (lawful.tells a.step by.answer.call.ops (spell.results_of by.answer.reply) a.executed).size (plan_at s k j).src_file by.size by.asks by.says in
       record {
         counted = by.counted;
         to_end = λ none. record {

@@ -4,11 +4,12 @@ use Rattle.copy_model.specs.Volume.{Volume, file_at, byte_at}
 use Rattle.copy_model.specs.Job.{Plan, Entry, Sized, Landed, Stopped, Committed, Reported, Allows}
 use Rattle.copy_model.specs.Marks.{len_of}
 use Rattle.copy_model.specs.Effect.{Effect, Commits, after, IsAllowed, IsCrashOf}
+use Rattle.nfs_base.specs.declared.seal.End.{End}
 use Rattle.nfs_base.specs.declared.seal.End.TheVariants.{Source, Dest}
 use Rattle.nfs_base.specs.declared.seal.Seal.{Seal}
 use Rattle.wire_model.specs.Spelling.{Spelling}
 use Rattle.wire_model.specs.Meaning.{Place, Meaning}
-use Rattle.wire_model.specs.Wire.{Call, Slotted, ForJob}
+use Rattle.wire_model.specs.Wire.{Purpose, ForJob, Call, Slotted}
 use Rattle.wire_model.specs.CallerLaws.{Takes}
 use Rattle.wire_model.specs.Copies.{Job, Plain, Lands, IsBlank, may_land, is_safe, effect_of}
 use Rattle.wire_model.specs.System.{Chunk, System, plan_at}
@@ -29,15 +30,13 @@ pub record TellsRight (meaning : Meaning) (v : Volume) (ops results : List ℕ) 
   pub change : (file change : ℕ) → meaning.asks_attributes ops ≡ Some file → meaning.change_in results ≡ Some change
       → change ≡ (file_at v file).change
 
--- The destination takes an answer of the source, to a call for this job.
-pub record IsAnswerFor (spell : Spelling) (s : System) (k j : ℕ) (ops results : List ℕ) : Type 0 where
+-- An end takes an answer of a server, to a call that it made for this purpose.
+pub record IsAnswerFor (spell : Spelling) (s : System) (server e : End) (k : ℕ) (purpose : Purpose) : Type 0 where
   pub call : Call
   pub seal : Seal
   pub reply : List ℕ
-  pub takes : Takes spell (s.caller Source Dest k) (s.acts Dest k) seal (Slotted seal call) reply
-  pub purpose : call.purpose ≡ ForJob j
-  pub ops_are : call.ops ≡ ops
-  pub results_are : spell.results_of reply ≡ results
+  pub takes : Takes spell (s.caller server e k) (s.acts e k) seal (Slotted seal call) reply
+  pub purpose_is : call.purpose ≡ purpose
 
 -- where the source has the chunk of a copy that begins at off
 abbrev pub place_in : Plan → ℕ → Place
@@ -45,12 +44,9 @@ place_in plan off = record { file = plan.src_file; off = plan.src_off + off }
 
 -- The bytes of a chunk are the data of an answer that this step takes, to the READ for its place of the source.
 pub record IsFetched (spell : Spelling) (meaning : Meaning) (s : System) (k : ℕ) (chunk : Chunk) : Type 0 where
-  pub ops : List ℕ
-  pub results : List ℕ
-  pub answer : IsAnswerFor spell s k chunk.copy ops results
-  pub reads : meaning.reads ops
-      ≡ Some (place_in (plan_at s k chunk.copy) chunk.off)
-  pub bytes : meaning.data_in results ≡ Some chunk.bytes
+  pub answer : IsAnswerFor spell s Source Dest k (ForJob chunk.copy)
+  pub reads : meaning.reads answer.call.ops ≡ Some (place_in (plan_at s k chunk.copy) chunk.off)
+  pub bytes : meaning.data_in (spell.results_of answer.reply) ≡ Some chunk.bytes
 
 -- a chunk is at hand where a worker holds it or this step fetches it
 abbrev pub IsAtHand : Spelling → Meaning → System → ℕ → Chunk → Type 0
@@ -59,12 +55,10 @@ IsAtHand spell meaning s k chunk = ((worker : ℕ) × (s.holds k worker ≡ Some
 -- A length is given by an answer with the source's size: the count that was asked for, or for a count of 0 all
 -- to the end (RFC 7862 section 15.2.3).
 pub record IsSizedBy (spell : Spelling) (meaning : Meaning) (s : System) (k j len : ℕ) : Type 0 where
-  pub ops : List ℕ
-  pub results : List ℕ
-  pub answer : IsAnswerFor spell s k j ops results
-  pub asks : meaning.asks_attributes ops ≡ Some (plan_at s k j).src_file
+  pub answer : IsAnswerFor spell s Source Dest k (ForJob j)
+  pub asks : meaning.asks_attributes answer.call.ops ≡ Some (plan_at s k j).src_file
   pub size : ℕ
-  pub says : meaning.size_in results ≡ Some size
+  pub says : meaning.size_in (spell.results_of answer.reply) ≡ Some size
   pub counted : 0 < (plan_at s k j).count → len ≡ (plan_at s k j).count
   pub to_end : (plan_at s k j).count ≡ 0 → (plan_at s k j).src_off + len ≡ size
 

@@ -6,7 +6,11 @@ pub mod Check
 pub mod Told
 pub mod Meaning
 pub mod Copies
+pub mod Word
 pub mod System
 pub mod CopyLaws
+pub mod NameLaws
+pub mod WordLaws
+pub mod WordKept
 pub mod Lawful
 pub mod Log

@@ -1,5 +1,5 @@
 -- A system of three machines in small steps, and the history that it shows.
-use Rattle.std.specs.Prelude.{ℕ, zero, suc, Option, List}
+use Rattle.std.specs.Prelude.{ℕ, zero, suc, Bool, Option, List}
 use Rattle.copy_model.specs.Volume.{Volume}
 use Rattle.copy_model.specs.Job.{Plan}
 use Rattle.copy_model.specs.Moment.{Did, Moment, History, seen_source, seen_dest}
@@ -10,6 +10,7 @@ use Rattle.nfs_base.specs.declared.seal.End.{End}
 use Rattle.nfs_base.specs.declared.job.JobName.{JobName}
 use Rattle.wire_model.specs.Wire.{Acts, Server, Caller, Wire}
 use Rattle.wire_model.specs.Copies.{Job, Deed, copy_of, progress_of, did_of, effect_of}
+use Rattle.wire_model.specs.Word.{Word}
 
 -- a chunk of a copy that a worker of the destination holds
 pub record Chunk : Type 0 where
@@ -20,7 +21,8 @@ pub record Chunk : Type 0 where
 -- Each end's acts in a step, and what is seen of the three machines at each moment: both servers, each end as a
 -- caller of either, the volumes and what the steps did to them (bare is the destination's had no chunk ever
 -- landed), the copies in the order of their acceptance with the room that each claims, the chunks that workers
--- hold, and the names of the copies.
+-- hold, the names of the copies; and of the client, by its own numbers, what it knows and has said of each of its
+-- copies, and the names of which it holds a report.
 pub record System : Type 0 where
   pub acts : End → ℕ → Acts
   pub server : End → ℕ → Server
@@ -34,7 +36,9 @@ pub record System : Type 0 where
   pub job : ℕ → ℕ → Job
   pub reach : ℕ → ℕ
   pub holds : ℕ → ℕ → Option Chunk
-  pub name : ℕ → JobName
+  pub name : ℕ → ℕ → JobName
+  pub word : ℕ → ℕ → Word
+  pub held : ℕ → JobName → Bool
 
 -- one server and its callers
 abbrev pub wire_of : System → End → Wire
