@@ -24,7 +24,7 @@ record WasExecuted (spell : Spelling) (w : Wire) (k : ℕ) (name : SlotName) (ro
 abbrev context : ℕ → ℕ → Context
 context boot number = record { boot = boot; number = number }
 
-same_context : (c d : Context) → c.boot ≡ d.boot → c.number ≡ d.number → c ≡ d
+pub same_context : (c d : Context) → c.boot ≡ d.boot → c.number ≡ d.number → c ≡ d
 same_context c d boot number = ap (λ b. context b c.number) boot ∙ ap (λ n. context d.boot n) number
 
 module _ (spell : Spelling) (w : Wire) (lawful : IsLawfulWire spell w) where

@@ -11,3 +11,7 @@ mod Steps
 mod Records
 mod Names
 mod Said
+mod SmallSource
+mod SmallDest
+mod SmallWire
+mod BrokenSteps

@@ -14,3 +14,4 @@ pub mod WordLaws
 pub mod WordKept
 pub mod Lawful
 pub mod Log
+pub mod Examples

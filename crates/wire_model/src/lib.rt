@@ -12,9 +12,11 @@
 #![tactic(auto)]
 
 mod checks;
+mod sanity;
 mod systems;
 mod wires;
 
 pub use checks::checked_runs;
+pub use sanity::{kept_answer_example, refused_steps};
 pub use systems::lawful_systems;
 pub use wires::lawful_wires;
