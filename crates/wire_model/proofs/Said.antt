@@ -295,7 +295,7 @@ module _ (spell : Spelling) (meaning : Meaning) (s : System) (lawful : IsLawfulS
       let early = first.before in
       let plan = plan_stays spell meaning s lawful below w.job (suc c.sent) (suc k) (omega arith) w.job_of.there in
       let file : x.first.file ≡ (plan_at s (suc k) w.job).src_file = ap (λ (f : First). f.file) same ∙ w.file ∙ ap (λ (p : Plan). p.src_file) (sym plan) in
-      let boot : (s.server Source first.step).boot ≡ (s.server Source c.step).boot = first.boot ∙ sym (c.boot ∙ ap (λ (o : Context). o.boot) x.root) in
+      let boot : (s.server Source first.step).boot ≡ (s.server Source c.step).boot = first.boot ∙ sym (c.boot ∙ ap (λ (o : Context). o.boot) x.same_root) in
       let still : (i : ℕ) → IsDuring (history s) w.job i → (file_at (s.source i) (plan_at s (suc k) w.job).src_file).change ≡ x.first.change = λ i during.
       let range = runs_between w.job i w.moment (suc c.sent) w.not_yet r.stable during in
       let low = range.0 in

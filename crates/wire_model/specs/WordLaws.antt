@@ -62,7 +62,7 @@ pub record IsSaidExact (spell : Spelling) (meaning : Meaning) (s : System) (k n 
   pub answer : IsAnswerFor spell s Source Client k (ForLast n)
   pub first : First
   pub first_is : (s.word k n).first ≡ Some first
-  pub root : answer.call.root ≡ first.root
+  pub same_root : answer.call.root ≡ first.root
   pub asks : meaning.asks_attributes answer.call.ops ≡ Some first.file
   pub says : meaning.change_in (spell.results_of answer.reply) ≡ Some first.change
 
