@@ -23,7 +23,7 @@ use Rattle.wire_model.proofs.Below.{Below}
 use Rattle.wire_model.proofs.Answered.{answers_told}
 use Rattle.wire_model.proofs.Jobs.{made_rises, plan_stays, moment_laws}
 use Rattle.wire_model.proofs.Steps.{source_run}
-use Rattle.wire_model.proofs.Names.{name_stays, one_job, stable_stays, reported_stays, called_back, held_reported}
+use Rattle.wire_model.proofs.Names.{name_stays, one_job, reported_stays, called_back, held_reported}
 
 -- The source told this change attribute of a file in the opening that made a root, in answer to a call that was sent
 -- when its purpose was ready.
@@ -56,18 +56,22 @@ record WasNamed (meaning : Meaning) (s : System) (k n : ℕ) (name : JobName) : 
   not_yet : s.made moment ≤ job
   was_first : WasFirst s moment first
 
--- what the client said to be stable has a name, and the copy of this name is reported
+-- what the client said to be stable has a name, and the copy of this name was reported before
 record WasReported (s : System) (k n : ℕ) : Type 0 where
   name : JobName
   known : (s.word k n).name ≡ Some name
-  reported : IsReported s k name
+  moment : ℕ
+  before : moment < k
+  reported : IsReported s moment name
 
 record IsStableJob (meaning : Meaning) (s : System) (k n : ℕ) : Type 0 where
   name : JobName
   was : WasNamed meaning s k n name
-  stable : (s.job k was.job).stable ≡ true
+  moment : ℕ
+  before : moment < k
+  stable : (s.job moment was.job).stable ≡ true
 
-told_later : (w : Wire) (i k : ℕ) (e : End) (call : Call) (results : List ℕ) → i ≤ k → WasTold w i e call results → WasTold w k e call results
+abbrev told_later : (w : Wire) (i k : ℕ) (e : End) (call : Call) (results : List ℕ) → i ≤ k → WasTold w i e call results → WasTold w k e call results
 told_later w i k e call results le t =
     let early = t.before in
     record {
@@ -151,6 +155,8 @@ module _ (spell : Spelling) (meaning : Meaning) (s : System) (lawful : IsLawfulS
         purpose = x.purpose;
         results = x.results;
         told = told_later (wire_of s Dest) i k Client x.call x.results le x.told;
+        new = x.new;
+        accepted = x.accepted;
         asks = x.asks ∙ ap (λ (p : Plan). Some p) (sym plan);
         says = x.says ∙ ap (λ (m : JobName). Some m) (sym name);
       }
@@ -181,6 +187,8 @@ module _ (spell : Spelling) (meaning : Meaning) (s : System) (lawful : IsLawfulS
           purpose = a.purpose_is;
           results = spell.results_of a.reply;
           told = told_later (wire_of s Dest) k (suc k) Client a.call (spell.results_of a.reply) (omega arith) t;
+          new = acc.new;
+          accepted = acc.there;
           asks = x.asks ∙ ap (λ (p : Plan). Some p) (sym plan);
           says = x.says ∙ ap (λ (m : JobName). Some m) (sym named);
         };
@@ -230,24 +238,39 @@ module _ (spell : Spelling) (meaning : Meaning) (s : System) (lawful : IsLawfulS
       ⊎_elim
       (λ (old : (s.word k n).stable ≡ true).
       let r = was_reported k n old in
+      let early = r.before in
       record {
         name = r.name;
         known = known_stays k (suc k) n r.name (omega arith) r.known;
-        reported = reported_stays spell meaning s lawful truthful below k (suc k) r.name (omega arith) r.reported;
+        moment = r.moment;
+        before = omega arith;
+        reported = r.reported;
       })
       (λ (new : IsSaidStable spell meaning s k n). record {
         name = new.name;
         known = new.known;
-        reported = reported_stays spell meaning s lawful truthful below k (suc k) new.name (omega arith) (reported k n new.name new.reports);
+        moment = k;
+        before = omega arith;
+        reported = reported k n new.name new.reports;
       })
       ((truthful.word k).stable n said)
 
   stable_job : (k n : ℕ) → (s.word k n).stable ≡ true → IsStableJob meaning s k n
   stable_job k n said =
       let r = was_reported k n said in
+      let before = r.before in
       let w = was_named k n r.name r.known in
-      let same = one_job spell meaning s lawful truthful below k r.reported.copy w.job r.reported.there w.job_of.there (r.reported.named ∙ sym w.named) in
-      record { name = r.name; was = w; stable = subst (λ j. (s.job k j).stable ≡ true) same r.reported.stable }
+      let there = r.reported.there in
+      let rises = made_rises spell meaning s lawful below r.moment k (omega arith) in
+      let named = name_stays spell meaning s lawful truthful below r.reported.copy r.moment k (omega arith) r.reported.there ∙ r.reported.named in
+      let same = one_job spell meaning s lawful truthful below k r.reported.copy w.job (omega arith) w.job_of.there (named ∙ sym w.named) in
+      record {
+        name = r.name;
+        was = w;
+        moment = r.moment;
+        before = r.before;
+        stable = subst (λ j. (s.job r.moment j).stable ≡ true) same r.reported.stable;
+      }
 
   -- within an opening a change attribute that is the same at two moments is the same between them
   same_between : (a i b file change : ℕ) → a ≤ i → i ≤ b → (s.server Source a).boot ≡ (s.server Source b).boot
@@ -289,6 +312,7 @@ module _ (spell : Spelling) (meaning : Meaning) (s : System) (lawful : IsLawfulS
       let said = (truthful.word c.sent).last_ready n c.ready in
       let r = stable_job (suc c.sent) n said in
       let w = r.was in
+      let reported = r.before in
       let there = first_stays (suc c.sent) k n w.first (omega arith) w.first_is in
       let same = same_first x.first w.first (s.word k n).first x.first_is there in
       let first = subst (WasFirst s w.moment) (sym same) w.was_first in
@@ -297,14 +321,16 @@ module _ (spell : Spelling) (meaning : Meaning) (s : System) (lawful : IsLawfulS
       let file : x.first.file ≡ (plan_at s (suc k) w.job).src_file = ap (λ (f : First). f.file) same ∙ w.file ∙ ap (λ (p : Plan). p.src_file) (sym plan) in
       let boot : (s.server Source first.step).boot ≡ (s.server Source c.step).boot = first.boot ∙ sym (c.boot ∙ ap (λ (o : Context). o.boot) x.same_root) in
       let still : (i : ℕ) → IsDuring (history s) w.job i → (file_at (s.source i) (plan_at s (suc k) w.job).src_file).change ≡ x.first.change = λ i during.
-      let range = runs_between w.job i w.moment (suc c.sent) w.not_yet r.stable during in
+      let range = runs_between w.job i w.moment r.moment w.not_yet r.stable during in
       let low = range.0 in
       let high = range.1 in
       subst (λ f. (file_at (s.source i) f).change ≡ x.first.change) file (same_between first.step i c.step x.first.file x.first.change (omega arith) (omega arith) boot first.is c.is) in
       record {
         job = w.job;
         job_of = job_later (suc c.sent) (suc k) n w.job (omega arith) w.job_of;
-        stable = stable_stays spell meaning s lawful truthful below w.job (suc c.sent) (suc k) (omega arith) w.job_of.there r.stable;
+        reported = r.moment;
+        earlier = omega arith;
+        stable = r.stable;
         still = λ i l during during'. still i during ∙ sym (still l during');
       }
 
@@ -314,11 +340,14 @@ module _ (spell : Spelling) (meaning : Meaning) (s : System) (lawful : IsLawfulS
       ⊎_elim
       (λ (old : (s.word k n).exact ≡ true).
       let r = rightly_exact k n old in
+      let early = r.earlier in
       let plan = plan_stays spell meaning s lawful below r.job k (suc k) (omega arith) r.job_of.there in
       record {
         job = r.job;
         job_of = job_later k (suc k) n r.job (omega arith) r.job_of;
-        stable = stable_stays spell meaning s lawful truthful below r.job k (suc k) (omega arith) r.job_of.there r.stable;
+        reported = r.reported;
+        earlier = omega arith;
+        stable = r.stable;
         still = subst (IsStill (history s) r.job) (sym plan) r.still;
       })
       (λ (new : IsSaidExact spell meaning s k n). newly_exact k n new)
@@ -327,7 +356,7 @@ module _ (spell : Spelling) (meaning : Meaning) (s : System) (lawful : IsLawfulS
   pub word_kept : IsWordKept meaning s
   word_kept =
       record {
-        stable = λ k n said. let r = stable_job k n said in record { job = r.was.job; job_of = r.was.job_of; stable = r.stable };
+        stable = λ k n said. let r = stable_job k n said in record { job = r.was.job; job_of = r.was.job_of; reported = r.moment; earlier = r.before; stable = r.stable };
         exact = rightly_exact;
         stable_stays = said_stable_stays;
         exact_stays = said_exact_stays;

@@ -1,9 +1,10 @@
 //! Three machines as they look from outside, the laws that each owes for a step, and what follows for every
-//! run: it keeps its copies and stops them.
+//! run: it keeps its copies and stops them, and the client keeps its word.
 //!
 //! There is no code here. `specs/Wire.antt` has what is seen of an end, `specs/ServerLaws.antt` and
 //! `specs/CallerLaws.antt` the laws of a server and of its callers, `specs/Check.antt` the runner's check,
 //! `specs/CopyLaws.antt` those of volumes, of what results tell, and of the destination's copies,
+//! `specs/NameLaws.antt` and `specs/WordLaws.antt` those of names, reports and the client's word,
 //! `specs/Lawful.antt` all of them of a system. The contract to read first is [`lawful_systems`]; it stands on
 //! [`lawful_wires`]: whatever a caller takes as an answer was told so by the server that it asked.
 //!
