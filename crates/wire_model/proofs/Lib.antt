@@ -15,3 +15,4 @@ mod SmallSource
 mod SmallDest
 mod SmallWire
 mod BrokenSteps
+mod Idle

@@ -52,13 +52,13 @@ no_begin x seq zero xid is = absurd (let nothing = ap call_of is in cc)
 no_begin x seq (suc place) xid is = absurd (cc)
 
 -- a step that sends nothing, and after which no more is awaited than before
-quiet : (own : End) (v : Caller) (left : ℕ → Option Awaited) (took : Option (List ℕ)) (accepted : Option Seal)
+quiet : (owner own : End) (v : Caller) (left : ℕ → Option Awaited) (took : Option (List ℕ)) (accepted : Option Seal)
     → ((place : ℕ) (x : Awaited) → left place ≡ Some x → v.awaits place ≡ Some x)
-    → ((r : Context) → LearnsRoot spelling Source v (record idle { took = took; accepted = accepted }) r
+    → ((r : Context) → LearnsRoot spelling owner v (record idle { took = took; accepted = accepted }) r
     → (place xid : ℕ) → left place ≡ Some (record { xid = xid; what = Begins }) → ⊥)
     → IsInSlot (record v { awaits = left })
-    → CallerLaws spelling Source own v (record v { awaits = left }) (record idle { took = took; accepted = accepted })
-quiet own v left took accepted still begin in_slot =
+    → CallerLaws spelling owner own v (record v { awaits = left }) (record idle { took = took; accepted = accepted })
+quiet owner own v left took accepted still begin in_slot =
     record {
       boot = omega arith;
       calls = λ same. omega arith;
@@ -75,9 +75,9 @@ quiet own v left took accepted still begin in_slot =
       in_slot = in_slot;
     }
 
-rests : (own : End) (v : Caller) → IsInSlot v → CallerLaws spelling Source own v v idle
-rests own v in_slot =
-    quiet own v v.awaits None None (λ place x is. is) (λ r learns. absurd (let took = learns.takes.took in cc)) in_slot
+pub rests : (owner own : End) (v : Caller) → IsInSlot v → CallerLaws spelling owner own v v idle
+rests owner own v in_slot =
+    quiet owner own v v.awaits None None (λ place x is. is) (λ r learns. absurd (let took = learns.takes.took in cc)) in_slot
 
 -- the record that is sent has the next xid
 has_xid : (v w : Caller) (b bytes : List ℕ) → b ≡ bytes → v.boot ≡ w.boot → v.calls < spelling.xid_of b → spelling.xid_of b ≤ w.calls
@@ -209,19 +209,19 @@ retries_lawful =
 
 takes_lawful : CallerLaws spelling Source Dest retried answered takes
 takes_lawful =
-    quiet Dest retried (λ place. None) (Some kept_answer) (Some (seal_of 2)) (λ place x is. absurd (cc)) (λ r learns place xid is. absurd (cc)) (λ place xid seal c is. absurd (cc))
+    quiet Source Dest retried (λ place. None) (Some kept_answer) (Some (seal_of 2)) (λ place x is. absurd (cc)) (λ r learns place xid is. absurd (cc)) (λ place xid seal c is. absurd (cc))
 
 dest_steps_lawful : (k : ℕ) → CallerLaws spelling Source Dest (wire.caller Dest k) (wire.caller Dest (suc k)) (wire.acts Dest k)
 dest_steps_lawful zero = begins_lawful
-dest_steps_lawful (suc zero) = rests Dest beginning (λ place xid seal c is. absurd (no_call place xid seal c is))
+dest_steps_lawful (suc zero) = rests Source Dest beginning (λ place xid seal c is. absurd (no_call place xid seal c is))
 dest_steps_lawful (suc (suc zero)) = calls_lawful
-dest_steps_lawful (suc (suc (suc zero))) = rests Dest mounted (call_in_slot 2 1)
+dest_steps_lawful (suc (suc (suc zero))) = rests Source Dest mounted (call_in_slot 2 1)
 dest_steps_lawful (suc (suc (suc (suc zero)))) = retries_lawful
-dest_steps_lawful (suc (suc (suc (suc (suc zero))))) = rests Dest retried (call_in_slot 3 2)
+dest_steps_lawful (suc (suc (suc (suc (suc zero))))) = rests Source Dest retried (call_in_slot 3 2)
 dest_steps_lawful (suc (suc (suc (suc (suc (suc zero)))))) = takes_lawful
-dest_steps_lawful (suc (suc (suc (suc (suc (suc (suc k))))))) = rests Dest answered (λ place xid seal c is. absurd (cc))
+dest_steps_lawful (suc (suc (suc (suc (suc (suc (suc k))))))) = rests Source Dest answered (λ place xid seal c is. absurd (cc))
 
 pub caller_steps : (e : End) → (e ≡ Source → ⊥) → (k : ℕ) → CallerLaws spelling Source e (wire.caller e k) (wire.caller e (suc k)) (wire.acts e k)
 caller_steps Source out k = absurd (out refl)
 caller_steps Dest out k = dest_steps_lawful k
-caller_steps Client out k = rests Client unknown (λ place xid seal c is. absurd (cc))
+caller_steps Client out k = rests Source Client unknown (λ place xid seal c is. absurd (cc))

@@ -1,6 +1,7 @@
 -- The source of the small wire obeys the laws of a server.
 use Rattle.std.proofs.Common.{◌≡◌, inl, inr, ℕ, zero, suc, ◌<◌, Option, Some, List, [], ◌∷◌, length, get_or, Contains, refl, sym, ◌∙◌, ap, subst, arith}
 use Rattle.std.proofs.lemmas.Bool.{false≢true}
+use Rattle.nfs_base.specs.declared.seal.End.{End}
 use Rattle.nfs_base.specs.declared.seal.End.TheVariants.{Source}
 use Rattle.nfs_base.specs.declared.seal.Seal.{Seal}
 use Rattle.wire_model.specs.Spelling.{SlotName}
@@ -31,8 +32,8 @@ pub some : {A : Type 0} (a b : A) → Some a ≡ Some b → a ≡ b
 some a b same = cc
 
 -- the source's steps
-rests : (v : Server) → ServerLaws spelling Source v v idle
-rests v =
+pub rests : (owner : End) (v : Server) → ServerLaws spelling owner v v idle
+rests owner v =
     record {
       boot = omega arith;
       made = λ same. omega arith;
@@ -144,10 +145,10 @@ answers_lawful =
     }
 
 pub server_steps : (k : ℕ) → ServerLaws spelling Source (wire.server k) (wire.server (suc k)) (wire.acts Source k)
-server_steps zero = rests opened
+server_steps zero = rests Source opened
 server_steps (suc zero) = makes_lawful
-server_steps (suc (suc zero)) = rests with_context
+server_steps (suc (suc zero)) = rests Source with_context
 server_steps (suc (suc (suc zero))) = executes_lawful
-server_steps (suc (suc (suc (suc zero)))) = rests with_answer
+server_steps (suc (suc (suc (suc zero)))) = rests Source with_answer
 server_steps (suc (suc (suc (suc (suc zero))))) = answers_lawful
-server_steps (suc (suc (suc (suc (suc (suc k)))))) = rests with_answer
+server_steps (suc (suc (suc (suc (suc (suc k)))))) = rests Source with_answer

@@ -15,3 +15,4 @@ pub mod WordKept
 pub mod Lawful
 pub mod Log
 pub mod Examples
+pub mod IdleSystem

@@ -18,6 +18,6 @@ mod systems;
 mod wires;
 
 pub use checks::checked_runs;
-pub use sanity::{kept_answer_example, refused_steps};
+pub use sanity::{idle_example, kept_answer_example, refused_steps};
 pub use systems::lawful_systems;
 pub use wires::lawful_wires;

@@ -13,6 +13,8 @@ ghost use Rattle.wire_model.specs.Meaning.{Meaning};
 ghost use Rattle.wire_model.specs.System.{System};
 ghost use Rattle.wire_model.specs.CopyLaws.{CopiesLaws};
 ghost use Rattle.wire_model.specs.NameLaws.{NameLaws};
+ghost use Rattle.wire_model.specs.Lawful.{IsLawfulSystem, IsTruthful};
+ghost use Rattle.wire_model.specs.IdleSystem.{no_meaning, idle_system};
 ghost use Rattle.wire_model.specs.Examples.{spelling, wire, seal_of, call, kept_answer, acts_of, with_context, with_answer, mounted, executes_again, makes_again, calls_other, other_awaited, crossed};
 
 /// A small wire obeys the laws. The destination takes an answer that the source kept, and the theorem finds the
@@ -25,6 +27,12 @@ pub fn kept_answer_example()
 {
     crate::lawful_wires();
 }
+
+/// The laws of a whole system can be met: one in which nothing happens obeys them all.
+pub fn idle_example()
+    ensures lawful { IsLawfulSystem spelling no_meaning idle_system }
+    ensures truthful { IsTruthful spelling no_meaning idle_system }
+{}
 
 /// Steps that depart from that wire in one way each, and break the law that is for it.
 pub fn refused_steps()
