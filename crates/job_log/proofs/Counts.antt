@@ -1,6 +1,6 @@
 -- Counts of set flags, and of the bytes of their chunks.
 use Rattle.std.proofs.Common.{◌≡◌, ℕ, zero, suc, ◌+◌, ◌-◌, ◌*◌, ◌<◌, ◌≤◌, min, Bool, true, false, List, [], ◌∷◌, length, set, replicate, refl, ap, arith}
-use Rattle.copy_model.specs.Job.{chunk_len, chunk_size}
+use Rattle.copy_model.specs.Job.{chunk_len, chunk_size, chunks_of}
 use Rattle.job_log.specs.Bits.{flag}
 use Rattle.job_log.specs.Kept.{count_set, bytes_set}
 
@@ -29,6 +29,23 @@ bytes_set-set total i (false ∷ fs) zero off lt e s = let o : off ≡ i * chunk
 bytes_set-set total i (true ∷ fs) (suc at) off lt e s =
     let h = bytes_set-set total (i + 1) fs at off (omega arith) e (omega arith) in omega arith
 bytes_set-set total i (false ∷ fs) (suc at) off lt e s = bytes_set-set total (i + 1) fs at off (omega arith) e (omega arith)
+
+-- where the flags of all chunks are set, their bytes are those of the range
+pub bytes_of_all : (total i : ℕ) (fs : List Bool) → i + length fs ≡ chunks_of total → ((j : ℕ) → j < length fs → flag fs j ≡ true) → bytes_set total i fs ≡ total - i * chunk_size
+bytes_of_all total i [] n all = omega arith
+bytes_of_all total i (true ∷ fs) n all =
+    let h = bytes_of_all total (i + 1) fs (omega arith) (λ j lt. all (suc j) (omega arith)) in omega arith
+bytes_of_all total i (false ∷ fs) n all = absurd (let e : false ≡ true = all 0 (omega arith) in cc)
+
+-- and where the bytes are, each flag is set
+pub all_of_bytes : (total i : ℕ) (fs : List Bool) → i + length fs ≡ chunks_of total → bytes_set total i fs ≡ total - i * chunk_size → (j : ℕ) → j < length fs → flag fs j ≡ true
+all_of_bytes total i [] n is j lt = absurd (omega arith)
+all_of_bytes total i (true ∷ fs) n is zero lt = refl
+all_of_bytes total i (true ∷ fs) n is (suc j) lt =
+    let h = bytes_set-bound total (i + 1) fs in
+    all_of_bytes total (i + 1) fs (omega arith) (omega arith) j (omega arith)
+all_of_bytes total i (false ∷ fs) n is j lt =
+    let h = bytes_set-bound total (i + 1) fs in absurd (omega arith)
 
 pub count_none : (n : ℕ) → count_set (replicate n false) ≡ 0
 count_none zero = refl

@@ -1,16 +1,17 @@
 -- Each call keeps what the bits and counters of a job's log say of its entries.
 use Rattle.std.proofs.Common.{◌≡◌, ℕ, zero, suc, ◌+◌, ◌-◌, ◌*◌, ◌/◌, ◌%◌, ◌<◌, ◌≤◌, Bool, true, false, Option, None, Some, List, [], ◌∷◌, ◌++◌, length, set, replicate, refl, sym, ◌∙◌, ap, subst, arith, inl, inr, length-set}
 use Rattle.std.specs.Prelude.{◌≢◌, ◌⊎◌, ◌||◌, ◌&&◌, ◌==◌, not, is_some, if◌then◌else◌}
+use Rattle.std.specs.Bool.{OnTrue, OnFalse}
 use Rattle.std.proofs.lemmas.Bool.{cases_eq, eqb-true, eq-eqb, ne_eqb}
 use Rattle.std.proofs.lemmas.List.{get_or-set_same, get_or-set_other}
-use Rattle.copy_model.specs.Job.{Entry, Sized, Landed, size_of, is_landing, has_landed, is_end, has_ended, is_report, is_reported, bytes_landed, landed_bytes, chunk_len, chunk_size, chunks_of, IsChunk, Allows, IsLawful}
+use Rattle.copy_model.specs.Job.{Entry, AllowsCommit, Sized, Landed, size_of, is_landing, has_landed, is_end, has_ended, is_report, is_reported, bytes_landed, landed_bytes, chunk_len, chunk_size, chunks_of, IsChunk, Allows, IsLawful}
 use Rattle.job_log.specs.Bits.{Flags, flag}
 use Rattle.job_log.specs.declared.chunk.Chunk.{Chunk}
 use Rattle.job_log.specs.Log.{JobView, total_of, have_landed, is_claimed, waits}
 use Rattle.job_log.specs.Kept.{IsKept, count_set, bytes_set, one_if}
 use Rattle.job_log.proofs.Lawful.{lawful_more}
 use Rattle.job_log.proofs.Entries.{first_size, size_of-append, has_landed-append, has_ended-append, is_reported-append, landed_bytes-append, length-more}
-use Rattle.job_log.proofs.Counts.{count_set-le-length, count_set-set, bytes_set-bound, bytes_set-set, count_none, bytes_none, flag_none, length_none}
+use Rattle.job_log.proofs.Counts.{count_set-le-length, count_set-set, bytes_set-bound, bytes_set-set, bytes_of_all, all_of_bytes, count_none, bytes_none, flag_none, length_none}
 use Rattle.job_log.proofs.Order.{have_landed-one, have_landed-last}
 
 first_none : (o : Option ℕ) → first_size o None ≡ o
@@ -316,3 +317,40 @@ waits_for_last v chunk b in_order lawful after_first is =
     let P : Bool → Type 0 = λ x. IsLawful x v.entries in
     not_same _ _ (is ∙ sym (have_landed-last v.entries (chunk.off / chunk_size - 1) (subst P in_order lawful)) ∙ ap (λ (m : ℕ). have_landed v.entries m) n)
     ∙ ap (λ (x : Bool). x && not (have_landed v.entries (chunk.off / chunk_size))) (sym in_order)
+
+-- where the bytes that landed are as many as the range has, a commit is allowed
+pub whole_yes : (consecutive : Bool) (es : List Entry) (claimed landed : Flags) (first : ℕ) (len : ℕ) (bytes : ℕ) (ended reported : Bool) (spare capacity : ℕ)
+    → IsKept consecutive es claimed landed first (Some len) bytes ended reported spare capacity → bytes ≡ len → AllowsCommit es
+whole_yes consecutive es claimed landed first len bytes ended reported spare capacity k all =
+    let b = k.bytes_of_flags in
+    let n = k.landed_length in
+    record {
+      total = len;
+      is_sized = k.size_is;
+      all_landed = λ off chunk.
+          let start = chunk.start in
+          let within = chunk.within in
+          let below : chunk.number < chunks_of len = omega arith in
+          ap (λ (m : ℕ). has_landed es m) start ∙ sym (k.landed_is chunk.number below)
+          ∙ all_of_bytes len 0 landed.flags (omega arith) (omega arith) chunk.number (omega arith);
+    }
+
+-- and only there
+pub whole_no : (consecutive : Bool) (es : List Entry) (claimed landed : Flags) (first : ℕ) (len : ℕ) (bytes : ℕ) (ended reported : Bool) (spare capacity : ℕ)
+    → IsKept consecutive es claimed landed first (Some len) bytes ended reported spare capacity → AllowsCommit es → bytes ≡ len
+whole_no consecutive es claimed landed first len bytes ended reported spare capacity k allows =
+    let b = k.bytes_of_flags in
+    let n = k.landed_length in
+    let same : Some allows.total ≡ Some len = sym allows.is_sized ∙ k.size_is in
+    let total : allows.total ≡ len = cc in
+    let h = bytes_of_all len 0 landed.flags (omega arith)
+    (λ j lt. k.landed_is j (omega arith) ∙ allows.all_landed (j * chunk_size) (record { number = j; start = refl; within = omega arith })) in
+    omega arith
+
+pub if_true : (b : Bool) (P : Type 0) → (b ≡ true → P) → OnTrue b P
+if_true true P gives = gives refl
+if_true false P gives = tt
+
+pub if_false : (b : Bool) (P : Type 0) → (b ≡ false → P) → OnFalse b P
+if_false true P gives = tt
+if_false false P gives = gives refl

@@ -1,4 +1,5 @@
 ghost use Rattle.std.specs.Prelude.{◌≡◌, ◌+◌, ◌*◌, ◌/◌, ◌<◌, ◌≤◌, ◌^◌, [], None, Some, IfOk, OnOk, OnErr, IfSome, IfNone, true, false};
+ghost use Rattle.std.specs.Bool.{OnTrue, OnFalse};
 ghost use Rattle.copy_model.specs.Job.{Sized, Stopped, Committed, Reported, size_of, has_ended, is_reported, landed_bytes, chunk_len, chunk_size, chunks_of, IsLawful, AllowsCommit};
 ghost use Rattle.job_log.specs.Log.{total, is_claimed, waits, landing_of, with_entry, with_claim, landed, after_landing, given_back, sized, IsNextClaim, HasNoClaim, ClaimsAreNew};
 
@@ -247,6 +248,24 @@ impl JobLog {
         ensures { result ≡ has_ended self.now.entries }
     {
         self.ended
+    }
+
+    /// Whether the client was told of the end.
+    pub fn is_reported(&self) -> bool
+        ensures { result ≡ is_reported self.now.entries }
+    {
+        self.reported
+    }
+
+    /// Whether the length is known and each chunk has landed.
+    pub fn is_whole(&self) -> bool
+        ensures yes { OnTrue result (AllowsCommit self.now.entries) }
+        ensures no { OnFalse result (AllowsCommit self.now.entries → ⊥) }
+    {
+        match self.len {
+            Some(len) => self.bytes == len,
+            None => false,
+        }
     }
 
     /// Why the job was stopped, if it was.

@@ -1,2 +1,4 @@
+pub mod KeyRows
 pub mod Lists
 pub mod Tables
+pub mod Writes

@@ -1,47 +1,55 @@
 -- Lists of which the first element that passes a test is changed, and what holds of their pairs.
-use Rattle.std.proofs.Common.{◌≡◌, ℕ, zero, suc, ◌+◌, ◌≤◌, ◌<◌, Bool, true, false, List, [], ◌∷◌, ◌++◌, length, get_or, set, Option, Some, None, refl, ap, sym, ◌∙◌, subst, arith, inl, inr, length-set}
-use Rattle.std.specs.Prelude.{◌≢◌, ◌⊎◌, position, find, All, AllPairs}
+use Rattle.std.proofs.Common.{◌≡◌, ℕ, zero, suc, ◌<◌, Bool, true, false, List, [], ◌∷◌, length, get_or, set, Some, None, refl, ap, sym, ◌∙◌, subst, arith, inl, inr, length-set}
+use Rattle.std.specs.Prelude.{◌≢◌, ◌⊎◌, find, AllPairs, if◌then◌else◌}
 use Rattle.std.proofs.lemmas.Bool.{cases_eq}
 use Rattle.std.proofs.lemmas.Grind.{common_steps}
 use Rattle.std.proofs.lemmas.List.{get_or-set_same, get_or-set_other}
 use Rattle.job_table.specs.Table.{changed}
 
-changed_at : {X : Type 0} (test : X → Bool) (f : X → X) (xs : List X) (i : ℕ) (d : X) → position test xs ≡ Some i → changed test f xs ≡ set xs i (f (get_or xs i d))
-changed_at test f [] i d h = cc
-changed_at test f (x ∷ xs) i d h = grind (arith, common_steps, changed_at test f xs)
+-- the first value that passes stands at a place, and a change of it is a write there
+pub record IsSeat {X : Type 0} (test : X → Bool) (f : X → X) (xs : List X) (x : X) : Type 0 where
+  pub at : ℕ
+  pub within : at < length xs
+  pub value : x ≡ get_or xs at x
+  pub changes : changed test f xs ≡ set xs at (f x)
+  pub hits : test x ≡ true
 
-changed_none : {X : Type 0} (test : X → Bool) (f : X → X) (xs : List X) → position test xs ≡ None → changed test f xs ≡ xs
-changed_none test f [] h = refl
-changed_none test f (x ∷ xs) h = grind (arith, common_steps, changed_none test f xs)
+seat_step : {X : Type 0} (test : X → Bool) (f : X → X) (x y : X) (xs : List X) (b : Bool) → test y ≡ b → (if b then Some y else find test xs) ≡ Some x
+    → (find test xs ≡ Some x → IsSeat test f xs x) → IsSeat test f (y ∷ xs) x
+seat_step test f x y xs true is found ih =
+    let same : y ≡ x = cc in
+    record {
+      at = 0;
+      within = omega arith;
+      value = sym same;
+      changes = ap (λ (c : Bool). if c then f y ∷ xs else y ∷ changed test f xs) is ∙ ap (λ v. f v ∷ xs) same;
+      hits = ap test (sym same) ∙ is;
+    }
+seat_step test f x y xs false is found ih =
+    let h = ih found in
+    let within = h.within in
+    record {
+      at = suc h.at;
+      within = omega arith;
+      value = h.value;
+      changes = ap (λ (c : Bool). if c then f y ∷ xs else y ∷ changed test f xs) is ∙ ap (λ ys. y ∷ ys) h.changes;
+      hits = h.hits;
+    }
 
--- a write at the place that `position` gives changes the element that passes
-pub changed_by : {X : Type 0} (test : X → Bool) (f : X → X) (xs : List X) (r : Option ℕ) (i : ℕ) (x : X) → r ≡ position test xs → r ≡ Some i → x ≡ get_or xs i x → set xs i (f x) ≡ changed test f xs
-changed_by test f xs r i x places is value = ap (λ y. set xs i (f y)) value ∙ sym (changed_at test f xs i x (sym places ∙ is))
+-- where the value that is found stands
+pub seat : {X : Type 0} (test : X → Bool) (f : X → X) (xs : List X) (x : X) → find test xs ≡ Some x → IsSeat test f xs x
+seat test f [] x found = absurd (cc)
+seat test f (y ∷ xs) x found = seat_step test f x y xs (test y) refl found (λ h. seat test f xs x h)
 
-pub unchanged_by : {X : Type 0} (test : X → Bool) (f : X → X) (xs : List X) (r : Option ℕ) → r ≡ position test xs → r ≡ None → xs ≡ changed test f xs
-unchanged_by test f xs r places is = sym (changed_none test f xs (sym places ∙ is))
+none_step : {X : Type 0} (test : X → Bool) (f : X → X) (y : X) (xs : List X) (b : Bool) → test y ≡ b → (if b then Some y else find test xs) ≡ None
+    → (find test xs ≡ None → changed test f xs ≡ xs) → changed test f (y ∷ xs) ≡ y ∷ xs
+none_step test f y xs true is none ih = absurd (cc)
+none_step test f y xs false is none ih = ap (λ (c : Bool). if c then f y ∷ xs else y ∷ changed test f xs) is ∙ ap (λ ys. y ∷ ys) (ih none)
 
-find_at : {X : Type 0} (test : X → Bool) (xs : List X) (i : ℕ) (d : X) → position test xs ≡ Some i → find test xs ≡ Some (get_or xs i d)
-find_at test [] i d h = cc
-find_at test (x ∷ xs) i d h = grind (arith, common_steps, find_at test xs)
-
--- it is the one that `find` gives
-pub found_by : {X : Type 0} (test : X → Bool) (xs : List X) (r : Option ℕ) (i : ℕ) (x : X) → r ≡ position test xs → r ≡ Some i → x ≡ get_or xs i x → find test xs ≡ Some x
-found_by test xs r i x places is value = find_at test xs i x (sym places ∙ is) ∙ ap (λ y. Some y) (sym value)
-
-find_none : {X : Type 0} (test : X → Bool) (xs : List X) → position test xs ≡ None → find test xs ≡ None
-find_none test [] h = refl
-find_none test (x ∷ xs) h = grind (arith, common_steps, find_none test xs)
-
-pub missed_by : {X : Type 0} (test : X → Bool) (xs : List X) (r : Option ℕ) → r ≡ position test xs → r ≡ None → find test xs ≡ None
-missed_by test xs r places is = find_none test xs (sym places ∙ is)
-
-inside_at : {X : Type 0} (test : X → Bool) (xs : List X) (i : ℕ) → position test xs ≡ Some i → i < length xs
-inside_at test [] i h = absurd (cc)
-inside_at test (x ∷ xs) i h = grind (arith, common_steps, inside_at test xs)
-
-pub inside_by : {X : Type 0} (test : X → Bool) (xs : List X) (r : Option ℕ) (i : ℕ) → r ≡ position test xs → r ≡ Some i → i < length xs
-inside_by test xs r i places is = inside_at test xs i (sym places ∙ is)
+-- where none is found nothing changes
+pub changed_none : {X : Type 0} (test : X → Bool) (f : X → X) (xs : List X) → find test xs ≡ None → changed test f xs ≡ xs
+changed_none test f [] none = refl
+changed_none test f (y ∷ xs) none = none_step test f y xs (test y) refl none (λ h. changed_none test f xs h)
 
 same_default : {X : Type 0} (xs : List X) (i : ℕ) (d e : X) → i < length xs → get_or xs i d ≡ get_or xs i e
 same_default [] i d e lt = absurd (omega arith)

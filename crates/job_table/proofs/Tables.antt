@@ -1,8 +1,8 @@
 -- Each call keeps what holds of every table.
 use Rattle.std.proofs.Common.{◌≡◌, ℕ, ◌+◌, ◌≤◌, ◌<◌, Bool, true, false, List, [], ◌∷◌, ◌++◌, length, get_or, set, Option, Some, None, refl, ap, sym, ◌∙◌, subst, arith, length-set, length-append}
-use Rattle.std.specs.Prelude.{◌==◌, ◌&&◌, ◌||◌, not, max, min, nat_lt, All, AllPairs, find, filter, position, IfSome, IfNone, IsSome, Result, Ok, Err, OnOk, if◌then◌else◌, ◌⊎◌}
+use Rattle.std.specs.Prelude.{◌==◌, ◌&&◌, ◌||◌, not, max, min, nat_lt, All, find, filter, IfSome, IfNone, Result, Ok, Err, OnOk, if◌then◌else◌}
 use Rattle.std.proofs.lemmas.Bool.{lt-ltb, both_ways, eq-eqb}
-use Rattle.std.proofs.lemmas.List.Elements.{All-nil, All-cons, All-append, All-set, All-filter, All-weaker}
+use Rattle.std.proofs.lemmas.List.Elements.{All-nil, All-cons, All-append, All-set, All-filter}
 use Rattle.std.proofs.lemmas.List.Kept.{AllPairs-filter}
 use Rattle.std.proofs.lemmas.List.Quantifiers.{all_pairs_push}
 use Rattle.std.proofs.lemmas.List.Folds.{list_any-append}
@@ -10,12 +10,11 @@ use Rattle.copy_model.specs.Job.{Entry, Sized, Landed, Stopped, Committed, Repor
 use Rattle.job_log.specs.declared.chunk.Chunk.{Chunk}
 use Rattle.job_log.specs.declared.chunk.Landing.{Landing}
 use Rattle.job_log.specs.declared.chunk.Landing.TheVariants.{Landed as has_come, Held, Late}
-use Rattle.job_log.specs.Log.{JobView, is_claimed, IsNextClaim, HasNoClaim, with_claim, given_back, after_landing}
+use Rattle.job_log.specs.Log.{JobView, is_claimed, with_claim, given_back, after_landing}
 use Rattle.job_table.specs.declared.job.Plan.{Plan}
 use Rattle.job_table.specs.declared.job.Job.{Job}
-use Rattle.job_table.specs.declared.job.JobId.{JobId}
-use Rattle.job_table.specs.Table.{JobTable, is_job, with_log, is_live, open_end, end_of, job_end, Covers, AreApart, overlaps, IsTable, CanSize, changed}
-use Rattle.job_table.proofs.Lists.{AllPairs-set, changed_by, unchanged_by, none_passes}
+use Rattle.job_table.specs.Table.{is_live, open_end, end_of, job_end, AreApart, overlaps, IsTable, CanSize, changed}
+use Rattle.job_table.proofs.Lists.{AllPairs-set, seat, none_passes}
 
 abbrev pub relogged : Job → JobView → Job
 relogged job log = record job { log = log }
@@ -66,6 +65,13 @@ table_set capacity made jobs at x log t lt is f =
       fits = All-set (λ (j : Job). (j.plan.dst_off + j.plan.count ≤ capacity) × (job_end capacity j ≤ capacity)) jobs at (relogged x log) (fit.0, (let e = fit.1 in omega arith)) t.fits;
       apart = AllPairs-set (AreApart capacity) jobs at x (relogged x log) is lt (apart_left capacity x log f) (apart_right capacity x log f) t.apart;
     }
+
+-- a table in which the job that is found has another log
+pub table_changed : (capacity made : ℕ) (jobs : List Job) (test : Job → Bool) (x : Job) (log : JobView) → IsTable capacity made jobs → find test jobs ≡ Some x
+    → Follows capacity x log → IsTable capacity made (changed test (λ job. relogged job log) jobs)
+table_changed capacity made jobs test x log t found f =
+    let s = seat test (λ job. relogged job log) jobs x found in
+    rw s.changes (table_set capacity made jobs s.at x log t s.within s.value f)
 
 -- ---- which logs follow
 
@@ -143,62 +149,12 @@ follows_size capacity x log len order more can =
       shrinks = omega arith;
     }
 
--- ---- the view
-
--- the table after one job got another log
-pub logged : (t : JobTable) (now : JobTable) (id : JobId) (f : JobView → JobView) (r : Option ℕ) (at : ℕ) (x : Job) (log : JobView) → t ≡ now
-    → r ≡ position (is_job t.boot id) t.jobs → r ≡ Some at → x ≡ get_or t.jobs at x → log ≡ f x.log
-    → record t { jobs = set t.jobs at (relogged x log) } ≡ with_log now id f
-logged t now id f r at x log view places is value made =
-    let put : List Job → JobTable = λ js. record t { jobs = js } in
-    ap (λ (l : JobView). put (set t.jobs at (relogged x l))) made
-    ∙ ap (λ (js : List Job). put js) (changed_by (is_job t.boot id) (λ (j : Job). relogged j (f j.log)) t.jobs r at x places is value)
-    ∙ ap (λ (u : JobTable). with_log u id f) view
-
--- the table where there is no such job
-pub left : (t : JobTable) (now : JobTable) (id : JobId) (f : JobView → JobView) (r : Option ℕ) → t ≡ now
-    → r ≡ position (is_job t.boot id) t.jobs → r ≡ None → t ≡ with_log now id f
-left t now id f r view places is =
-    let put : List Job → JobTable = λ js. record t { jobs = js } in
-    ap (λ (js : List Job). put js) (unchanged_by (is_job t.boot id) (λ (j : Job). relogged j (f j.log)) t.jobs r places is)
-    ∙ ap (λ (u : JobTable). with_log u id f) view
-
-pub if_found : {X : Type 0} (o : Option X) (x : X) (P : X → Type 0) → IfSome o P → o ≡ Some x → P x
-if_found None x P h is = absurd (cc)
-if_found {X} (Some y) x P h is = let same : y ≡ x = cc in subst (λ (v : X). P v) same h
-
--- a place in the table that contracts see is one in the table inside
-pub placed : (t now : JobTable) (id : JobId) (r : Option ℕ) → t ≡ now → r ≡ position (is_job now.boot id) now.jobs → r ≡ position (is_job t.boot id) t.jobs
-placed t now id r view places =
-    let P : JobTable → Type 0 = λ u. r ≡ position (is_job u.boot id) u.jobs in
-    subst P (sym view) places
-
 -- ---- claims
 
 pub follows_claimed : (capacity : ℕ) (x : Job) (log : JobView) (r : Option Chunk) → IfSome r (λ chunk. log ≡ with_claim x.log chunk true) → IfNone r (log ≡ x.log)
     → Follows capacity x log
 follows_claimed capacity x log None some none = follows_claims capacity x log (ap (λ (v : JobView). v.consecutive) none) (ap (λ (v : JobView). v.entries) none)
 follows_claimed capacity x log (Some chunk) some none = follows_claims capacity x log (ap (λ (v : JobView). v.consecutive) some) (ap (λ (v : JobView). v.entries) some)
-
-pub next_of : (r : Option Chunk) (o : Option Job) (x : Job) → o ≡ Some x → IfSome r (λ chunk. IsNextClaim x.log chunk)
-    → IfSome r (λ chunk. IfSome o (λ found. IsNextClaim found.log chunk) × IsSome o)
-next_of None o x is next = tt
-next_of (Some chunk) o x is next =
-    let P : Option Job → Type 0 = λ p. IfSome p (λ found. IsNextClaim found.log chunk) × IsSome p in
-    let here : P (Some x) = (next, refl) in
-    subst P (sym is) here
-
-pub none_of : (r : Option Chunk) (o : Option Job) (x : Job) → o ≡ Some x → IfNone r (HasNoClaim x.log) → IfNone r (IfSome o (λ found. HasNoClaim found.log))
-none_of None o x is none =
-    let P : Option Job → Type 0 = λ p. IfSome p (λ found. HasNoClaim found.log) in
-    subst P (sym is) none
-none_of (Some chunk) o x is none = tt
-
-pub claimed_of : (r : Option Chunk) (t : JobTable) (now : JobTable) (id : JobId) (p : Option ℕ) (at : ℕ) (x : Job) (log : JobView) → t ≡ now
-    → p ≡ position (is_job t.boot id) t.jobs → p ≡ Some at → x ≡ get_or t.jobs at x → IfSome r (λ chunk. log ≡ with_claim x.log chunk true)
-    → IfSome r (λ chunk. record t { jobs = set t.jobs at (relogged x log) } ≡ with_log now id (λ l. with_claim l chunk true))
-claimed_of None t now id p at x log view places is value made = tt
-claimed_of (Some chunk) t now id p at x log view places is value made = logged t now id (λ l. with_claim l chunk true) p at x log view places is value made
 
 -- ---- fewer and more jobs
 

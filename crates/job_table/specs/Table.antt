@@ -1,6 +1,7 @@
--- The jobs of a destination as contracts see them: by number, each with its plan and its log.
-use Rattle.std.specs.Prelude.{◌≡◌, ◌⊎◌, ℕ, ◌+◌, ◌<◌, ◌≤◌, ◌==◌, ◌&&◌, ◌++◌, not, max, min, nat_lt, nat_le, Bool, true, false, List, [], ◌∷◌, length, Option, None, Some, IsSome, find, filter, All, AllPairs, if◌then◌else◌, Result, Ok, Err}
-use Rattle.copy_model.specs.Job.{Entry, Sized, size_of, has_ended, is_reported, landed_bytes, AllowsCommit}
+-- The jobs of a destination as contracts see them: by number, each with its plan and its log. Where the slab has
+-- a job isn't seen.
+use Rattle.std.specs.Prelude.{◌≡◌, ◌⊎◌, ℕ, ◌+◌, ◌<◌, ◌≤◌, ◌==◌, ◌&&◌, ◌++◌, not, max, min, nat_lt, Bool, true, false, List, [], ◌∷◌, length, Option, None, Some, find, filter, All, AllPairs, if◌then◌else◌, Result, Ok, Err}
+use Rattle.copy_model.specs.Job.{size_of, has_ended}
 use Rattle.nfs_base.specs.declared.job.Stop.{Stop}
 use Rattle.nfs_base.specs.declared.job.Stop.TheVariants.{Cancelled, LeaseExpired, ClientGone, SourceRefused, SourceFailed, PastEnd, NoRoom, DiskFault, LinkFault, Worn}
 use Rattle.nfs_base.specs.declared.status.Status.{Status}
@@ -8,10 +9,12 @@ use Rattle.nfs_base.specs.declared.status.TheConstants.Status.{OK, INVAL, FBIG, 
 use Rattle.job_log.specs.declared.chunk.Chunk.{Chunk}
 use Rattle.job_log.specs.declared.chunk.Landing.{Landing}
 use Rattle.job_log.specs.declared.chunk.Landing.TheVariants.{Late}
-use Rattle.job_log.specs.Log.{JobView, landing_of, IsNextClaim, HasNoClaim}
+use Rattle.job_log.specs.Log.{JobView, landing_of}
 use Rattle.job_table.specs.declared.job.Plan.{Plan}
 use Rattle.job_table.specs.declared.job.Job.{Job}
 use Rattle.job_table.specs.declared.job.JobId.{JobId}
+use Rattle.job_table.specs.declared.job.Refused.{Refused}
+use Rattle.job_table.specs.declared.job.Refused.TheVariants.{Overlap, Full}
 
 -- The server's boot number, the capacity of its files, how many numbers were given out, and the jobs that aren't
 -- retired, by number.
@@ -30,8 +33,18 @@ is_job boot id job = (id.boot == boot) && (id.number == job.number)
 abbrev pub job_of : JobTable → JobId → Option Job
 job_of t id = find (is_job t.boot id) t.jobs
 
-abbrev pub id_of : ℕ → Job → JobId
-id_of boot job = record { key = job.key; boot = boot; number = job.number }
+-- the name that is given out for a job; its key is any
+abbrev pub Names : ℕ → Job → JobId → Type 0
+Names boot job id = (id.boot ≡ boot) × (id.number ≡ job.number)
+
+-- the job with the lowest number above this one
+abbrev pub job_above : JobTable → ℕ → Option Job
+job_above t after = find (λ job. nat_lt after job.number) t.jobs
+
+-- a value is there, and passes
+abbrev pub passes : {X : Type 0} → (X → Bool) → Option X → Bool
+passes test None = false
+passes test (Some x) = test x
 
 -- the first element that passes is changed
 abbrev pub changed : {X : Type 0} → (X → Bool) → (X → X) → List X → List X
@@ -75,25 +88,30 @@ overlaps capacity plan job =
     is_live job && ((plan.file == job.plan.file)
     && nat_lt (max plan.dst_off job.plan.dst_off) (min (end_of capacity plan None) (job_end capacity job)))
 
+-- the job with the lowest number with which a new range would have a byte in common
+abbrev pub overlapped : JobTable → Plan → Option Job
+overlapped t plan = find (overlaps t.capacity plan) t.jobs
+
 -- ---- the calls
 
+-- the answer names the job that the range meets
+abbrev pub IsOverlap : ℕ → Job → Result JobId Refused → Type 0
+IsOverlap boot job (Ok id) = ⊥
+IsOverlap boot job (Err (Overlap id)) = Names boot job id
+IsOverlap boot job (Err Full) = ⊥
+
 -- a job that was just accepted
-abbrev pub new_job : JobId → Plan → Job
-new_job id plan =
+abbrev pub new_job : ℕ → Plan → Job
+new_job number plan =
     record {
-      key = id.key;
-      number = id.number;
+      number = number;
       plan = plan;
       log = record { consecutive = plan.consecutive; entries = []; cause = None; claims = []; spare = 0 };
     }
 
 -- the table with a job more, which has the next number
-abbrev pub with_job : JobTable → JobId → Plan → JobTable
-with_job t id plan =
-    record t {
-      made = t.made + 1;
-      jobs = t.jobs ++ new_job (record id { boot = t.boot; number = t.made + 1 }) plan ∷ [];
-    }
+abbrev pub with_job : JobTable → Plan → JobTable
+with_job t plan = record t { made = t.made + 1; jobs = t.jobs ++ new_job (t.made + 1) plan ∷ [] }
 
 -- the length that a job may get
 pub record CanSize (capacity : ℕ) (job : Job) (len : ℕ) : Type 0 where

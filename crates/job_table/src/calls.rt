@@ -1,10 +1,11 @@
-ghost use Rattle.std.specs.Prelude.{◌≡◌, ◌≤◌, IfSome, IfNone, OnOk, OnErr, IsSome, MatchOption, Some, None, false, true, option_map, not, filter};
-ghost use Rattle.copy_model.specs.Job.{has_ended, is_reported, landed_bytes, AllowsCommit, Stopped, Committed, Reported};
+ghost use Rattle.std.specs.Prelude.{◌≡◌, ◌≤◌, IfSome, IfNone, OnOk, OnErr, IsSome, Some, None, false, true};
+ghost use Rattle.copy_model.specs.Job.{has_ended, is_reported, AllowsCommit, Stopped, Committed, Reported};
 ghost use Rattle.job_log.specs.Log.{IsNextClaim, HasNoClaim, with_claim, with_entry, given_back, after_landing, sized};
-ghost use Rattle.job_table.specs.Table.{is_job, job_of, with_log, CanSize, table_landing, landing_at, without, complete_of, GetsRoom};
+ghost use Rattle.job_table.specs.Table.{job_of, with_log, CanSize, table_landing, landing_at, without, GetsRoom};
 
-use crate::job::{Job, JobId, JobStatus};
+use crate::job::JobId;
 use crate::jobs::Jobs;
+use crate::keys::{forget, key_of};
 use job_log::{Chunk, Landing};
 use nfs_base::Stop;
 use outcome::Mem;
@@ -16,8 +17,8 @@ impl Jobs {
         ensures room { OnOk result (GetsRoom self.old self.new job len) }
         ensures err { OnErr result (self.new ≡ self.old) }
     {
-        match self.place_of(job) {
-            Some(at) => self.jobs[at].log.reserve(len),
+        match key_of(&self.slots, self.keys.as_slice(), self.boot, job) {
+            Some(key) => self.slots[key].log.reserve(len),
             None => Ok(()),
         }
     }
@@ -28,8 +29,8 @@ impl Jobs {
         requires can { IfSome (job_of self.old job) (λ found. CanSize self.old.capacity found len) }
         ensures { self.new ≡ with_log self.old job (λ log. sized log len) }
     {
-        if let Some(at) = self.place_of(job) {
-            self.jobs[at].log.size(len);
+        if let Some(key) = key_of(&self.slots, self.keys.as_slice(), self.boot, job) {
+            self.slots[key].log.size(len);
         }
     }
 
@@ -41,8 +42,8 @@ impl Jobs {
         ensures none { IfNone result (IfSome (job_of self.old job) (λ found. HasNoClaim found.log)) }
         ensures same { IfNone result (self.new ≡ self.old) }
     {
-        match self.place_of(job) {
-            Some(at) => self.jobs[at].log.claim(),
+        match key_of(&self.slots, self.keys.as_slice(), self.boot, job) {
+            Some(key) => self.slots[key].log.claim(),
             None => None,
         }
     }
@@ -51,8 +52,8 @@ impl Jobs {
     pub fn give_back(&mut self, job: JobId, chunk: Chunk)
         ensures { self.new ≡ with_log self.old job (λ log. given_back log chunk) }
     {
-        if let Some(at) = self.place_of(job) {
-            self.jobs[at].log.give_back(chunk);
+        if let Some(key) = key_of(&self.slots, self.keys.as_slice(), self.boot, job) {
+            self.slots[key].log.give_back(chunk);
         }
     }
 
@@ -72,8 +73,8 @@ impl Jobs {
         ensures answer { result ≡ table_landing self.old job chunk }
         ensures done { self.new ≡ with_log self.old job (λ log. after_landing log chunk result) }
     {
-        match self.place_of(job) {
-            Some(at) => self.jobs[at].log.land(chunk),
+        match key_of(&self.slots, self.keys.as_slice(), self.boot, job) {
+            Some(key) => self.slots[key].log.land(chunk),
             None => Landing::Late,
         }
     }
@@ -84,8 +85,8 @@ impl Jobs {
         requires running { IfSome (job_of self.old job) (λ found. has_ended found.log.entries ≡ false) }
         ensures { self.new ≡ with_log self.old job (λ log. record (with_entry log Stopped) { cause = Some cause }) }
     {
-        if let Some(at) = self.place_of(job) {
-            self.jobs[at].log.stop(cause);
+        if let Some(key) = key_of(&self.slots, self.keys.as_slice(), self.boot, job) {
+            self.slots[key].log.stop(cause);
         }
     }
 
@@ -96,8 +97,8 @@ impl Jobs {
         requires landed { IfSome (job_of self.old job) (λ found. AllowsCommit found.log.entries) }
         ensures { self.new ≡ with_log self.old job (λ log. with_entry log Committed) }
     {
-        if let Some(at) = self.place_of(job) {
-            self.jobs[at].log.commit();
+        if let Some(key) = key_of(&self.slots, self.keys.as_slice(), self.boot, job) {
+            self.slots[key].log.commit();
         }
     }
 
@@ -108,8 +109,8 @@ impl Jobs {
         requires not_reported { IfSome (job_of self.old job) (λ found. is_reported found.log.entries ≡ false) }
         ensures { self.new ≡ with_log self.old job (λ log. with_entry log Reported) }
     {
-        if let Some(at) = self.place_of(job) {
-            self.jobs[at].log.report();
+        if let Some(key) = key_of(&self.slots, self.keys.as_slice(), self.boot, job) {
+            self.slots[key].log.report();
         }
     }
 
@@ -118,34 +119,9 @@ impl Jobs {
         requires { IsSome (job_of self.old job) }
         ensures { self.new ≡ without self.old job }
     {
-        let key = self.key_of(job);
-        self.keys.try_remove(key);
-        let boot = self.boot;
-        remove_job(&mut self.jobs, boot, job);
-    }
-
-    fn key_of(&self, job: JobId) -> usize
-        requires { IsSome (job_of self.now job) }
-    {
-        match self.job(job) {
-            Some(found) => found.key,
-            None => unreachable!(),
+        if let Some(key) = key_of(&self.slots, self.keys.as_slice(), self.boot, job) {
+            forget(&mut self.keys, &self.slots, self.boot, job);
+            self.slots.remove(key);
         }
     }
-
-    /// How far a job is: None where it is retired.
-    pub fn status(&self, job: JobId) -> Option<JobStatus>
-        ensures exactly { MatchOption result (job_of self.now job ≡ None) (λ status. IfSome (job_of self.now job) (λ found. (status.landed ≡ landed_bytes found.log.entries) × (status.complete ≡ complete_of found.log)) × IsSome (job_of self.now job)) }
-    {
-        match self.job(job) {
-            Some(found) => Some(found.status()),
-            None => None,
-        }
-    }
-}
-
-fn remove_job(jobs: &mut Vec<Job>, boot: u32, id: JobId)
-    ensures { jobs.new.items ≡ filter (λ job. not (is_job boot id job)) jobs.old.items }
-{
-    jobs.retain(|job| !(id.boot == boot && id.number == job.number));
 }

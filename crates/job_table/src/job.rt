@@ -40,7 +40,8 @@ pub struct Plan {
     pub user: Octets,
 }
 
-/// A job by its name: its boot and number tell which it is, and its key is where the slab has it.
+/// A job by its name: its boot and number tell which it is. Its key is where the slab has it, and no answer
+/// depends on it.
 #[derive(Clone, Copy, Debug, PartialEq, Eq)]
 pub struct JobId {
     pub key: usize,
@@ -71,7 +72,6 @@ pub struct JobStatus {
 /// A job that isn't retired.
 #[derive(Drop)]
 pub struct Job {
-    pub key: usize,
     pub number: u32,
     pub plan: Plan,
     pub log: JobLog,

@@ -1,9 +1,9 @@
-ghost use Rattle.std.specs.Prelude.{◌≡◌, ◌==◌, ◌+◌, ◌-◌, ◌<◌, ◌≤◌, ◌^◌, [], ◌∷◌, ◌++◌, All, AllPairs, IfOk, OnOk, OnErr, IfSome, IfNone, IsSome, MatchResult, MatchOption, Some, None, Ok, Err, length, find, position, option_copied, nat_lt, IsOk};
-ghost use Rattle.job_table.specs.declared.job.Refused.TheVariants.{Overlap as overlap, Full};
-ghost use Rattle.job_table.specs.Table.{is_job, job_of, id_of, overlaps, AreApart, with_job, new_job};
+ghost use Rattle.std.specs.Prelude.{◌≡◌, ◌==◌, ◌+◌, ◌-◌, ◌<◌, ◌≤◌, ◌^◌, [], ◌∷◌, ◌++◌, All, AllPairs, IfOk, IfErr, OnOk, OnErr, IfSome, IfNone, IsSome, MatchOption, Some, None, Ok, Err, length, option_copied, IsOk};
+ghost use Rattle.job_table.specs.declared.job.Refused.TheVariants.{Full};
+ghost use Rattle.job_table.specs.Table.{job_of, job_above, overlapped, Names, AreApart, IsOverlap, with_job};
 
 use crate::job::{Job, JobId, Plan, Refused};
-use crate::ranges::overlaps;
+use crate::keys::{id_at, key_above, key_met, key_of};
 use job_log::JobLog;
 use outcome::Mem;
 use slab::Slab;
@@ -19,20 +19,21 @@ pub struct Jobs {
     pub(crate) boot: u32,
     capacity: u64,
     made: u32,
-    pub(crate) jobs: Vec<Job>,
+    pub(crate) slots: Slab<Job>,
 
-    // The number of each job, under its key.
-    pub(crate) keys: Slab<u32>,
+    // The key of each job, by number.
+    pub(crate) keys: Vec<usize>,
 }
 
 impl Model for Jobs {
-    ghost use Rattle.job_table.specs.Table.{JobTable, IsTable};
+    ghost use Rattle.job_table.specs.Table.{JobTable};
+    ghost use Rattle.job_table.specs.Stored.{jobs_at, IsStored};
 
     ghost Value = { JobTable };
 
-    ghost view = { λ t. record { boot = t.boot; capacity = t.capacity; made = t.made; jobs = t.jobs.items } };
+    ghost view = { λ t. record { boot = t.boot; capacity = t.capacity; made = t.made; jobs = jobs_at t.slots t.keys.items } };
 
-    ghost invariant = { λ t. IsTable t.capacity t.made t.jobs.items };
+    ghost invariant = { λ t. IsStored t.capacity t.made t.slots t.keys.items };
 }
 
 impl Jobs {
@@ -44,8 +45,8 @@ impl Jobs {
             boot,
             capacity,
             made: 0,
-            jobs: Vec::with_capacity(alloc, MOST_JOBS)?,
-            keys: Slab::with_capacity(alloc, MOST_JOBS)?,
+            slots: Slab::with_capacity(alloc, MOST_JOBS)?,
+            keys: Vec::with_capacity(alloc, MOST_JOBS)?,
         })
     }
 
@@ -61,22 +62,14 @@ impl Jobs {
         self.made
     }
 
-    /// Where the table has the job of this name.
-    pub(crate) fn place_of(&self, id: JobId) -> Option<usize>
-        ensures { result ≡ position (is_job self.now.boot id) self.now.jobs }
-    {
-        self.jobs
-            .iter()
-            .position(|job| id.boot == self.boot && id.number == job.number)
-    }
-
     /// The job of this name.
     pub(crate) fn job(&self, id: JobId) -> Option<&Job>
         ensures { option_copied result ≡ job_of self.now id }
     {
-        self.jobs
-            .iter()
-            .find(|job| id.boot == self.boot && id.number == job.number)
+        match key_of(&self.slots, self.keys.as_slice(), self.boot, id) {
+            Some(key) => self.slots.get(key),
+            None => None,
+        }
     }
 
     /// What was asked for, of a job that isn't retired.
@@ -92,18 +85,13 @@ impl Jobs {
 
     /// The job with the lowest number above this one.
     pub fn next(&self, after: u32) -> Option<JobId>
-        ensures { MatchOption result (find (λ job. nat_lt after job.number) self.now.jobs ≡ None) (λ id. IfSome (find (λ job. nat_lt after job.number) self.now.jobs) (λ job. id ≡ id_of self.now.boot job)) }
+        ensures name { IfSome result (λ id. IfSome (job_above self.now after) (λ job. Names self.now.boot job id)) }
+        ensures exactly { MatchOption result (job_above self.now after ≡ None) (λ _. IsSome (job_above self.now after)) }
     {
-        match self.above(after) {
-            Some(found) => Some(self.id(found)),
+        match key_above(&self.slots, self.keys.as_slice(), after) {
+            Some(key) => Some(id_at(&self.slots, key, self.boot)),
             None => None,
         }
-    }
-
-    fn above(&self, after: u32) -> Option<&Job>
-        ensures { option_copied result ≡ find (λ job. nat_lt after job.number) self.now.jobs }
-    {
-        self.jobs.iter().find(|job| after < job.number)
     }
 
     /// Takes a copy as a job with the next number. Where its range has a byte in common with that of a job that
@@ -111,69 +99,59 @@ impl Jobs {
     pub fn accept(&mut self, plan: Plan) -> Mem<Result<JobId, Refused>>
         requires numbers { self.old.made < 2 ^ 32 - 1 }
         requires fits { plan.dst_off + plan.count ≤ self.old.capacity }
-        ensures overlap { IfOk result (λ answer. IfSome (find (overlaps self.old.capacity plan) self.old.jobs) (λ job. answer ≡ Err (overlap (id_of self.old.boot job)))) }
-        ensures full { IfOk result (λ answer. find (overlaps self.old.capacity plan) self.old.jobs ≡ None → 16 ≤ length self.old.jobs → answer ≡ Err Full) }
-        ensures taken { IfOk result (λ answer. find (overlaps self.old.capacity plan) self.old.jobs ≡ None → length self.old.jobs < 16
-            → IfOk answer (λ id. self.new ≡ with_job self.old id plan) × IsOk answer) }
+        ensures overlap { IfOk result (λ answer. IfSome (overlapped self.old plan) (λ job. IsOverlap self.old.boot job answer)) }
+        ensures full { IfOk result (λ answer. overlapped self.old plan ≡ None → 16 ≤ length self.old.jobs → answer ≡ Err Full) }
+        ensures taken { IfOk result (λ answer. overlapped self.old plan ≡ None → length self.old.jobs < 16 → IsOk answer) }
+        ensures name { IfOk result (λ answer. IfOk answer (λ id. (id.boot ≡ self.old.boot) × (id.number ≡ self.old.made + 1))) }
+        ensures done { IfOk result (λ answer. OnOk answer (self.new ≡ with_job self.old plan)) }
         ensures refused { IfOk result (λ answer. OnErr answer (self.new ≡ self.old)) }
         ensures err { OnErr result (self.new ≡ self.old) }
     {
-        let table = &*self;
-        if let Some(found) = table.overlapping(&plan) {
-            let job = table.id(found);
+        if let Some(job) = self.overlapping(&plan) {
             return Ok(Err(Refused::Overlap { job }));
         }
-        if table.jobs.len() >= MOST_JOBS {
+        if self.count() >= MOST_JOBS {
             return Ok(Err(Refused::Full));
         }
         Ok(Ok(self.add(plan)?))
+    }
+
+    fn count(&self) -> usize
+        ensures { result ≡ length self.now.jobs }
+    {
+        self.keys.as_slice().len()
+    }
+
+    fn overlapping(&self, plan: &Plan) -> Option<JobId>
+        ensures name { IfSome result (λ id. IfSome (overlapped self.now plan.now) (λ job. Names self.now.boot job id)) }
+        ensures exactly { MatchOption result (overlapped self.now plan.now ≡ None) (λ _. IsSome (overlapped self.now plan.now)) }
+    {
+        match key_met(&self.slots, self.keys.as_slice(), self.capacity, plan) {
+            Some(key) => Some(id_at(&self.slots, key, self.boot)),
+            None => None,
+        }
     }
 
     fn add(&mut self, plan: Plan) -> Mem<JobId>
         requires numbers { self.old.made < 2 ^ 32 - 1 }
         requires few { length self.old.jobs < 16 }
         requires fits { plan.dst_off + plan.count ≤ self.old.capacity }
-        requires apart { find (overlaps self.old.capacity plan) self.old.jobs ≡ None }
+        requires apart { overlapped self.old plan ≡ None }
         ensures id { IfOk result (λ id. (id.boot ≡ self.old.boot) × (id.number ≡ self.old.made + 1)) }
-        ensures done { IfOk result (λ id. self.new ≡ with_job self.old id plan) }
+        ensures done { OnOk result (self.new ≡ with_job self.old plan) }
         ensures err { OnErr result (self.new ≡ self.old) }
     {
-        let alloc = *self.jobs.allocator();
+        let alloc = *self.keys.allocator();
         let log = JobLog::new(alloc, plan.consecutive)?;
-        self.jobs.reserve(1)?;
+        self.keys.reserve(1)?;
         let number = self.made + 1;
-        let key = self.keys.insert(number)?;
+        let key = self.slots.insert(Job { number, plan, log })?;
         self.made = number;
-        self.jobs
-            .push(Job {
-                key,
-                number,
-                plan,
-                log,
-            })
-            .unwrap();
+        self.keys.push(key).unwrap();
         Ok(JobId {
             key,
             boot: self.boot,
             number,
         })
-    }
-
-    fn overlapping(&self, plan: &Plan) -> Option<&Job>
-        ensures { option_copied result ≡ find (overlaps self.now.capacity plan.now) self.now.jobs }
-    {
-        self.jobs
-            .iter()
-            .find(|job| overlaps(self.capacity, plan, job))
-    }
-
-    fn id(&self, job: &Job) -> JobId
-        ensures { result ≡ id_of self.now.boot job.now }
-    {
-        JobId {
-            key: job.key,
-            boot: self.boot,
-            number: job.number,
-        }
     }
 }

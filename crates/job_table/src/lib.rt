@@ -1,14 +1,16 @@
 //! The copy jobs of a destination server (RFC 7862 sections 4.2 and 15.2): at most sixteen that aren't retired,
 //! whose ranges on one file have no common byte while they run.
 //!
-//! [`Jobs`] answers by the number that each job got; a slab gives each job its key. Contracts see the jobs by
-//! number, each with its plan and its log. The contract to read first is [`Jobs::accept`]'s, and then that of
-//! [`Jobs::made`], which says what holds of every table.
+//! [`Jobs`] keeps them in a slab and answers by the number that each job got. Contracts see the jobs by number, each
+//! with its plan and its log, and not the slab. The contract to read first is [`Jobs::accept`]'s, and then those of
+//! [`Jobs::made`] and [`Jobs::landed`], which say what holds of every table.
 #![tactic(auto)]
 
 mod calls;
 mod job;
 mod jobs;
+mod keys;
+mod progress;
 mod ranges;
 
 pub use job::{JobId, JobStatus, Plan, Refused};

@@ -1,36 +1,38 @@
-use Rattle.std.proofs.Common.{◌≡◌, ℕ, Bool, true, false, List, [], ◌∷◌, ◌++◌, get_or, Option, Some, None, refl, ap, sym, ◌∙◌, subst}
-use Rattle.std.specs.Prelude.{position, IfSome}
-use Rattle.copy_model.specs.Job.{Stopped, Committed, Reported, has_ended, is_reported, AllowsCommit}
-use Rattle.job_log.specs.Log.{JobView, with_claim, with_entry, given_back, after_landing, sized}
+use Rattle.std.proofs.Common.{◌≡◌, ℕ, true, false, List, refl, ap, sym, ◌∙◌}
+use Rattle.copy_model.specs.Job.{Reported, has_ended, is_reported}
+use Rattle.job_log.specs.Log.{JobView, with_entry}
 use Rattle.job_table.specs.declared.job.Job.{Job}
-use Rattle.job_table.specs.Table.{JobTable, is_job, job_of, CanSize}
-use Rattle.job_table.proofs.Lists.{inside_by, found_by, missed_by}
-use Rattle.job_table.proofs.Tables.{table_set, follows_claims, follows_entry, follows_back, follows_landing, follows_size, logged, left, if_found, placed}
+use Rattle.job_table.specs.Table.{is_job}
+use Rattle.job_table.proofs.Tables.{follows_entry}
+use Rattle.job_table.proofs.Writes.{IsFound, search_by, has_job, its, stored_write, seen_write, seen_left}
 use Rattle.job_table.proofs.jobs.Jobs.reported.Goals as goal
+
+pub index_mut-requires : goal.index_mut-requires
+index_mut-requires c = has_job (is_job c.self.inside.boot c.args.job) c.self.inside.slots c.self.inside.keys.items c.key_of.result c.in-Some.key (c.key_of.ensures ∙ ap (λ (ks : List ℕ). search_by (is_job c.self.inside.boot c.args.job) c.self.inside.slots ks) c.as_slice.ensures.value) c.in-Some.is
 
 pub report-requires-clause-ended : goal.report-requires-clause-ended
 report-requires-clause-ended c =
-    let P : Job → Type 0 = λ j. has_ended j.log.entries ≡ true in
-    let Q : JobTable → Type 0 = λ t. IfSome (job_of t c.args.job) P in
-    if_found _ c.index_mut.result.now P (subst Q (sym c.self.view_is) c.requires.ended)
-    (found_by (is_job c.self.inside.boot c.args.job) c.self.inside.jobs.items c.place_of.result c.in-Some.at c.index_mut.result.now (placed (record { boot = c.self.inside.boot; capacity = c.self.inside.capacity; made = c.self.inside.made; jobs = c.self.inside.jobs.items }) _ c.args.job c.place_of.result c.self.view_is c.place_of.ensures) c.in-Some.is c.index_mut.ensures.value)
+    let f : IsFound c.self.inside.boot c.self.inside.capacity c.self.inside.made c.self.inside.slots c.self.inside.keys.items c.args.job c.args.self.now c.in-Some.key c.index_mut.result.now =
+    record { stored = c.self.invariant; view = c.self.view_is; searched = sym (c.key_of.ensures ∙ ap (λ (ks : List ℕ). search_by (is_job c.self.inside.boot c.args.job) c.self.inside.slots ks) c.as_slice.ensures.value) ∙ c.in-Some.is; value = c.index_mut.ensures.value } in
+    its (λ (j : Job). has_ended j.log.entries ≡ true) f c.requires.ended
 
 pub report-requires-clause-not_reported : goal.report-requires-clause-not_reported
 report-requires-clause-not_reported c =
-    let P : Job → Type 0 = λ j. is_reported j.log.entries ≡ false in
-    let Q : JobTable → Type 0 = λ t. IfSome (job_of t c.args.job) P in
-    if_found _ c.index_mut.result.now P (subst Q (sym c.self.view_is) c.requires.not_reported)
-    (found_by (is_job c.self.inside.boot c.args.job) c.self.inside.jobs.items c.place_of.result c.in-Some.at c.index_mut.result.now (placed (record { boot = c.self.inside.boot; capacity = c.self.inside.capacity; made = c.self.inside.made; jobs = c.self.inside.jobs.items }) _ c.args.job c.place_of.result c.self.view_is c.place_of.ensures) c.in-Some.is c.index_mut.ensures.value)
+    let f : IsFound c.self.inside.boot c.self.inside.capacity c.self.inside.made c.self.inside.slots c.self.inside.keys.items c.args.job c.args.self.now c.in-Some.key c.index_mut.result.now =
+    record { stored = c.self.invariant; view = c.self.view_is; searched = sym (c.key_of.ensures ∙ ap (λ (ks : List ℕ). search_by (is_job c.self.inside.boot c.args.job) c.self.inside.slots ks) c.as_slice.ensures.value) ∙ c.in-Some.is; value = c.index_mut.ensures.value } in
+    its (λ (j : Job). is_reported j.log.entries ≡ false) f c.requires.not_reported
 
 pub invariant_of-self : goal.invariant_of-self
 invariant_of-self c =
-    table_set c.self.inside.capacity c.self.inside.made c.self.inside.jobs.items c.in-Some.at c.index_mut.result.now c.report.new.self c.self.invariant
-    (inside_by (is_job c.self.inside.boot c.args.job) c.self.inside.jobs.items c.place_of.result c.in-Some.at (placed (record { boot = c.self.inside.boot; capacity = c.self.inside.capacity; made = c.self.inside.made; jobs = c.self.inside.jobs.items }) _ c.args.job c.place_of.result c.self.view_is c.place_of.ensures) c.in-Some.is) c.index_mut.ensures.value
-    (follows_entry c.self.inside.capacity c.index_mut.result.now c.report.new.self Reported (ap (λ (v : JobView). v.consecutive) c.report.ensures) (ap (λ (v : JobView). v.entries) c.report.ensures) refl)
+    let f : IsFound c.self.inside.boot c.self.inside.capacity c.self.inside.made c.self.inside.slots c.self.inside.keys.items c.args.job c.args.self.now c.in-Some.key c.index_mut.result.now =
+    record { stored = c.self.invariant; view = c.self.view_is; searched = sym (c.key_of.ensures ∙ ap (λ (ks : List ℕ). search_by (is_job c.self.inside.boot c.args.job) c.self.inside.slots ks) c.as_slice.ensures.value) ∙ c.in-Some.is; value = c.index_mut.ensures.value } in
+    stored_write c.report.new.self f (follows_entry c.self.inside.capacity c.index_mut.result.now c.report.new.self Reported (ap (λ (v : JobView). v.consecutive) c.report.ensures) (ap (λ (v : JobView). v.entries) c.report.ensures) refl)
 
 pub returns-in-Some : goal.returns-in-Some
 returns-in-Some c =
-    logged (record { boot = c.self.inside.boot; capacity = c.self.inside.capacity; made = c.self.inside.made; jobs = c.self.inside.jobs.items }) _ c.args.job (λ log. with_entry log Reported) c.place_of.result c.in-Some.at c.index_mut.result.now c.report.new.self c.self.view_is (placed (record { boot = c.self.inside.boot; capacity = c.self.inside.capacity; made = c.self.inside.made; jobs = c.self.inside.jobs.items }) _ c.args.job c.place_of.result c.self.view_is c.place_of.ensures) c.in-Some.is c.index_mut.ensures.value c.report.ensures
+    let f : IsFound c.self.inside.boot c.self.inside.capacity c.self.inside.made c.self.inside.slots c.self.inside.keys.items c.args.job c.args.self.now c.in-Some.key c.index_mut.result.now =
+    record { stored = c.self.invariant; view = c.self.view_is; searched = sym (c.key_of.ensures ∙ ap (λ (ks : List ℕ). search_by (is_job c.self.inside.boot c.args.job) c.self.inside.slots ks) c.as_slice.ensures.value) ∙ c.in-Some.is; value = c.index_mut.ensures.value } in
+    seen_write c.report.new.self (λ log. with_entry log Reported) f c.report.ensures
 
 pub returns-in_default : goal.returns-in_default
-returns-in_default c = left c.args.self.now c.args.self.now c.args.job (λ log. with_entry log Reported) c.place_of.result refl c.place_of.ensures c.in_default.is
+returns-in_default c = seen_left c.self.inside.boot c.self.inside.capacity c.self.inside.made c.self.inside.slots c.self.inside.keys.items c.args.job c.args.self.now (λ log. with_entry log Reported) c.key_of.result c.self.view_is (c.key_of.ensures ∙ ap (λ (ks : List ℕ). search_by (is_job c.self.inside.boot c.args.job) c.self.inside.slots ks) c.as_slice.ensures.value) c.in_default.is

@@ -1,26 +1,28 @@
-use Rattle.std.proofs.Common.{◌≡◌, ℕ, Bool, true, false, List, [], ◌∷◌, ◌++◌, get_or, Option, Some, None, refl, ap, sym, ◌∙◌, subst, arith}
-use Rattle.std.specs.Prelude.{position, IfSome, IfNone, IsSome, not}
-use Rattle.copy_model.specs.Job.{Stopped, Committed, Reported, has_ended, is_reported, AllowsCommit}
-use Rattle.job_log.specs.Log.{JobView, IsNextClaim, HasNoClaim, with_claim, with_entry, given_back, after_landing, sized}
-use Rattle.job_table.specs.declared.job.Job.{Job}
-use Rattle.job_table.specs.Table.{JobTable, is_job, job_of, CanSize, landing_at, table_landing, GetsRoom}
-use Rattle.job_table.proofs.Lists.{inside_by, found_by, missed_by}
-use Rattle.job_table.proofs.Tables.{table_set, follows_claims, follows_entry, follows_back, follows_landing, follows_size, logged, left, if_found, placed, follows_claimed, next_of, none_of, claimed_of, table_filter, table_push, on_ok}
+use Rattle.std.proofs.Common.{ℕ, List, ap, sym, ◌∙◌, arith}
+use Rattle.job_log.specs.Log.{JobView}
+use Rattle.job_table.specs.Table.{is_job}
+use Rattle.job_table.proofs.Tables.{follows_claims, on_ok}
+use Rattle.job_table.proofs.Writes.{IsFound, search_by, has_job, stored_write, seen_write, seen_left}
 use Rattle.job_table.proofs.jobs.Jobs.reserve.Goals as goal
+
+pub index_mut-requires : goal.index_mut-requires
+index_mut-requires c = has_job (is_job c.self.inside.boot c.args.job) c.self.inside.slots c.self.inside.keys.items c.key_of.result c.in-Some.key (c.key_of.ensures ∙ ap (λ (ks : List ℕ). search_by (is_job c.self.inside.boot c.args.job) c.self.inside.slots ks) c.as_slice.ensures.value) c.in-Some.is
 
 pub invariant_of-self : goal.invariant_of-self
 invariant_of-self c =
-    table_set c.self.inside.capacity c.self.inside.made c.self.inside.jobs.items c.in-Some.at c.index_mut.result.now c.reserve.new.self c.self.invariant
-    (inside_by (is_job c.self.inside.boot c.args.job) c.self.inside.jobs.items c.place_of.result c.in-Some.at (placed (record { boot = c.self.inside.boot; capacity = c.self.inside.capacity; made = c.self.inside.made; jobs = c.self.inside.jobs.items }) _ c.args.job c.place_of.result c.self.view_is c.place_of.ensures) c.in-Some.is) c.index_mut.ensures.value
-    (follows_claims c.self.inside.capacity c.index_mut.result.now c.reserve.new.self (ap (λ (v : JobView). v.consecutive) c.reserve.ensures.same) (ap (λ (v : JobView). v.entries) c.reserve.ensures.same))
+    let f : IsFound c.self.inside.boot c.self.inside.capacity c.self.inside.made c.self.inside.slots c.self.inside.keys.items c.args.job c.args.self.now c.in-Some.key c.index_mut.result.now =
+    record { stored = c.self.invariant; view = c.self.view_is; searched = sym (c.key_of.ensures ∙ ap (λ (ks : List ℕ). search_by (is_job c.self.inside.boot c.args.job) c.self.inside.slots ks) c.as_slice.ensures.value) ∙ c.in-Some.is; value = c.index_mut.ensures.value } in
+    stored_write c.reserve.new.self f (follows_claims c.self.inside.capacity c.index_mut.result.now c.reserve.new.self (ap (λ (v : JobView). v.consecutive) c.reserve.ensures.same) (ap (λ (v : JobView). v.entries) c.reserve.ensures.same))
 
 pub returns-in-Some-clause-room : goal.returns-in-Some-clause-room
 returns-in-Some-clause-room c =
+    let f : IsFound c.self.inside.boot c.self.inside.capacity c.self.inside.made c.self.inside.slots c.self.inside.keys.items c.args.job c.args.self.now c.in-Some.key c.index_mut.result.now =
+    record { stored = c.self.invariant; view = c.self.view_is; searched = sym (c.key_of.ensures ∙ ap (λ (ks : List ℕ). search_by (is_job c.self.inside.boot c.args.job) c.self.inside.slots ks) c.as_slice.ensures.value) ∙ c.in-Some.is; value = c.index_mut.ensures.value } in
     on_ok c.reserve.result _ _ c.reserve.ensures.room
     (λ enough. record {
       spare = c.reserve.new.self.spare;
       enough = enough;
-      only = logged (record { boot = c.self.inside.boot; capacity = c.self.inside.capacity; made = c.self.inside.made; jobs = c.self.inside.jobs.items }) _ c.args.job (λ log. record log { spare = c.reserve.new.self.spare }) c.place_of.result c.in-Some.at c.index_mut.result.now c.reserve.new.self c.self.view_is (placed (record { boot = c.self.inside.boot; capacity = c.self.inside.capacity; made = c.self.inside.made; jobs = c.self.inside.jobs.items }) _ c.args.job c.place_of.result c.self.view_is c.place_of.ensures) c.in-Some.is c.index_mut.ensures.value c.reserve.ensures.same;
+      only = seen_write c.reserve.new.self (λ log. record log { spare = c.reserve.new.self.spare }) f c.reserve.ensures.same;
     })
 
 pub returns-in-None-clause-room : goal.returns-in-None-clause-room
@@ -28,5 +30,5 @@ returns-in-None-clause-room c =
     record {
       spare = c.args.len;
       enough = omega arith;
-      only = left c.args.self.now c.args.self.now c.args.job (λ log. record log { spare = c.args.len }) c.place_of.result refl c.place_of.ensures c.in-None.is;
+      only = seen_left c.self.inside.boot c.self.inside.capacity c.self.inside.made c.self.inside.slots c.self.inside.keys.items c.args.job c.args.self.now (λ log. record log { spare = c.args.len }) c.key_of.result c.self.view_is (c.key_of.ensures ∙ ap (λ (ks : List ℕ). search_by (is_job c.self.inside.boot c.args.job) c.self.inside.slots ks) c.as_slice.ensures.value) c.in-None.is;
     }
