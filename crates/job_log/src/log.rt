@@ -1,4 +1,4 @@
-ghost use Rattle.std.specs.Prelude.{◌≡◌, ◌+◌, ◌*◌, ◌/◌, ◌<◌, ◌≤◌, ◌^◌, [], None, Some, IfOk, OnOk, OnErr, IfSome, IfNone, true, false};
+ghost use Rattle.std.specs.Prelude.{◌≡◌, ◌+◌, ◌*◌, ◌/◌, ◌<◌, ◌≤◌, ◌^◌, [], None, Some, IfOk, OnOk, OnErr, IfSome, IfNone, nat_le, true, false};
 ghost use Rattle.std.specs.Bool.{OnTrue, OnFalse};
 ghost use Rattle.copy_model.specs.Job.{Sized, Stopped, Committed, Reported, size_of, has_ended, is_reported, landed_bytes, chunk_len, chunk_size, chunks_of, IsLawful, AllowsCommit};
 ghost use Rattle.job_log.specs.Log.{total, is_claimed, waits, landing_of, with_entry, with_claim, landed, after_landing, given_back, sized, IsNextClaim, HasNoClaim, ClaimsAreNew};
@@ -241,6 +241,13 @@ impl JobLog {
         ensures { result ≡ size_of self.now.entries }
     {
         self.len
+    }
+
+    /// Whether there is room for a range of this length.
+    pub fn has_room(&self, len: u64) -> bool
+        ensures { result ≡ nat_le len self.now.spare }
+    {
+        len <= self.spare
     }
 
     /// Whether the job was stopped or committed.

@@ -1,5 +1,5 @@
 -- A write of one job's log in the slab is a write of it in the list that contracts see.
-use Rattle.std.proofs.Common.{◌≡◌, ℕ, ◌+◌, ◌<◌, Bool, true, List, [], ◌∷◌, ◌++◌, length, get_or, take, Option, Some, None, refl, ap, sym, ◌∙◌, subst, inl, inr}
+use Rattle.std.proofs.Common.{false, ◌≡◌, ℕ, ◌+◌, ◌<◌, Bool, true, List, [], ◌∷◌, ◌++◌, length, get_or, take, Option, Some, None, refl, ap, sym, ◌∙◌, subst, inl, inr}
 use Rattle.std.specs.Prelude.{◌≢◌, ◌⊎◌, not, find, filter, option_and_then, IfSome, IfNone, IsSome}
 use Rattle.std.specs.List.{cons_option}
 use Rattle.std.proofs.lemmas.List.{take_more}
@@ -12,7 +12,8 @@ use Rattle.job_log.specs.declared.chunk.Chunk.{Chunk}
 use Rattle.job_log.specs.Log.{JobView, IsNextClaim, HasNoClaim, with_claim}
 use Rattle.job_table.specs.declared.job.Job.{Job}
 use Rattle.job_table.specs.declared.job.JobId.{JobId}
-use Rattle.job_table.specs.Table.{JobTable, is_job, job_of, with_log, passes, changed, without, IsTable}
+use Rattle.copy_model.specs.Job.{has_ended}
+use Rattle.job_table.specs.Table.{is_live, is_running, JobTable, is_job, job_of, with_log, passes, changed, without, IsTable}
 use Rattle.job_table.specs.Stored.{jobs_at, IsStored}
 use Rattle.job_table.proofs.KeyRows.{find_key, hit, hit_some, change_key, drop_keys, all_left, same_values, push_key, push_distinct, push_filled}
 use Rattle.job_table.proofs.Lists.{changed_none}
@@ -73,6 +74,31 @@ pub its : {boot capacity made : ℕ} {slots : Slab Job} {keys : List ℕ} {id : 
     → IsFound boot capacity made slots keys id now key x → IfSome (job_of now id) P → P x
 its P f holds =
     subst (λ (o : Option Job). IfSome o P) (is_job_there f) holds
+
+-- so does a test that passes there, and one that fails
+passed_if : (p : Job → Bool) (o : Option Job) → passes p o ≡ true → IfSome o (λ x. p x ≡ true)
+passed_if p None e = absurd (cc)
+passed_if p (Some x) e = e
+
+failed_if : (p : Job → Bool) (o : Option Job) → passes p o ≡ false → IfSome o (λ x. p x ≡ false)
+failed_if p None e = tt
+failed_if p (Some x) e = e
+
+pub it_passes : {boot capacity made : ℕ} {slots : Slab Job} {keys : List ℕ} {id : JobId} {now : JobTable} {key : ℕ} {x : Job} (p : Job → Bool)
+    → IsFound boot capacity made slots keys id now key x → passes p (job_of now id) ≡ true → p x ≡ true
+it_passes p f holds = its (λ x. p x ≡ true) f (passed_if p _ holds)
+
+pub it_fails : {boot capacity made : ℕ} {slots : Slab Job} {keys : List ℕ} {id : JobId} {now : JobTable} {key : ℕ} {x : Job} (p : Job → Bool)
+    → IsFound boot capacity made slots keys id now key x → passes p (job_of now id) ≡ false → p x ≡ false
+it_fails p f holds = its (λ x. p x ≡ false) f (failed_if p _ holds)
+
+not_ended : (b : Bool) → not b ≡ true → b ≡ false
+not_ended true e = sym e
+not_ended false e = refl
+
+pub it_runs : {boot capacity made : ℕ} {slots : Slab Job} {keys : List ℕ} {id : JobId} {now : JobTable} {key : ℕ} {x : Job}
+    → IsFound boot capacity made slots keys id now key x → is_running now id ≡ true → has_ended x.log.entries ≡ false
+it_runs f holds = not_ended _ (it_passes is_live f holds)
 
 -- the jobs after a write of its log
 pub written : {boot capacity made : ℕ} {slots : Slab Job} {keys : List ℕ} {id : JobId} {now : JobTable} {key : ℕ} {x : Job} (log : JobView) (g : JobView → JobView)

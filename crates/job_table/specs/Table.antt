@@ -1,7 +1,7 @@
 -- The jobs of a destination as contracts see them: by number, each with its plan and its log. Where the slab has
 -- a job isn't seen.
 use Rattle.std.specs.Prelude.{◌≡◌, ◌⊎◌, ℕ, ◌+◌, ◌<◌, ◌≤◌, ◌==◌, ◌&&◌, ◌++◌, not, max, min, nat_lt, Bool, true, false, List, [], ◌∷◌, length, Option, None, Some, find, filter, All, AllPairs, if◌then◌else◌, Result, Ok, Err}
-use Rattle.copy_model.specs.Job.{size_of, has_ended}
+use Rattle.copy_model.specs.Job.{size_of, has_ended, is_reported}
 use Rattle.nfs_base.specs.declared.job.Stop.{Stop}
 use Rattle.nfs_base.specs.declared.job.Stop.TheVariants.{Cancelled, LeaseExpired, ClientGone, SourceRefused, SourceFailed, PastEnd, NoRoom, DiskFault, LinkFault, Worn}
 use Rattle.nfs_base.specs.declared.status.Status.{Status}
@@ -75,6 +75,16 @@ job_end capacity job = end_of capacity job.plan (size_of job.log.entries)
 -- a byte of the destination's file lies in the job's range
 abbrev pub Covers : ℕ → Job → ℕ → Type 0
 Covers capacity job byte = (job.plan.dst_off ≤ byte) × (byte < job_end capacity job)
+
+-- a job is there that runs, that was stopped or committed, of whose end the client was told
+abbrev pub is_running : JobTable → JobId → Bool
+is_running t id = passes is_live (job_of t id)
+
+abbrev pub is_ended : JobTable → JobId → Bool
+is_ended t id = passes (λ job. has_ended job.log.entries) (job_of t id)
+
+abbrev pub is_told : JobTable → JobId → Bool
+is_told t id = passes (λ job. is_reported job.log.entries) (job_of t id)
 
 -- two jobs that run have no common byte of one file
 abbrev pub AreApart : ℕ → Job → Job → Type 0

@@ -1,7 +1,7 @@
 ghost use Rattle.std.specs.Prelude.{◌≡◌, ◌≤◌, IfSome, IfNone, OnOk, OnErr, IsSome, Some, None, false, true};
-ghost use Rattle.copy_model.specs.Job.{has_ended, is_reported, AllowsCommit, Stopped, Committed, Reported};
+ghost use Rattle.copy_model.specs.Job.{AllowsCommit, Stopped, Committed, Reported};
 ghost use Rattle.job_log.specs.Log.{IsNextClaim, HasNoClaim, with_claim, with_entry, given_back, after_landing, sized};
-ghost use Rattle.job_table.specs.Table.{job_of, with_log, CanSize, table_landing, landing_at, without, GetsRoom};
+ghost use Rattle.job_table.specs.Table.{job_of, is_running, is_ended, is_told, with_log, CanSize, table_landing, landing_at, without, GetsRoom};
 
 use crate::job::JobId;
 use crate::jobs::Jobs;
@@ -81,8 +81,7 @@ impl Jobs {
 
     /// Stops a job: nothing of it lands any more.
     pub fn stop(&mut self, job: JobId, cause: Stop)
-        requires unretired { IsSome (job_of self.old job) }
-        requires running { IfSome (job_of self.old job) (λ found. has_ended found.log.entries ≡ false) }
+        requires { is_running self.old job ≡ true }
         ensures { self.new ≡ with_log self.old job (λ log. record (with_entry log Stopped) { cause = Some cause }) }
     {
         if let Some(key) = key_of(&self.slots, self.keys.as_slice(), self.boot, job) {
@@ -92,8 +91,7 @@ impl Jobs {
 
     /// Notes that all of a job landed and was committed.
     pub fn committed(&mut self, job: JobId)
-        requires unretired { IsSome (job_of self.old job) }
-        requires running { IfSome (job_of self.old job) (λ found. has_ended found.log.entries ≡ false) }
+        requires running { is_running self.old job ≡ true }
         requires landed { IfSome (job_of self.old job) (λ found. AllowsCommit found.log.entries) }
         ensures { self.new ≡ with_log self.old job (λ log. with_entry log Committed) }
     {
@@ -104,9 +102,8 @@ impl Jobs {
 
     /// Notes that the client was told of a job's end.
     pub fn reported(&mut self, job: JobId)
-        requires unretired { IsSome (job_of self.old job) }
-        requires ended { IfSome (job_of self.old job) (λ found. has_ended found.log.entries ≡ true) }
-        requires not_reported { IfSome (job_of self.old job) (λ found. is_reported found.log.entries ≡ false) }
+        requires ended { is_ended self.old job ≡ true }
+        requires not_reported { is_told self.old job ≡ false }
         ensures { self.new ≡ with_log self.old job (λ log. with_entry log Reported) }
     {
         if let Some(key) = key_of(&self.slots, self.keys.as_slice(), self.boot, job) {

@@ -1,5 +1,6 @@
 ghost use Rattle.std.specs.Prelude.{◌≡◌};
-ghost use Rattle.job_table.specs.Table.{status_of, complete_of};
+ghost use Rattle.std.specs.Bool.{OnTrue, OnFalse};
+ghost use Rattle.job_table.specs.Table.{status_of, complete_of, CanSize};
 ghost use Rattle.copy_model.specs.Job.{landed_bytes};
 
 use job_log::JobLog;
@@ -103,6 +104,17 @@ impl Job {
             landed: self.log.landed(),
             complete: self.complete(),
         }
+    }
+
+    /// Whether the job can get this length.
+    pub(crate) fn can_size(&self, capacity: u64, len: u64) -> bool
+        ensures yes { OnTrue result (CanSize capacity self.now len) }
+        ensures no { OnFalse result (CanSize capacity self.now len → ⊥) }
+    {
+        let asked = self.plan.count == 0 || len == self.plan.count;
+        let fits = u128::from(self.plan.dst_off) + u128::from(len) <= u128::from(capacity);
+        let ready = self.log.len().is_none() && !self.log.is_ended();
+        asked && fits && ready && self.log.has_room(len)
     }
 
     fn complete(&self) -> Option<Status>

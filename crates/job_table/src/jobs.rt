@@ -17,7 +17,7 @@ const MOST_JOBS: usize = 16;
 #[derive(Drop)]
 pub struct Jobs {
     pub(crate) boot: u32,
-    capacity: u64,
+    pub(crate) capacity: u64,
     made: u32,
     pub(crate) slots: Slab<Job>,
 

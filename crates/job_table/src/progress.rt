@@ -1,10 +1,10 @@
 ghost use Rattle.std.specs.Prelude.{◌≡◌, ◌≤◌, All, length, sum_by, IfSome, IsSome, MatchOption, None, option_and_then};
 ghost use Rattle.std.specs.Bool.{OnTrue, OnFalse};
-ghost use Rattle.copy_model.specs.Job.{size_of, is_reported, landed_bytes, AllowsCommit, IsLawful};
+ghost use Rattle.copy_model.specs.Job.{size_of, landed_bytes, AllowsCommit, IsLawful};
 ghost use Rattle.job_log.specs.Log.{ClaimsAreNew};
 ghost use Rattle.slab.specs.Slab.{ContainsKey};
 ghost use Rattle.job_table.specs.Stored.{jobs_at};
-ghost use Rattle.job_table.specs.Table.{job_of, complete_of, is_live, passes};
+ghost use Rattle.job_table.specs.Table.{job_of, complete_of, is_running, is_ended, is_told, CanSize};
 
 use crate::job::{Job, JobId, JobStatus};
 use crate::jobs::Jobs;
@@ -31,12 +31,42 @@ impl Jobs {
         }
     }
 
+    /// The capacity of each file in bytes.
+    pub fn capacity(&self) -> u64
+        ensures { result ≡ self.now.capacity }
+    {
+        self.capacity
+    }
+
     /// Whether a job is there that was neither stopped nor committed.
     pub fn is_running(&self, job: JobId) -> bool
-        ensures { result ≡ passes is_live (job_of self.now job) }
+        ensures { result ≡ is_running self.now job }
     {
         match self.job(job) {
             Some(found) => !found.log.is_ended(),
+            None => false,
+        }
+    }
+
+    /// Whether a job is there that was stopped or committed.
+    pub fn is_ended(&self, job: JobId) -> bool
+        ensures { result ≡ is_ended self.now job }
+    {
+        match self.job(job) {
+            Some(found) => found.log.is_ended(),
+            None => false,
+        }
+    }
+
+    /// Whether a job is there that can get this length: it runs and has none, it has the room, and the length is what
+    /// was asked for and fits the file.
+    pub fn can_size(&self, job: JobId, len: u64) -> bool
+        ensures there { OnTrue result (IsSome (job_of self.now job)) }
+        ensures yes { OnTrue result (IfSome (job_of self.now job) (λ found. CanSize self.now.capacity found len)) }
+        ensures no { OnFalse result (IfSome (job_of self.now job) (λ found. CanSize self.now.capacity found len → ⊥)) }
+    {
+        match self.job(job) {
+            Some(found) => found.can_size(self.capacity, len),
             None => false,
         }
     }
@@ -53,7 +83,8 @@ impl Jobs {
 
     /// Whether a job's length is known and each of its chunks has landed.
     pub fn is_whole(&self, job: JobId) -> bool
-        ensures yes { OnTrue result (IfSome (job_of self.now job) (λ found. AllowsCommit found.log.entries) × IsSome (job_of self.now job)) }
+        ensures there { OnTrue result (IsSome (job_of self.now job)) }
+        ensures yes { OnTrue result (IfSome (job_of self.now job) (λ found. AllowsCommit found.log.entries)) }
         ensures no { OnFalse result (IfSome (job_of self.now job) (λ found. AllowsCommit found.log.entries → ⊥)) }
     {
         match self.job(job) {
@@ -64,7 +95,7 @@ impl Jobs {
 
     /// Whether a job is there of whose end the client was told.
     pub fn is_reported(&self, job: JobId) -> bool
-        ensures { result ≡ passes (λ found. is_reported found.log.entries) (job_of self.now job) }
+        ensures { result ≡ is_told self.now job }
     {
         match self.job(job) {
             Some(found) => found.log.is_reported(),

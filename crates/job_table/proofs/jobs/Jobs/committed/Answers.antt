@@ -1,10 +1,10 @@
-use Rattle.std.proofs.Common.{◌≡◌, ℕ, false, List, refl, ap, sym, ◌∙◌}
-use Rattle.copy_model.specs.Job.{Committed, has_ended, AllowsCommit}
+use Rattle.std.proofs.Common.{ℕ, List, refl, ap, sym, ◌∙◌}
+use Rattle.copy_model.specs.Job.{Committed, AllowsCommit}
 use Rattle.job_log.specs.Log.{JobView, with_entry}
 use Rattle.job_table.specs.declared.job.Job.{Job}
 use Rattle.job_table.specs.Table.{is_job}
 use Rattle.job_table.proofs.Tables.{follows_entry}
-use Rattle.job_table.proofs.Writes.{IsFound, search_by, has_job, its, stored_write, seen_write, seen_left}
+use Rattle.job_table.proofs.Writes.{IsFound, search_by, has_job, its, it_runs, stored_write, seen_write, seen_left}
 use Rattle.job_table.proofs.jobs.Jobs.committed.Goals as goal
 
 pub index_mut-requires : goal.index_mut-requires
@@ -14,7 +14,7 @@ pub commit-requires-clause-running : goal.commit-requires-clause-running
 commit-requires-clause-running c =
     let f : IsFound c.self.inside.boot c.self.inside.capacity c.self.inside.made c.self.inside.slots c.self.inside.keys.items c.args.job c.args.self.now c.in-Some.key c.index_mut.result.now =
     record { stored = c.self.invariant; view = c.self.view_is; searched = sym (c.key_of.ensures ∙ ap (λ (ks : List ℕ). search_by (is_job c.self.inside.boot c.args.job) c.self.inside.slots ks) c.as_slice.ensures.value) ∙ c.in-Some.is; value = c.index_mut.ensures.value } in
-    its (λ (j : Job). has_ended j.log.entries ≡ false) f c.requires.running
+    it_runs f c.requires.running
 
 pub commit-requires-clause-landed : goal.commit-requires-clause-landed
 commit-requires-clause-landed c =

@@ -1,10 +1,9 @@
-use Rattle.std.proofs.Common.{◌≡◌, ℕ, true, false, List, refl, ap, sym, ◌∙◌}
+use Rattle.std.proofs.Common.{ℕ, List, refl, ap, sym, ◌∙◌}
 use Rattle.copy_model.specs.Job.{Reported, has_ended, is_reported}
 use Rattle.job_log.specs.Log.{JobView, with_entry}
-use Rattle.job_table.specs.declared.job.Job.{Job}
 use Rattle.job_table.specs.Table.{is_job}
 use Rattle.job_table.proofs.Tables.{follows_entry}
-use Rattle.job_table.proofs.Writes.{IsFound, search_by, has_job, its, stored_write, seen_write, seen_left}
+use Rattle.job_table.proofs.Writes.{IsFound, search_by, has_job, it_passes, it_fails, stored_write, seen_write, seen_left}
 use Rattle.job_table.proofs.jobs.Jobs.reported.Goals as goal
 
 pub index_mut-requires : goal.index_mut-requires
@@ -14,13 +13,13 @@ pub report-requires-clause-ended : goal.report-requires-clause-ended
 report-requires-clause-ended c =
     let f : IsFound c.self.inside.boot c.self.inside.capacity c.self.inside.made c.self.inside.slots c.self.inside.keys.items c.args.job c.args.self.now c.in-Some.key c.index_mut.result.now =
     record { stored = c.self.invariant; view = c.self.view_is; searched = sym (c.key_of.ensures ∙ ap (λ (ks : List ℕ). search_by (is_job c.self.inside.boot c.args.job) c.self.inside.slots ks) c.as_slice.ensures.value) ∙ c.in-Some.is; value = c.index_mut.ensures.value } in
-    its (λ (j : Job). has_ended j.log.entries ≡ true) f c.requires.ended
+    it_passes (λ job. has_ended job.log.entries) f c.requires.ended
 
 pub report-requires-clause-not_reported : goal.report-requires-clause-not_reported
 report-requires-clause-not_reported c =
     let f : IsFound c.self.inside.boot c.self.inside.capacity c.self.inside.made c.self.inside.slots c.self.inside.keys.items c.args.job c.args.self.now c.in-Some.key c.index_mut.result.now =
     record { stored = c.self.invariant; view = c.self.view_is; searched = sym (c.key_of.ensures ∙ ap (λ (ks : List ℕ). search_by (is_job c.self.inside.boot c.args.job) c.self.inside.slots ks) c.as_slice.ensures.value) ∙ c.in-Some.is; value = c.index_mut.ensures.value } in
-    its (λ (j : Job). is_reported j.log.entries ≡ false) f c.requires.not_reported
+    it_fails (λ job. is_reported job.log.entries) f c.requires.not_reported
 
 pub invariant_of-self : goal.invariant_of-self
 invariant_of-self c =
