@@ -26,6 +26,11 @@ pub fn number(words: &[&str], at: usize) -> u32 {
     word(words, at).parse::<u32>().unwrap_or(u32::MAX)
 }
 
+/// The number at a place, of 64 bits, and the greatest where there is none.
+pub fn long(words: &[&str], at: usize) -> u64 {
+    word(words, at).parse::<u64>().unwrap_or(u64::MAX)
+}
+
 /// The bytes of a word in hex; `-` is none.
 pub fn bytes(alloc: Global, word: &str) -> Octets {
     let none = Vec::new(alloc);

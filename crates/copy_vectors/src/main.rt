@@ -1,52 +1,100 @@
-//! Tables of privileges and grants, from standard input: each line is a call and its answer, made by another
+//! Tables of privileges, grants and jobs, from standard input: each line is a call and its answer, made by another
 //! program than this one. Prints each line whose answer is another here, and then how many lines there were.
 //!
 //! A line of privileges is `NAME BYTES ANSWER` (`src/privileges.rt`); a line of grants is `CALL = ANSWER`
-//! (`src/grants.rt`). Bytes are hex, and `-` is none. Empty lines and lines that begin with `#` are passed over.
+//! (`src/grants.rt`), and so is one of jobs (`src/jobs.rt`), behind a line that begins with `# layer jobs`. Bytes are
+//! hex, and `-` is none. Empty lines and other lines that begin with `#` are passed over.
 #![tactic(auto)]
 
 mod fields;
 mod grants;
+mod jobs;
 mod privileges;
 
 use crate::grants::GrantLines;
+use crate::jobs::JobLines;
 use outcome::Mem;
 use std::alloc::Global;
 use std::io;
 
-/// Whether the answer of a line is that of the call.
-fn is_met(alloc: Global, grants: &mut GrantLines, line: &str) -> Mem<bool> {
-    if let Some((call, wanted)) = line.split_once(" = ") {
-        let given = grants.answer(alloc, call)?;
-        return Ok(given.as_str() == wanted);
+/// The tables that the lines speak of.
+#[derive(Drop)]
+struct Tables {
+    grants: GrantLines,
+    jobs: JobLines,
+    in_jobs: bool,
+}
+
+impl Tables {
+    fn new(alloc: Global) -> Mem<Tables> {
+        Ok(Tables {
+            grants: GrantLines::new(alloc)?,
+            jobs: JobLines::new(alloc, 0)?,
+            in_jobs: false,
+        })
     }
-    let words = fields::words(alloc, line)?;
-    match fields::word(words.as_slice(), 0) {
-        "case" => {
-            grants.begin(alloc, fields::number(words.as_slice(), 1))?;
-            Ok(true)
+
+    /// A line that begins with `#` may say of what the next ones speak.
+    fn note(&mut self, line: &str) {
+        if line.starts_with("# layer ") {
+            self.in_jobs = line.starts_with("# layer jobs");
         }
-        "expire" => {
-            grants.expire(u64::from(fields::number(words.as_slice(), 1)));
-            Ok(true)
+    }
+
+    /// Whether the answer of a line is that of the call.
+    fn is_met(&mut self, alloc: Global, line: &str) -> Mem<bool> {
+        let words = fields::words(alloc, line)?;
+        let words = words.as_slice();
+        if self.in_jobs {
+            return self.is_met_by_jobs(alloc, line, words);
         }
-        _ => privileges::is_met(alloc, line),
+        if let Some((call, wanted)) = line.split_once(" = ") {
+            let given = self.grants.answer(alloc, call)?;
+            return Ok(given.as_str() == wanted);
+        }
+        match fields::word(words, 0) {
+            "case" => {
+                self.grants.begin(alloc, fields::number(words, 1))?;
+                Ok(true)
+            }
+            "expire" => {
+                self.grants.expire(u64::from(fields::number(words, 1)));
+                Ok(true)
+            }
+            _ => privileges::is_met(alloc, line),
+        }
+    }
+
+    fn is_met_by_jobs(&mut self, alloc: Global, line: &str, words: &[&str]) -> Mem<bool> {
+        if fields::word(words, 0) == "case" {
+            self.jobs.begin(alloc, fields::long(words, 1))?;
+            return Ok(true);
+        }
+        if let Some((call, wanted)) = line.split_once(" = ") {
+            let given = self.jobs.answer(alloc, call)?;
+            return Ok(given.as_str() == wanted);
+        }
+        self.jobs.is_done(alloc, line)
     }
 }
 
 fn main(rt: HostRuntime) -> io::Result<()> {
-    let Ok(mut grants) = GrantLines::new(rt.alloc()) else {
+    let Ok(mut tables) = Tables::new(rt.alloc()) else {
         println!(rt; "out of memory")?;
         return Ok(());
     };
     let (mut lines, mut others) = (0u32, 0u32);
     for line in rt.lines(rt.alloc()) {
         let line = line?;
-        if line.is_empty() || line.starts_with('#') {
+        if line.starts_with('#') {
+            tables.note(line.as_str());
+            continue;
+        }
+        if line.is_empty() {
             continue;
         }
         lines = lines.saturating_add(1);
-        if is_met(rt.alloc(), &mut grants, line.as_str()) != Ok(true) {
+        if tables.is_met(rt.alloc(), line.as_str()) != Ok(true) {
             others = others.saturating_add(1);
             println!(rt; "{line}")?;
         }
