@@ -1,5 +1,4 @@
 pub mod BitRows
-pub mod Lawful
 pub mod Entries
 pub mod Counts
 pub mod Order

@@ -5,11 +5,11 @@ use Rattle.std.specs.Bool.{OnTrue, OnFalse}
 use Rattle.std.proofs.lemmas.Bool.{cases_eq, eqb-true, eq-eqb, ne_eqb}
 use Rattle.std.proofs.lemmas.List.{get_or-set_same, get_or-set_other}
 use Rattle.copy_model.specs.Job.{Entry, AllowsCommit, Sized, Landed, size_of, is_landing, has_landed, is_end, has_ended, is_report, is_reported, bytes_landed, landed_bytes, chunk_len, chunk_size, chunks_of, IsChunk, Allows, IsLawful}
+use Rattle.copy_model.specs.Marks.{AreSound}
 use Rattle.job_log.specs.Bits.{Flags, flag}
 use Rattle.job_log.specs.declared.chunk.Chunk.{Chunk}
 use Rattle.job_log.specs.Log.{JobView, total_of, have_landed, is_claimed, waits}
 use Rattle.job_log.specs.Kept.{IsKept, count_set, bytes_set, one_if}
-use Rattle.job_log.proofs.Lawful.{lawful_more}
 use Rattle.job_log.proofs.Entries.{first_size, size_of-append, has_landed-append, has_ended-append, is_reported-append, landed_bytes-append, length-more}
 use Rattle.job_log.proofs.Counts.{count_set-le-length, count_set-set, bytes_set-bound, bytes_set-set, bytes_of_all, all_of_bytes, count_none, bytes_none, flag_none, length_none}
 use Rattle.job_log.proofs.Order.{have_landed-one, have_landed-last}
@@ -37,15 +37,19 @@ pub has_room : (consecutive : Bool) (es : List Entry) (claimed landed : Flags) (
 has_room consecutive es claimed landed first len bytes ended reported spare capacity k =
     room_at (is_some len) ended reported _ _ _ spare _ capacity (count_set-le-length landed.flags) k.landed_length k.entries_count k.entries_room k.sized_within
 
+-- an entry that is allowed keeps a log sound
+abbrev pub Grows : Bool → Type 0
+Grows consecutive = (es : List Entry) (e : Entry) → AreSound consecutive es → Allows consecutive es e → AreSound consecutive (es ++ e ∷ [])
+
 -- an entry that neither sizes nor lands
 pub kept_more : (consecutive : Bool) (es : List Entry) (claimed landed : Flags) (first : ℕ) (len : Option ℕ) (bytes : ℕ) (ended reported : Bool) (spare capacity : ℕ)
     (e : Entry) (more : List Entry) (ended_now reported_now : Bool) (capacity_now : ℕ)
-    → IsKept consecutive es claimed landed first len bytes ended reported spare capacity → more ≡ es ++ e ∷ []
+    → Grows consecutive → IsKept consecutive es claimed landed first len bytes ended reported spare capacity → more ≡ es ++ e ∷ []
     → Allows consecutive es e → size_of (e ∷ []) ≡ None → bytes_landed e ≡ 0 → ((off : ℕ) → is_landing off e ≡ false)
     → (ended || is_end e) ≡ ended_now → (reported || is_report e) ≡ reported_now
     → one_if ended_now + one_if reported_now ≡ one_if ended + one_if reported + 1 → capacity ≤ capacity_now
     → IsKept consecutive more claimed landed first len bytes ended_now reported_now spare capacity_now
-kept_more consecutive es claimed landed first len bytes ended reported spare capacity e more ended_now reported_now capacity_now k is allows sizes lands at ends reports ones grows =
+kept_more consecutive es claimed landed first len bytes ended reported spare capacity e more ended_now reported_now capacity_now grow k is allows sizes lands at ends reports ones grows =
     let n = length-more es e in
     let m = ap (λ (l : List Entry). length l) is in
     let b = landed_bytes-append es e in
@@ -53,7 +57,7 @@ kept_more consecutive es claimed landed first len bytes ended reported spare cap
     let same : (off : ℕ) → has_landed more off ≡ has_landed es off =
     λ off. ap (λ (l : List Entry). has_landed l off) is ∙ has_landed-append es e off ∙ ap (λ (x : Bool). has_landed es off || x) (at off) ∙ or_same (has_landed es off) in
     record {
-      lawful = subst (λ (l : List Entry). IsLawful consecutive l) (sym is) (lawful_more consecutive es e k.lawful allows);
+      sound = subst (λ (l : List Entry). AreSound consecutive l) (sym is) (grow es e k.sound allows);
       size_is = ap (λ (l : List Entry). size_of l) is ∙ size_of-append es (e ∷ []) ∙ ap (λ (o : Option ℕ). first_size (size_of es) o) sizes ∙ first_none (size_of es) ∙ k.size_is;
       ended_is = ap (λ (l : List Entry). has_ended l) is ∙ has_ended-append es e ∙ ap (λ (x : Bool). x || is_end e) k.ended_is ∙ ends;
       reported_is = ap (λ (l : List Entry). is_reported l) is ∙ is_reported-append es e ∙ ap (λ (x : Bool). x || is_report e) k.reported_is ∙ reports;
@@ -87,12 +91,12 @@ no_count fs (Some total) is n = absurd (cc)
 -- the range has a length
 pub kept_sized : (consecutive : Bool) (es : List Entry) (claimed landed : Flags) (first : ℕ) (len : Option ℕ) (bytes : ℕ) (ended reported : Bool) (spare capacity : ℕ)
     (total : ℕ) (more : List Entry) (claimed_now landed_now : Flags) (capacity_now : ℕ)
-    → IsKept consecutive es claimed landed first len bytes ended reported spare capacity → more ≡ es ++ Sized total ∷ []
+    → Grows consecutive → IsKept consecutive es claimed landed first len bytes ended reported spare capacity → more ≡ es ++ Sized total ∷ []
     → size_of es ≡ None → has_ended es ≡ false → total ≤ spare
     → claimed_now.flags ≡ replicate (chunks_of total) false → landed_now.flags ≡ replicate (chunks_of total) false
     → claimed.room ≤ claimed_now.room → landed.room ≤ landed_now.room → capacity ≤ capacity_now
     → IsKept consecutive more claimed_now landed_now 0 (Some total) bytes ended reported spare capacity_now
-kept_sized consecutive es claimed landed first len bytes ended reported spare capacity total more claimed_now landed_now capacity_now k is unsized running fits cleared fresh room_one room_two grows =
+kept_sized consecutive es claimed landed first len bytes ended reported spare capacity total more claimed_now landed_now capacity_now grow k is unsized running fits cleared fresh room_one room_two grows =
     let n = length-more es (Sized total) in
     let m = ap (λ (l : List Entry). length l) is in
     let b = landed_bytes-append es (Sized total) in
@@ -102,7 +106,7 @@ kept_sized consecutive es claimed landed first len bytes ended reported spare ca
     let same : (off : ℕ) → has_landed more off ≡ false =
     λ off. ap (λ (l : List Entry). has_landed l off) is ∙ has_landed-append es (Sized total) off ∙ or_same (has_landed es off) ∙ k.none_before none off in
     record {
-      lawful = subst (λ (l : List Entry). IsLawful consecutive l) (sym is) (lawful_more consecutive es (Sized total) k.lawful (unsized, running));
+      sound = subst (λ (l : List Entry). AreSound consecutive l) (sym is) (grow es (Sized total) k.sound (unsized, running));
       size_is = ap (λ (l : List Entry). size_of l) is ∙ size_of-append es (Sized total ∷ []) ∙ ap (λ (o : Option ℕ). first_size o (Some total)) unsized;
       ended_is = ap (λ (l : List Entry). has_ended l) is ∙ has_ended-append es (Sized total) ∙ or_same (has_ended es) ∙ k.ended_is;
       reported_is = ap (λ (l : List Entry). is_reported l) is ∙ is_reported-append es (Sized total) ∙ or_same (is_reported es) ∙ k.reported_is;
@@ -170,13 +174,13 @@ taken_step false claim was t = t
 -- a claimed chunk has landed
 pub kept_landed : (consecutive : Bool) (es : List Entry) (claimed landed : Flags) (first : ℕ) (len : Option ℕ) (bytes : ℕ) (ended reported : Bool) (spare capacity : ℕ)
     (at off size : ℕ) (more : List Entry) (claimed_now landed_now : Flags) (capacity_now : ℕ)
-    → IsKept consecutive es claimed landed first len bytes ended reported spare capacity → more ≡ es ++ Landed off size ∷ []
+    → Grows consecutive → IsKept consecutive es claimed landed first len bytes ended reported spare capacity → more ≡ es ++ Landed off size ∷ []
     → flag claimed.flags at ≡ true → off ≡ at * chunk_size → size ≡ chunk_len (total_of len) off → ended ≡ false
     → (consecutive && not (have_landed es at)) ≡ false
     → claimed_now ≡ record claimed { flags = set claimed.flags at false } → landed_now ≡ record landed { flags = set landed.flags at true }
     → capacity ≤ capacity_now
     → IsKept consecutive more claimed_now landed_now first len (bytes + size) ended reported spare capacity_now
-kept_landed consecutive es claimed landed first len bytes ended reported spare capacity at off size more claimed_now landed_now capacity_now k is claim start size_is running ready cleared marked grows =
+kept_landed consecutive es claimed landed first len bytes ended reported spare capacity at off size more claimed_now landed_now capacity_now grow k is claim start size_is running ready cleared marked grows =
     let within = inside claimed.flags at claim in
     let cl = k.claimed_length in
     let ll = k.landed_length in
@@ -197,8 +201,8 @@ kept_landed consecutive es claimed landed first len bytes ended reported spare c
     let two : (i : ℕ) → flag landed_now.flags i ≡ (if i == at then true else flag landed.flags i) =
     λ i. ap (λ (fs : List Bool). flag fs i) flags_two ∙ set_flag landed.flags at i true (omega arith) (cases_eq i at) in
     record {
-      lawful = subst (λ (l : List Entry). IsLawful consecutive l) (sym is)
-          (lawful_more consecutive es (Landed off size) k.lawful (
+      sound = subst (λ (l : List Entry). AreSound consecutive l) (sym is)
+          (grow es (Landed off size) k.sound (
             record {
               total = total_of len;
               is_sized = k.size_is ∙ sym sized;
@@ -260,7 +264,7 @@ kept_room consecutive es claimed landed first len bytes ended reported spare cap
     let flag_one : (i : ℕ) → flag claimed_now.flags i ≡ flag claimed.flags i = λ i. ap (λ (fs : List Bool). flag fs i) one in
     let flag_two : (i : ℕ) → flag landed_now.flags i ≡ flag landed.flags i = λ i. ap (λ (fs : List Bool). flag fs i) two in
     record {
-      lawful = subst (λ (l : List Entry). IsLawful consecutive l) (sym is) k.lawful;
+      sound = subst (λ (l : List Entry). AreSound consecutive l) (sym is) k.sound;
       size_is = ap (λ (l : List Entry). size_of l) is ∙ k.size_is;
       ended_is = ap (λ (l : List Entry). has_ended l) is ∙ k.ended_is;
       reported_is = ap (λ (l : List Entry). is_reported l) is ∙ k.reported_is;

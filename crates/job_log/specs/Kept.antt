@@ -1,6 +1,7 @@
 -- What the bits and counters of a job's log say of its entries.
 use Rattle.std.specs.Prelude.{◌≡◌, ℕ, suc, ◌+◌, ◌*◌, ◌<◌, ◌≤◌, ◌||◌, Bool, true, false, List, [], ◌∷◌, Option, None, length, is_some, map}
-use Rattle.copy_model.specs.Job.{Entry, Sized, Landed, Stopped, Committed, Reported, size_of, has_landed, has_ended, is_reported, landed_bytes, chunk_len, chunk_size, chunks_of, IsLawful}
+use Rattle.copy_model.specs.Job.{Entry, Sized, Landed, Stopped, Committed, Reported, size_of, has_landed, has_ended, is_reported, landed_bytes, chunk_len, chunk_size, chunks_of}
+use Rattle.copy_model.specs.Marks.{AreSound}
 use Rattle.nfs_base.specs.declared.job.Stop.{Stop}
 use Rattle.job_log.specs.declared.log.Entry.{Entry as Kept}
 use Rattle.job_log.specs.declared.log.Entry.TheVariants.{Sized as sized, Landed as landed, Stopped as stopped, Committed as committed, Reported as reported}
@@ -38,7 +39,7 @@ one_if true = 1
 one_if false = 0
 
 pub record IsKept (consecutive : Bool) (es : List Entry) (claimed landed : Flags) (first : ℕ) (len : Option ℕ) (bytes : ℕ) (ended reported : Bool) (spare capacity : ℕ) : Type 0 where
-  pub lawful : IsLawful consecutive es
+  pub sound : AreSound consecutive es
   pub size_is : size_of es ≡ len
   pub ended_is : has_ended es ≡ ended
   pub reported_is : is_reported es ≡ reported

@@ -4,6 +4,7 @@ ghost use Rattle.copy_model.specs.Job.{Sized, Stopped, Committed, Reported, size
 ghost use Rattle.job_log.specs.Log.{total, is_claimed, waits, landing_of, with_entry, with_claim, landed, after_landing, given_back, sized, IsNextClaim, HasNoClaim, ClaimsAreNew};
 
 use crate::{Bits, Chunk, Landing};
+use copy_model::logs_grow;
 use nfs_base::{CHUNK_SIZE, Stop};
 use outcome::Mem;
 use std::alloc::Global;
@@ -54,6 +55,7 @@ impl JobLog {
     pub fn new(alloc: Global, consecutive: bool) -> Mem<JobLog>
         ensures { IfOk result (λ log. log ≡ record { consecutive = consecutive; entries = []; cause = None; claims = []; spare = 0 }) }
     {
+        logs_grow();
         Ok(JobLog {
             consecutive,
             entries: Vec::with_capacity(alloc, 4)?,
@@ -94,6 +96,7 @@ impl JobLog {
         requires room { len ≤ self.old.spare }
         ensures { self.new ≡ sized self.old len }
     {
+        logs_grow();
         let chunks = chunk_count(len);
         self.claimed.reset(chunks);
         self.landed.reset(chunks);
@@ -190,6 +193,7 @@ impl JobLog {
         requires running { has_ended self.old.entries ≡ false }
         ensures { self.new ≡ landed self.old chunk }
     {
+        logs_grow();
         let at = (chunk.off / CHUNK_SIZE) as usize;
         self.claimed.clear(at);
         self.landed.set(at);
@@ -202,6 +206,7 @@ impl JobLog {
         requires { has_ended self.old.entries ≡ false }
         ensures { self.new ≡ record (with_entry self.old Stopped) { cause = Some cause } }
     {
+        logs_grow();
         self.ended = true;
         self.cause = Some(cause);
         self.entries.push(Entry::Stopped).unwrap();
@@ -213,6 +218,7 @@ impl JobLog {
         requires landed { AllowsCommit self.old.entries }
         ensures { self.new ≡ with_entry self.old Committed }
     {
+        logs_grow();
         self.ended = true;
         self.entries.push(Entry::Committed).unwrap();
     }
@@ -223,6 +229,7 @@ impl JobLog {
         requires not_reported { is_reported self.old.entries ≡ false }
         ensures { self.new ≡ with_entry self.old Reported }
     {
+        logs_grow();
         self.reported = true;
         self.entries.push(Entry::Reported).unwrap();
     }

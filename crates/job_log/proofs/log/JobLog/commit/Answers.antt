@@ -22,6 +22,6 @@ invariant_of-self c =
     let not_ended : c.self.inside.ended ≡ false = sym k.ended_is ∙ running in
     let one : one_if c.self.inside.ended ≡ 0 = ap (λ (b : Bool). one_if b) not_ended in
     let Q : JobView → Type 0 = λ v. AllowsCommit v.entries in
-    kept_more _ (entries_of c.self.inside.entries.items) c.self.inside.claimed c.self.inside.landed _ _ _ c.self.inside.ended c.self.inside.reported _ _ Committed _ _ _ _ k
+    kept_more _ (entries_of c.self.inside.entries.items) c.self.inside.claimed c.self.inside.landed _ _ _ c.self.inside.ended c.self.inside.reported _ _ Committed _ _ _ _ (c.logs_grow.ensures.sound c.self.inside.consecutive) k
     (pushed c.self.inside.entries.items _ kept_entry (is_ok c.push.result) (ap (λ r. is_ok r) c.unwrap.ensures) c.push.ensures.items)
     (subst Q (sym c.self.view_is) c.requires.landed, running) refl refl (λ off. refl) (ap (λ (b : Bool). b || true) not_ended) (or_same c.self.inside.reported) (omega arith) c.push.ensures.capacity

@@ -6,4 +6,4 @@ use Rattle.job_log.proofs.log.JobLog.landed.Goals as goal
 pub returns-clause-lawful : goal.returns-clause-lawful
 returns-clause-lawful c =
     let P : JobView → Type 0 = λ v. IsLawful v.consecutive v.entries in
-    subst P c.self.view_is c.self.invariant.lawful
+    subst P c.self.view_is c.self.invariant.sound.lawful

@@ -32,7 +32,7 @@ invariant_of-self c =
     let R : JobView → Type 0 = λ v. waits v c.args.chunk ≡ false in
     let m = claim_means (view_of c.self.inside.consecutive c.self.inside.entries.items c.self.inside.cause c.self.inside.claimed c.self.inside.spare) c.args.chunk c.self.inside.len k.size_is (subst P (sym c.self.view_is) c.requires.claimed) in
     let len = c.from.ensures in
-    kept_landed _ (entries_of c.self.inside.entries.items) c.self.inside.claimed c.self.inside.landed _ _ _ _ _ _ _ (c.args.chunk.off / 65536) c.args.chunk.off c.from.result _ c.clear.new.self c.set.new.self _ c.self.invariant
+    kept_landed _ (entries_of c.self.inside.entries.items) c.self.inside.claimed c.self.inside.landed _ _ _ _ _ _ _ (c.args.chunk.off / 65536) c.args.chunk.off c.from.result _ c.clear.new.self c.set.new.self _ (c.logs_grow.ensures.sound c.self.inside.consecutive) c.self.invariant
     (pushed c.self.inside.entries.items _ (kept_entry c.args.chunk) (is_ok c.push.result) (ap (λ r. is_ok r) c.unwrap.ensures) c.push.ensures.items
     ∙ ap (λ (n : ℕ). entries_of c.self.inside.entries.items ++ Landed c.args.chunk.off n ∷ []) (sym len))
     m.claim m.start (len ∙ m.size_is) (sym k.ended_is ∙ subst Q (sym c.self.view_is) c.requires.running) (subst R (sym c.self.view_is) c.requires.ready) c.clear.ensures c.set.ensures c.push.ensures.capacity

@@ -22,6 +22,6 @@ invariant_of-self c =
     let new = subst Q (sym c.self.view_is) c.requires.not_reported in
     let not_told : c.self.inside.reported ≡ false = sym k.reported_is ∙ new in
     let one : one_if c.self.inside.reported ≡ 0 = ap (λ (b : Bool). one_if b) not_told in
-    kept_more _ (entries_of c.self.inside.entries.items) c.self.inside.claimed c.self.inside.landed _ _ _ c.self.inside.ended c.self.inside.reported _ _ Reported _ _ _ _ k
+    kept_more _ (entries_of c.self.inside.entries.items) c.self.inside.claimed c.self.inside.landed _ _ _ c.self.inside.ended c.self.inside.reported _ _ Reported _ _ _ _ (c.logs_grow.ensures.sound c.self.inside.consecutive) k
     (pushed c.self.inside.entries.items _ kept_entry (is_ok c.push.result) (ap (λ r. is_ok r) c.unwrap.ensures) c.push.ensures.items)
     (subst P (sym c.self.view_is) c.requires.ended, new) refl refl (λ off. refl) (or_same c.self.inside.ended) (ap (λ (b : Bool). b || true) not_told) (omega arith) c.push.ensures.capacity

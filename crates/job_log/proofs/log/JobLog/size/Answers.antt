@@ -14,6 +14,6 @@ invariant_of-self c =
     let Q : JobView → Type 0 = λ v. size_of v.entries ≡ None in
     let spare_is = ap (λ (v : JobView). v.spare) c.self.view_is in
     let room = c.requires.room in
-    kept_sized _ (entries_of c.self.inside.entries.items) c.self.inside.claimed c.self.inside.landed _ _ _ _ _ _ _ c.args.len _ c.reset.new.self c.reset-2.new.self _ c.self.invariant
+    kept_sized _ (entries_of c.self.inside.entries.items) c.self.inside.claimed c.self.inside.landed _ _ _ _ _ _ _ c.args.len _ c.reset.new.self c.reset-2.new.self _ (c.logs_grow.ensures.sound c.self.inside.consecutive) c.self.invariant
     (pushed c.self.inside.entries.items _ (kept_entry c.args.len) (is_ok c.push.result) (ap (λ r. is_ok r) c.unwrap.ensures) c.push.ensures.items)
     (subst Q (sym c.self.view_is) c.requires.not_sized) (subst P (sym c.self.view_is) c.requires.running) (omega arith) (c.reset.ensures.cleared ∙ ap (λ (n : ℕ). replicate n false) c.chunk_count-chunks.ensures) (c.reset-2.ensures.cleared ∙ ap (λ (n : ℕ). replicate n false) c.chunk_count-chunks.ensures) c.reset.ensures.stays c.reset-2.ensures.stays c.push.ensures.capacity

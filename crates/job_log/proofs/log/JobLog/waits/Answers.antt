@@ -15,4 +15,4 @@ returns c =
     let within = claim_inside c.self.inside.claimed.flags (c.args.chunk.off / 65536) m.claim in
     let count = k.claimed_length in
     subst Q c.self.view_is
-    (waits_for_last v c.args.chunk c.get.result c.if-not-self.false k.lawful (omega arith) (c.get.ensures ∙ k.landed_is (c.args.chunk.off / 65536 - 1) (omega arith)))
+    (waits_for_last v c.args.chunk c.get.result c.if-not-self.false k.sound.lawful (omega arith) (c.get.ensures ∙ k.landed_is (c.args.chunk.off / 65536 - 1) (omega arith)))
