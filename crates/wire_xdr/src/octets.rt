@@ -33,6 +33,14 @@ impl Octets {
         Octets { bytes }
     }
 
+    /// The bytes by themselves, which this gives up without copying.
+    pub fn into_vec(self) -> Vec<u8>
+        ensures { result.items ≡ self }
+    {
+        let Octets { bytes } = self;
+        bytes
+    }
+
     /// The bytes, lent.
     pub fn as_slice(&self) -> &[u8]
         ensures { result.now ≡ self.now }

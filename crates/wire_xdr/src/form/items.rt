@@ -42,6 +42,14 @@ impl<T> Items<T> {
         Items { items }
     }
 
+    /// The values by themselves, which this gives up without copying: so what they hold may be moved on.
+    pub fn into_vec(self) -> Vec<T>
+        ensures { result.items ≡ self }
+    {
+        let Items { items } = self;
+        items
+    }
+
     /// The values, lent.
     pub fn as_slice(&self) -> &[T]
         ensures { result.now ≡ self.now }
