@@ -10,9 +10,6 @@ pub const MOST_FILES: u32 = 64;
 /// How many blocks a file may have, and how many all files of a volume may have together.
 pub const MOST_BLOCKS: u32 = 16_384;
 
-/// How many bytes a record may have, the marks of its fragments apart.
-pub const RECORD_LIMIT: u32 = 73_728;
-
 /// How many bytes one READ or WRITE moves; one that asks for more moves so many.
 pub const DATA_LIMIT: u32 = 65_536;
 

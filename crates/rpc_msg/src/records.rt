@@ -7,7 +7,7 @@ use outcome::Mem;
 use std::alloc::Global;
 use std::marker::Model;
 
-/// No record has more bytes than this.
+/// No record has more bytes than this, the marks of its fragments apart (own limit).
 pub const RECORD_LIMIT: u32 = 73_728;
 
 // What the top bit of a header is worth: it marks the last fragment.

@@ -1,6 +1,7 @@
 ghost use Rattle.std.specs.Prelude.{◌≡◌, ◌==◌, ◌<◌, ◌≤◌, IfOk, filter, length, not, position};
 ghost use Rattle.sess_slots.specs.Table.{is_among, session_id, has_id};
-ghost use Rattle.nfs_base.specs.declared.limits.TheConstants.{SLOTS, RECORD_LIMIT};
+ghost use Rattle.nfs_base.specs.declared.limits.TheConstants.{SLOTS};
+ghost use Rattle.rpc_msg.specs.declared.records.TheConstants.{RECORD_LIMIT};
 ghost use Rattle.sess_slots.specs.Begins.{reply_kept};
 ghost use Rattle.sess_slots.specs.Clients.{new_session};
 

@@ -1,5 +1,6 @@
 ghost use Rattle.std.specs.Prelude.{◌≡◌, ◌==◌, ◌+◌, ◌<◌, ◌≤◌, ◌^◌, [], ℕ, length, Some, IsSome, IfOk, option_copied};
-ghost use Rattle.nfs_base.specs.declared.limits.TheConstants.{SLOTS, RECORD_LIMIT};
+ghost use Rattle.nfs_base.specs.declared.limits.TheConstants.{SLOTS};
+ghost use Rattle.rpc_msg.specs.declared.records.TheConstants.{RECORD_LIMIT};
 ghost use Rattle.sess_slots.specs.Table.{SessionTable, numbers_made, client_of_id, session_numbered, session_of_id, without};
 ghost use Rattle.sess_slots.specs.Begins.{IsThere, begin_of, client_at, reply_at, back_at, finished, has_lapsed};
 

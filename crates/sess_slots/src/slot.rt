@@ -1,5 +1,6 @@
 ghost use Rattle.std.specs.Prelude.{◌≡◌, ◌+◌, ◌<◌, ◌≤◌, IfOk, IfSome, length, replicate, option_map, option_copied};
-ghost use Rattle.nfs_base.specs.declared.limits.TheConstants.{SLOTS, RECORD_LIMIT};
+ghost use Rattle.nfs_base.specs.declared.limits.TheConstants.{SLOTS};
+ghost use Rattle.rpc_msg.specs.declared.records.TheConstants.{RECORD_LIMIT};
 ghost use Rattle.sess_slots.specs.Slots.{next_number, fresh_slot, begin_at, slot_at, slots_after};
 
 use crate::{Begin, Place};
