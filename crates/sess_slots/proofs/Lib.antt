@@ -3,3 +3,5 @@ pub mod Runs
 pub mod There
 pub mod Lasting
 pub mod Rising
+mod Counting
+mod Pairs

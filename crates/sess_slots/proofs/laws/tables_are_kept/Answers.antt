@@ -4,6 +4,15 @@ use Rattle.sess_slots.proofs.Rising.{rising_apart}
 use Rattle.sess_slots.proofs.Lasting.{all_kept, new_kept}
 use Rattle.sess_slots.proofs.laws.tables_are_kept.Goals as goal
 
+pub returns-clause-clients : goal.returns-clause-clients
+returns-clause-clients c boot calls = (all_kept (no_clients boot) calls (new_kept boot)).paired.few
+
+pub returns-clause-confirmed : goal.returns-clause-confirmed
+returns-clause-confirmed c boot calls principal owner = (all_kept (no_clients boot) calls (new_kept boot)).paired.confirmed principal owner
+
+pub returns-clause-unconfirmed : goal.returns-clause-unconfirmed
+returns-clause-unconfirmed c boot calls principal owner = (all_kept (no_clients boot) calls (new_kept boot)).paired.unconfirmed principal owner
+
 pub returns-clause-sessions : goal.returns-clause-sessions
 returns-clause-sessions c boot calls = (all_kept (no_clients boot) calls (new_kept boot)).most
 
