@@ -1,4 +1,6 @@
+pub mod ArgLengthLaws
 pub mod Args
+pub mod CallbackLengthLaws
 pub mod Callbacks
 pub mod Files
 pub mod Free

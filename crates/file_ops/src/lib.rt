@@ -27,7 +27,7 @@ pub use callbacks::{
     read_cb_seq_res, write_cb_seq, write_cb_seq_res,
 };
 pub use files::{Attributes, CloseArgs, CommitArgs, ReadArgs, ReadDone, WriteArgs, WriteDone};
-pub use lengths::operations_have_lengths;
+pub use lengths::{callbacks_have_lengths, operations_have_lengths};
 pub use opening::{Claim, OpenArgs, OpenDone, OpenHow};
 pub use operation::{
     OP_CB_SEQUENCE, OP_CLOSE, OP_COMMIT, OP_CREATE_SESSION, OP_DESTROY_CLIENTID,

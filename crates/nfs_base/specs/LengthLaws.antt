@@ -1,18 +1,14 @@
 -- How many bytes the spellings of the common types have.
-use Rattle.std.proofs.Common.{◌≡◌, ℕ, ◌+◌, ◌*◌, ◌≤◌, List, [], ◌++◌, length, refl, arith, lit<}
+use Rattle.std.proofs.Common.{◌≡◌, ℕ, ◌+◌, ◌*◌, [], length, refl, arith, lit<}
 use Rattle.std.proofs.lemmas.List.{length-append}
-use Rattle.wire_xdr.specs.Words.{padding, word_bytes, hyper_bytes, signed_bytes, flag_bytes, fixed_bytes, opaque_bytes}
+use Rattle.wire_xdr.specs.Words.{padding, word_bytes, opaque_bytes}
 use Rattle.wire_xdr.specs.Form.{Form}
-use Rattle.wire_xdr.specs.Forms.{word, hyper, fixed, void, both, option}
-use Rattle.wire_xdr.specs.Arms.{Case, body_spell, body_Fits}
-use Rattle.wire_xdr.specs.LengthLaws.{IsBounded, AreBounded, word_length, hyper_length, signed_length, fixed_length, opaque_length, padding_below, opaque_bounded, opaque_between_bounded, option_bounded, union_bounded, union_or_bounded}
+use Rattle.wire_xdr.specs.Forms.{fixed, void}
+use Rattle.wire_xdr.specs.LengthLaws.{IsBounded, AreBounded, word_length, hyper_length, signed_length, fixed_length, opaque_bounded, opaque_between_bounded, option_bounded, union_bounded, union_or_bounded}
 use Rattle.nfs_base.specs.declared.limits.TheConstants.{HANDLE_LIMIT, TEXT_LIMIT}
-use Rattle.nfs_base.specs.declared.answer.Answer.{Answer}
 use Rattle.nfs_base.specs.declared.answer.Answer.TheVariants.{Done, Refused}
 use Rattle.nfs_base.specs.declared.status.Status.{Status}
-use Rattle.nfs_base.specs.declared.net_loc.NetLoc.{NetLoc}
 use Rattle.nfs_base.specs.declared.net_loc.NetLoc.TheVariants.{Name, Url, Addr}
-use Rattle.nfs_base.specs.declared.written.Stability.{Stability}
 use Rattle.nfs_base.specs.declared.written.Stability.TheVariants.{Unstable, DataSync, FileSync}
 use Rattle.nfs_base.specs.Forms.{status, state_id, handle, time, text, net_loc_case, net_loc_arms, net_loc_listed, net_loc, stability_case, stability_arms, stability_listed, stability, write_response, answer_case, answer_arms, refused_with, answer_picked, answer}
 

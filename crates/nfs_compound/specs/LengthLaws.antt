@@ -1,12 +1,10 @@
 -- How many bytes a reply has, by its results.
-use Rattle.std.proofs.Common.{ℕ, ◌+◌, ◌≤◌, List, [], ◌∷◌, ◌++◌, length, arith, lit<}
+use Rattle.std.proofs.Common.{ℕ, ◌+◌, ◌≤◌, ◌++◌, length, arith, lit<}
 use Rattle.std.specs.Prelude.{sum_by}
-use Rattle.std.specs.List.{AllByRecursion}
 use Rattle.std.proofs.lemmas.List.{length-append}
-use Rattle.std.proofs.lemmas.List.Sums.{sum_by-cons}
 use Rattle.wire_xdr.specs.Words.{word_bytes, opaque_bytes}
 use Rattle.wire_xdr.specs.Parts.{list_spell}
-use Rattle.wire_xdr.specs.LengthLaws.{word_length, list_length, opaque_bounded}
+use Rattle.wire_xdr.specs.LengthLaws.{IsSized, word_length, list_sized, opaque_bounded}
 use Rattle.nfs_base.specs.declared.limits.TheConstants.{TEXT_LIMIT}
 use Rattle.nfs_base.specs.Forms.{status}
 use Rattle.nfs_base.specs.LengthLaws.{status_bounded}
@@ -25,7 +23,7 @@ res_size (Copy v) = 36 + places_most
 res_size (File v) = 4 + file_res_size v
 res_size (Bare op s) = 8
 
-pub outcome_sized : (v : Res) → outcome.Fits v → length (outcome.spell v) ≤ res_size v
+pub outcome_sized : IsSized outcome res_size
 unfolding outcome res_body
 outcome_sized (Copy v) fits =
     let n = copy_res_number v in
@@ -34,11 +32,6 @@ outcome_sized (File v) fits =
     let n = file_res_number v in
     omega (arith, length-append (word_bytes n) ((file_res n).spell v), word_length n, file_res_sized n v fits.1.2)
 outcome_sized (Bare op s) fits = omega (arith, length-append (word_bytes op) (failure.spell s), word_length op, status_bounded s fits.1.3.1)
-
-sum_sized : (vs : List Res) → AllByRecursion outcome.Fits vs → sum_by (λ v. length (outcome.spell v)) vs ≤ sum_by res_size vs
-sum_sized [] fits = omega arith
-sum_sized (v ∷ vs) fits =
-    omega (arith, outcome_sized v fits.0, sum_sized vs fits.1, sum_by-cons (λ r. length (outcome.spell r)) v vs, sum_by-cons res_size v vs)
 
 -- a status, a tag, and the results behind their count
 pub reply_sized : (v : Reply) → reply.Fits v → length (reply.spell v) ≤ TEXT_LIMIT + 15 + sum_by res_size v.results
@@ -50,6 +43,5 @@ reply_sized v fits =
       length-append (opaque_bytes v.tag) (list_spell outcome v.results),
       status_bounded v.status fits.0,
       opaque_bounded TEXT_LIMIT (lit< tt) v.tag fits.1.0,
-      list_length outcome v.results,
-      sum_sized v.results fits.1.1.1,
+      list_sized outcome res_size outcome_sized v.results fits.1.1.1,
     )

@@ -1,4 +1,5 @@
 pub mod Body
+pub mod CallLengthLaws
 pub mod Callbacks
 pub mod Compounds
 pub mod LengthLaws

@@ -85,7 +85,7 @@ fn evaluate<A: Actor>(
     ensures number { IfOk result (λ answer. answer.0.number < 2 ^ 32) }
     ensures fits { IfOk result (λ answer. AllByRecursion outcome.Fits answer.1) }
     ensures err { OnErr result (BreaksOff A.acts actor.old nothing_held compound.now.ops actor.new) }
-    ensures succeeds { A.wants_memory ≡ false → IsOk result }
+    ensures kept { A.wants_memory ≡ false → OnErr result (actor.new ≡ actor.old) }
 {
     let ops = compound.ops.as_slice();
     let mut held = Held {

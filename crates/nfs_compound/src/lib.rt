@@ -34,7 +34,7 @@ pub use compound::{Compound, read_compound, write_compound};
 pub use evaluation::{Actor, walk};
 pub use held::Held;
 pub use laws::{compounds_are_spelled, written_compounds_are_read};
-pub use lengths::replies_have_lengths;
+pub use lengths::{compounds_have_lengths, replies_have_lengths};
 pub use op::{Op, name_of};
 pub use operation::{Class, Operation};
 pub use reply::{Reply, read_reply_body, write_reply_body};

@@ -1,8 +1,7 @@
 -- How many bytes spellings have. A form is bounded by n where no value of it has a longer spelling: words
 -- have their own lengths, and what is made of smaller forms has the bound made of theirs.
-use Rattle.std.proofs.Common.{◌≡◌, ℕ, suc, ◌+◌, ◌-◌, ◌*◌, ◌%◌, ◌<◌, ◌≤◌, ◌^◌, Bool, true, false, cond, List, [], ◌∷◌, ◌++◌, length, replicate, Option, Some, None, refl, ap, ◌∙◌, arith}
+use Rattle.std.proofs.Common.{◌≡◌, ℕ, ◌+◌, ◌-◌, ◌*◌, ◌<◌, ◌≤◌, ◌^◌, Bool, true, false, List, [], ◌∷◌, length, replicate, Some, None, refl, arith}
 use Rattle.std.specs.Prelude.{ℤ, sum_by}
-use Rattle.std.specs.Int.{w32, w64, to_be_bytes, cast_unsigned}
 use Rattle.std.specs.List.{flat_map, AllByRecursion}
 use Rattle.std.proofs.lemmas.List.{length-append, length-replicate}
 use Rattle.std.proofs.lemmas.List.Sums.{sum_by-cons}
@@ -102,7 +101,7 @@ unfolding list_spell
 list_length a vs = omega (arith, length-append (word_bytes (length vs)) (flat_map a.spell vs), word_length (length vs), flat_length a.spell vs)
 
 -- so many values, each of at most n bytes
-sum_bounded : {A : Type 0} (a : Form A) (n : ℕ) → IsBounded a n → (vs : List A) → AllByRecursion a.Fits vs → sum_by (λ v. length (a.spell v)) vs ≤ length vs * n
+pub sum_bounded : {A : Type 0} (a : Form A) (n : ℕ) → IsBounded a n → (vs : List A) → AllByRecursion a.Fits vs → sum_by (λ v. length (a.spell v)) vs ≤ length vs * n
 sum_bounded a n bound [] fits = omega arith
 sum_bounded a n bound (v ∷ vs) fits =
     omega (arith, bound v fits.0, sum_bounded a n bound vs fits.1, sum_by-cons (λ v. length (a.spell v)) v vs, suc-mul (length vs) n)
@@ -127,3 +126,28 @@ union_bounded {V} {case} arms law n bound v fits = omega (arith, length-append (
 
 pub union_or_bounded : {V B : Type 0} {case : V → Case V} (arms : List (ArmOf case)) (form : ℕ → Form B) (make : ℕ → B → V) (made : (n : ℕ) (body : B) → case (make n body) ≡ case_of false (other_arm form make n) body) (law : (v : V) → IsPicked arms (other_arm form make) v) (n : ℕ) → AreBounded case n → IsBounded (union_or arms form make made law) (4 + n)
 union_or_bounded {V} {B} {case} arms form make made law n bound v fits = omega (arith, length-append (word_bytes (case v).number) (case v).spell, word_length (case v).number, bound v fits.2)
+
+-- ---- by the parts of a value
+
+-- no spelling has more bytes than is said of its value
+abbrev pub IsSized : {A : Type 0} → Form A → (A → ℕ) → Type 0
+IsSized {A} form size = (v : A) → form.Fits v → length (form.spell v) ≤ size v
+
+-- nor what the arm of a value holds
+abbrev pub AreSized : {V : Type 0} → (V → Case V) → (V → ℕ) → Type 0
+AreSized {V} case size = (v : V) → body_Fits case v → length (body_spell case v) ≤ size v
+
+sum_sized : {A : Type 0} (a : Form A) (size : A → ℕ) → IsSized a size → (vs : List A) → AllByRecursion a.Fits vs → sum_by (λ v. length (a.spell v)) vs ≤ sum_by size vs
+sum_sized a size sized [] fits = omega arith
+sum_sized a size sized (v ∷ vs) fits =
+    omega (arith, sized v fits.0, sum_sized a size sized vs fits.1, sum_by-cons (λ v. length (a.spell v)) v vs, sum_by-cons size v vs)
+
+-- a count, and the values
+pub list_sized : {A : Type 0} (a : Form A) (size : A → ℕ) → IsSized a size → (vs : List A) → AllByRecursion a.Fits vs → length (list_spell a vs) ≤ 4 + sum_by size vs
+list_sized a size sized vs fits = omega (arith, list_length a vs, sum_sized a size sized vs fits)
+
+pub union_sized : {V : Type 0} {case : V → Case V} (arms : List (ArmOf case)) (law : (v : V) → IsListed arms v) (size : V → ℕ) → AreSized case size → IsSized (union arms law) (λ v. 4 + size v)
+union_sized {V} {case} arms law size sized v fits = omega (arith, length-append (word_bytes (case v).number) (case v).spell, word_length (case v).number, sized v fits.1)
+
+pub union_or_sized : {V B : Type 0} {case : V → Case V} (arms : List (ArmOf case)) (form : ℕ → Form B) (make : ℕ → B → V) (made : (n : ℕ) (body : B) → case (make n body) ≡ case_of false (other_arm form make n) body) (law : (v : V) → IsPicked arms (other_arm form make) v) (size : V → ℕ) → AreSized case size → IsSized (union_or arms form make made law) (λ v. 4 + size v)
+union_or_sized {V} {B} {case} arms form make made law size sized v fits = omega (arith, length-append (word_bytes (case v).number) (case v).spell, word_length (case v).number, sized v fits.2)
