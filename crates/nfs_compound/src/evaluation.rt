@@ -71,6 +71,7 @@ pub fn walk<A: Actor>(alloc: Global, compound: &Compound, actor: &mut A) -> Mem<
 
 /// The results of a compound's operations, and the status of the last one. There is room for one result more
 /// than there are operations.
+#[tactic(auto, using(crate::proofs::Walking::breaks))]
 fn evaluate<A: Actor>(
     alloc: Global,
     compound: &Compound,
