@@ -1,0 +1,46 @@
+//! Tables over XDR, crate `wire_xdr`, from standard input (`row_text`): the example of RFC 4506 section 7 and types of
+//! each other kind, read and written, with the place of every refusal. Behind the count of lines stand words as they
+//! are written.
+//!
+//! `sample.rt` and `specs/Samples.antt` show how a type is given its form: a struct, unions with and without a
+//! default arm, a list with a limit, a value that may be missing, and a type whose number stands elsewhere.
+#![tactic(auto)]
+
+mod laws;
+mod readings;
+mod sample;
+mod words;
+
+use crate::sample::{File, Folder, Label, Outcome};
+use outcome::Mem;
+use row_text::{Rows, bytes, compare, number, word, words};
+use std::alloc::Global;
+use std::io;
+
+#[derive(Drop)]
+struct XdrRows;
+
+impl Rows for XdrRows {
+    fn answer(&mut self, alloc: Global, call: &str) -> Mem<String> {
+        let words = words(alloc, call)?;
+        let limit = number(&words, 1);
+        match word(&words, 0) {
+            "file" => readings::told::<File>(alloc, &bytes(alloc, &words, 1)?),
+            "folder" => readings::told::<Folder>(alloc, &bytes(alloc, &words, 1)?),
+            "label" => readings::told::<Label>(alloc, &bytes(alloc, &words, 1)?),
+            "outcome" => readings::told::<Outcome>(alloc, &bytes(alloc, &words, 1)?),
+            "request" => readings::request(alloc, limit, &bytes(alloc, &words, 2)?),
+            "owner" => readings::owner(alloc, &bytes(alloc, &words, 1)?),
+            "all_file" => readings::all::<File>(alloc, &bytes(alloc, &words, 1)?),
+            "all_word" => readings::all::<u32>(alloc, &bytes(alloc, &words, 1)?),
+            "words" => words::read(alloc, &bytes(alloc, &words, 1)?),
+            kind => words::fault(alloc, kind, limit, &bytes(alloc, &words, 2)?),
+        }
+    }
+}
+
+fn main(rt: HostRuntime) -> io::Result<()> {
+    compare(&rt, &mut XdrRows)?;
+    laws::hold();
+    words::print(&rt)
+}
