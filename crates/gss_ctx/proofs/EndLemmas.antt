@@ -13,6 +13,7 @@ use Rattle.rpc_msg.specs.declared.gss_cred.GssCred.{GssCred}
 use Rattle.rpc_msg.specs.declared.messages.RpcFault.{RpcFault}
 use Rattle.rpc_msg.specs.declared.reply.ReplyHead.{ReplyHead}
 use Rattle.rpc_msg.specs.declared.reply.ReplyHead.TheVariants as heads
+use Rattle.rpc_msg.specs.declared.reply.Stat.{Stat}
 use Rattle.rpc_msg.specs.declared.reply.Stat.TheVariants.{Success}
 use Rattle.gss_ctx.specs.declared.context.Entry.{Entry}
 use Rattle.gss_ctx.specs.declared.admit.Admit.{Admit}
@@ -21,8 +22,8 @@ use Rattle.gss_ctx.specs.declared.admit.Why.TheVariants.{Repeat, Old}
 use Rattle.gss_ctx.specs.declared.admit.Verdict.{Verdict}
 use Rattle.gss_ctx.specs.declared.caller.Checked.TheVariants as checked
 use Rattle.gss_ctx.specs.Window.{is_below, has}
-use Rattle.gss_ctx.specs.Table.{Table, live_entry}
-use Rattle.gss_ctx.specs.Seals.{Mic, cred_of, header_of, is_code, code_auth, sealed_body, unsealed, reply_code, sealed_reply}
+use Rattle.gss_ctx.specs.Table.{ContextTable, live_entry}
+use Rattle.gss_ctx.specs.Seals.{Mic, cred_of, header_of, is_code, code_auth, sealed_body, unsealed, reply_code, reply_front, sealed_reply}
 use Rattle.gss_ctx.specs.Admission.{first_failing, is_served, may_create, number_rows, service_rows, seen_answer, body_answer, unless_denied, past_number, on_entry, on_cred, unseen, verdict_of}
 use Rattle.gss_ctx.specs.Calls.{Side, call_cred, verified, sealed_of}
 use Rattle.gss_ctx.specs.Ends.{IsOpenTo, next_head, sent_head, verdict_read, verdict_on, admission}
@@ -98,7 +99,7 @@ or_none : (a b : Bool) → (a || b) ≡ false → (a ≡ false) × (b ≡ false)
 or_none true b h = absurd cc
 or_none false b h = (refl, h)
 
-rows_pass : {P : Type 0} (mic : Mic) (now : ℕ) (table : Table P) (side : Side) (head : CallHead) (asked : GssCred) (entry : Entry P) → IsOpenTo now table side asked entry
+rows_pass : {P : Type 0} (mic : Mic) (now : ℕ) (table : ContextTable P) (side : Side) (head : CallHead) (asked : GssCred) (entry : Entry P) → IsOpenTo now table side asked entry
     → first_failing (number_rows mic (sent_head mic side head asked) (call_cred side.handle side.next asked) entry) ≡ None
 rows_pass mic now table side head asked entry is =
     let sent = sent_head mic side head asked in
@@ -112,7 +113,7 @@ rows_pass mic now table side head asked entry is =
 services_pass : {P : Type 0} (side : Side) (asked : GssCred) (entry : Entry P) → may_create (call_cred side.handle side.next asked) entry ≡ true → first_failing (service_rows (call_cred side.handle side.next asked) entry) ≡ None
 services_pass side asked entry creates = ap (λ (b : Bool). if b then None else Some (Denied 1)) creates
 
-pub sealed_is_admitted : {P : Type 0} (mic : Mic) (now : ℕ) (table : Table P) (side : Side) (head : CallHead) (asked : GssCred) (args : List ℕ) (entry : Entry P)
+pub sealed_is_admitted : {P : Type 0} (mic : Mic) (now : ℕ) (table : ContextTable P) (side : Side) (head : CallHead) (asked : GssCred) (args : List ℕ) (entry : Entry P)
     → ((key : List ℕ) (side : ℕ) (bytes : List ℕ) → length (mic key side bytes) ≡ 32) → IsOpenTo now table side asked entry → call.Fits head → length args + 4 < 4294967296
     → verdict_on mic now (sealed_of mic side (next_head side head asked) args).bytes table ≡ Ok (admission entry.number side.next args)
 unfolding verdict_of
@@ -149,26 +150,30 @@ reply_read head body fits =
     ∙ ap behind (reply.lawful.again 0 head body fits)
     ∙ ap (λ (n : ℕ). Ok (head, n)) (zero-add (length (reply.spell head)))
 
+pub front_fits : (xid : ℕ) (code : List ℕ) (what : Stat) → xid < 2 ^ 32 → length code ≡ 32 → stat.Fits what → reply.Fits (heads.Accepted xid (code_auth code) what)
+unfolding reply auth
+front_fits xid code what small len fits = (small, (lit< tt, (lit< tt, ((lit< tt, omega arith), fits))))
+
 result_fits : (xid : ℕ) (code : List ℕ) → xid < 2 ^ 32 → length code ≡ 32 → reply.Fits (heads.Accepted xid (code_auth code) Success)
-unfolding reply auth stat
-result_fits xid code small len = (small, (lit< tt, (lit< tt, ((lit< tt, omega arith), (lit< tt, tt)))))
+unfolding stat
+result_fits xid code small len = front_fits xid code Success small len (lit< tt, tt)
 
 code_same : (mic : Mic) (key : List ℕ) (head : CallHead) (seq : ℕ) → reply_code mic key (verified mic key head) seq ≡ reply_code mic key head seq
 unfolding reply_code header_of
 code_same mic key head seq = refl
 
-code_sized : (mic : Mic) (key : List ℕ) (head : CallHead) (seq : ℕ) → ((key : List ℕ) (side : ℕ) (bytes : List ℕ) → length (mic key side bytes) ≡ 32) → length (reply_code mic key head seq) ≡ 32
+pub code_sized : (mic : Mic) (key : List ℕ) (head : CallHead) (seq : ℕ) → ((key : List ℕ) (side : ℕ) (bytes : List ℕ) → length (mic key side bytes) ≡ 32) → length (reply_code mic key head seq) ≡ 32
 unfolding reply_code
 code_sized mic key head seq sized = sized key 1 _
 
-xid_of : (head : CallHead) → call.Fits head → head.xid < 2 ^ 32
+pub xid_of : (head : CallHead) → call.Fits head → head.xid < 2 ^ 32
 unfolding call
 xid_of head fits = fits.0
 
 pub sealed_is_result : (mic : Mic) (side : Side) (head : CallHead) (asked : GssCred) (args result : List ℕ)
     → ((key : List ℕ) (side : ℕ) (bytes : List ℕ) → length (mic key side bytes) ≡ 32) → call.Fits head → length result + 4 < 4294967296
     → checked_of mic side.key (sealed_of mic side (next_head side head asked) args).awaited (sealed_reply mic side.key (sent_head mic side head asked) side.next result) ≡ checked.Result result
-unfolding checked_of sealed_reply
+unfolding checked_of sealed_reply reply_front reply
 sealed_is_result mic side head asked args result sized fits small =
     let sent = sent_head mic side head asked in
     let code = reply_code mic side.key sent side.next in

@@ -5,3 +5,5 @@ pub mod SealLemmas
 pub mod CredLemmas
 pub mod MessageLemmas
 pub mod EndLemmas
+pub mod KeptLemmas
+pub mod NamedLemmas

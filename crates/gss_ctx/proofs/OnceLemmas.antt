@@ -11,10 +11,10 @@ use Rattle.gss_ctx.specs.declared.admit.Admit.TheVariants.{Admitted, Dropped, De
 use Rattle.gss_ctx.specs.declared.admit.Verdict.{Verdict}
 use Rattle.gss_ctx.specs.declared.admit.Why.TheVariants.{Repeat, Old}
 use Rattle.gss_ctx.specs.Window.{Seen, is_below, has, window_of, noted}
-use Rattle.gss_ctx.specs.Table.{Table, live_entry, is_live, is_kept, is_number, noted_on, used_on, new_entry}
+use Rattle.gss_ctx.specs.Table.{ContextTable, IsNumbered, live_entry, is_live, is_kept, is_number, noted_on, used_on, new_entry}
 use Rattle.gss_ctx.specs.Seals.{Mic, cred_of, header_of, is_code}
-use Rattle.gss_ctx.specs.Admission.{first_failing, is_served, may_create, number_rows, service_rows, unseen, body_answer, unless_denied, past_number, on_entry, on_cred, verdict_of, with_seen, with_use, parent_of}
-use Rattle.gss_ctx.specs.Once.{Event, Admits, Makes, Ends, after, after_all, admitted_by, admits, IsNumbered, is_shut, IsShut}
+use Rattle.gss_ctx.specs.Admission.{first_failing, is_served, may_create, number_rows, service_rows, unseen, body_answer, unless_denied, past_number, on_entry, on_cred, verdict_of, with_seen, with_use, parent_of, number_of}
+use Rattle.gss_ctx.specs.Once.{Event, Admits, Makes, Ends, after, after_all, admitted_by, admits, is_shut, IsShut}
 use Rattle.gss_ctx.proofs.WindowLemmas.{has_window}
 use Rattle.gss_ctx.proofs.TableLemmas.{all_map, all_filter, all_more, all_weaker, all_found, either}
 
@@ -50,16 +50,16 @@ shut_now seq seen =
 
 -- ---- what one call does to all contexts
 
-abbrev Numbered : {P : Type 0} → ℕ → Entry P → Type 0
+abbrev pub Numbered : {P : Type 0} → ℕ → Entry P → Type 0
 Numbered made e = e.number ≤ made
 
 abbrev Shut : {P : Type 0} → ℕ → ℕ → Entry P → Type 0
 Shut number seq e = e.number ≡ number → is_shut seq e.window ≡ true
 
-numbered_noted : {P : Type 0} (made number seq : ℕ) (e : Entry P) → Numbered made e → Numbered made (noted_on number seq e)
+pub numbered_noted : {P : Type 0} (made number seq : ℕ) (e : Entry P) → Numbered made e → Numbered made (noted_on number seq e)
 numbered_noted made number seq e h = either (Numbered made) (e.number == number) e (record e { window = noted seq e.window }) h h
 
-numbered_used : {P : Type 0} (made number : ℕ) (parent : Option ℕ) (now : ℕ) (e : Entry P) → Numbered made e → Numbered made (used_on number parent now e)
+pub numbered_used : {P : Type 0} (made number : ℕ) (parent : Option ℕ) (now : ℕ) (e : Entry P) → Numbered made e → Numbered made (used_on number parent now e)
 numbered_used made number parent now e h = either (Numbered made) ((e.number == number) || is_number parent e.number) e (record e { context = record e.context { used = now } }) h h
 
 shut_noted : {P : Type 0} (n s number seq : ℕ) (e : Entry P) → Shut n s e → Shut n s (noted_on number seq e)
@@ -77,19 +77,19 @@ shut_first : {P : Type 0} (n s : ℕ) (entries : List (Entry P)) → AllByRecurs
 shut_first n s [] = tt
 shut_first n s (e ∷ entries) = (shut_at n s e (e.number == n) refl, shut_first n s entries)
 
-used_all : {P : Type 0} (Q : Entry P → Type 0) → ((number : ℕ) (parent : Option ℕ) (now : ℕ) (e : Entry P) → Q e → Q (used_on number parent now e))
+pub used_all : {P : Type 0} (Q : Entry P → Type 0) → ((number : ℕ) (parent : Option ℕ) (now : ℕ) (e : Entry P) → Q e → Q (used_on number parent now e))
     → (now : ℕ) (answer : Admit) (entries : List (Entry P)) → AllByRecursion Q entries → AllByRecursion Q (with_use now answer entries)
 used_all Q step now (Admitted number seq args) entries h = all_map Q Q _ (step number (parent_of number entries) now) entries h
 used_all Q step now (Dropped why) entries h = h
 used_all Q step now (Denied why) entries h = h
 used_all Q step now (BadBody number seq) entries h = h
 
-seen_all : {P : Type 0} (Q : Entry P → Type 0) → ((number seq : ℕ) (e : Entry P) → Q e → Q (noted_on number seq e))
+pub seen_all : {P : Type 0} (Q : Entry P → Type 0) → ((number seq : ℕ) (e : Entry P) → Q e → Q (noted_on number seq e))
     → (seen : Option (ℕ × ℕ)) (entries : List (Entry P)) → AllByRecursion Q entries → AllByRecursion Q (with_seen seen entries)
 seen_all Q step None entries h = h
 seen_all Q step (Some p) entries h = all_map Q Q _ (step p.0 p.1) entries h
 
-pub numbered_kept : {P : Type 0} (mic : Mic) (event : Event P) (table : Table P) → IsNumbered table → IsNumbered (after mic event table)
+pub numbered_kept : {P : Type 0} (mic : Mic) (event : Event P) (table : ContextTable P) → IsNumbered table → IsNumbered (after mic event table)
 numbered_kept mic (Admits now head body) table h =
     let verdict = verdict_of mic now head body table in
     used_all (Numbered table.made) (numbered_used table.made) now verdict.answer _ (seen_all (Numbered table.made) (numbered_noted table.made) verdict.seen table.entries h)
@@ -99,12 +99,12 @@ numbered_kept mic (Makes now context) table h =
     (omega arith)
 numbered_kept mic (Ends number) table h = all_filter (Numbered table.made) (is_kept number) table.entries h
 
-made_grows : {P : Type 0} (mic : Mic) (event : Event P) (table : Table P) → table.made ≤ (after mic event table).made
+made_grows : {P : Type 0} (mic : Mic) (event : Event P) (table : ContextTable P) → table.made ≤ (after mic event table).made
 made_grows mic (Admits now head body) table = omega arith
 made_grows mic (Makes now context) table = omega arith
 made_grows mic (Ends number) table = omega arith
 
-shut_kept : {P : Type 0} (mic : Mic) (n s : ℕ) (event : Event P) (table : Table P) → n ≤ table.made → IsShut n s table → IsShut n s (after mic event table)
+shut_kept : {P : Type 0} (mic : Mic) (n s : ℕ) (event : Event P) (table : ContextTable P) → n ≤ table.made → IsShut n s table → IsShut n s (after mic event table)
 shut_kept mic n s (Admits now head body) table le h =
     let verdict = verdict_of mic now head body table in
     used_all (Shut n s) (shut_used n s) now verdict.answer _ (seen_all (Shut n s) (shut_noted n s) verdict.seen table.entries h)
@@ -112,7 +112,7 @@ shut_kept mic n s (Makes now context) table le h =
     all_more (Shut n s) _ (new_entry (table.made + 1) context) (all_filter (Shut n s) (is_live now) table.entries h) (λ is. absurd (omega arith))
 shut_kept mic n s (Ends number) table le h = all_filter (Shut n s) (is_kept number) table.entries h
 
-shut_after_all : {P : Type 0} (mic : Mic) (n s : ℕ) (events : List (Event P)) (table : Table P) → n ≤ table.made → IsShut n s table → IsShut n s (after_all mic events table)
+shut_after_all : {P : Type 0} (mic : Mic) (n s : ℕ) (events : List (Event P)) (table : ContextTable P) → n ≤ table.made → IsShut n s table → IsShut n s (after_all mic events table)
 shut_after_all mic n s [] table le h = h
 shut_after_all mic n s (event ∷ events) table le h =
     let grows = made_grows mic event table in
@@ -152,28 +152,28 @@ rows_pass mic head cred entry h =
     let d = not_true (has entry.window cred.seq_num) _ _ c.1 in
     or_false (is_below entry.window cred.seq_num) (has entry.window cred.seq_num) c.0 d.0
 
--- the rows deny and drop, and admit nothing
-abbrev AdmitsNone : Option Admit → Type 0
+-- the rows deny and drop: they admit nothing, and answer nothing under a context
+abbrev pub AdmitsNone : Option Admit → Type 0
 AdmitsNone None = Unit {0}
-AdmitsNone (Some answer) = admitted_by answer ≡ None
+AdmitsNone (Some answer) = (admitted_by answer ≡ None) × (number_of answer ≡ None)
 
 rows_deny : (a b c d : Bool) → AdmitsNone (if a then (if b then (if c then (if d then None else Some (Dropped Repeat)) else Some (Dropped Old)) else Some (Denied 13)) else Some (Denied 14))
 rows_deny true true true true = tt
-rows_deny true true true false = refl
-rows_deny true true false d = refl
-rows_deny true false c d = refl
-rows_deny false b c d = refl
+rows_deny true true true false = (refl, refl)
+rows_deny true true false d = (refl, refl)
+rows_deny true false c d = (refl, refl)
+rows_deny false b c d = (refl, refl)
 
 services_deny : (a b : Bool) → AdmitsNone (if a then (if b then None else Some (Denied 1)) else Some (Denied 5))
 services_deny true true = tt
-services_deny true false = refl
-services_deny false b = refl
+services_deny true false = (refl, refl)
+services_deny false b = (refl, refl)
 
-rows_none : {P : Type 0} (mic : Mic) (head : CallHead) (cred : GssCred) (entry : Entry P) → AdmitsNone (first_failing (number_rows mic head cred entry))
+pub rows_none : {P : Type 0} (mic : Mic) (head : CallHead) (cred : GssCred) (entry : Entry P) → AdmitsNone (first_failing (number_rows mic head cred entry))
 rows_none mic head cred entry =
     rows_deny (nat_lt cred.seq_num (2 ^ 31)) (is_code head.verf (mic entry.context.key 0 (header_of 0 head))) (not (is_below entry.window cred.seq_num)) (not (has entry.window cred.seq_num))
 
-service_none : {P : Type 0} (cred : GssCred) (entry : Entry P) → AdmitsNone (first_failing (service_rows cred entry))
+pub service_none : {P : Type 0} (cred : GssCred) (entry : Entry P) → AdmitsNone (first_failing (service_rows cred entry))
 service_none cred entry = services_deny (not (cred.service == 1)) (not (cred.service == 3) && may_create cred entry)
 
 body_is : (number seq : ℕ) (args : Option (List ℕ)) (p : ℕ × ℕ) → admitted_by (body_answer number seq args) ≡ Some p → p ≡ (number, seq)
@@ -183,12 +183,12 @@ body_is number seq (Some args) p h = cc
 answer_is : (number seq : ℕ) (denial : Option Admit) (args : Option (List ℕ)) (p : ℕ × ℕ) → AdmitsNone denial
     → admitted_by (unless_denied denial (body_answer number seq args)) ≡ Some p → p ≡ (number, seq)
 answer_is number seq None args p none h = body_is number seq args p h
-answer_is number seq (Some denial) args p none h = no_admission p (sym none ∙ h)
+answer_is number seq (Some denial) args p none h = no_admission p (sym none.0 ∙ h)
 
 shown_past : {P : Type 0} (mic : Mic) (head : CallHead) (cred : GssCred) (body : List ℕ) (entries : List (Entry P)) (test : Entry P → Bool) (entry : Entry P) (p : ℕ × ℕ)
     → find test entries ≡ Some entry → (fault : Option Admit) → first_failing (number_rows mic head cred entry) ≡ fault → AdmitsNone fault
     → admitted_by (past_number mic cred body entry fault).answer ≡ Some p → Shown entries (past_number mic cred body entry fault) p
-shown_past mic head cred body entries test entry p found (Some answer) is none h = no_admission p (sym none ∙ h)
+shown_past mic head cred body entries test entry p found (Some answer) is none h = no_admission p (sym none.0 ∙ h)
 shown_past mic head cred body entries test entry p found None is none h =
     let same : p ≡ (entry.number, cred.seq_num) = answer_is entry.number cred.seq_num _ _ p (service_none cred entry) h in
     let seq : p.1 ≡ cred.seq_num = ap (λ (q : ℕ × ℕ). q.1) same in
@@ -212,14 +212,14 @@ shown_served : {P : Type 0} (entries : List (Entry P)) (b : Bool) (verdict : Ver
 shown_served entries true verdict p step h = step h
 shown_served entries false verdict p step h = no_admission p h
 
-shown_cred : {P : Type 0} (mic : Mic) (now : ℕ) (head : CallHead) (body : List ℕ) (table : Table P) (cred : Option GssCred) (p : ℕ × ℕ)
+shown_cred : {P : Type 0} (mic : Mic) (now : ℕ) (head : CallHead) (body : List ℕ) (table : ContextTable P) (cred : Option GssCred) (p : ℕ × ℕ)
     → admitted_by (on_cred mic now head body table cred).answer ≡ Some p → Shown table.entries (on_cred mic now head body table cred) p
 shown_cred mic now head body table None p h = no_admission p h
 shown_cred mic now head body table (Some cred) p h =
     shown_served table.entries (is_served cred) (on_entry mic head body cred (live_entry table.boot now cred.handle table.entries)) p
     (shown_entry mic head cred body table.entries _ p (live_entry table.boot now cred.handle table.entries) refl) h
 
-shown : {P : Type 0} (mic : Mic) (now : ℕ) (head : CallHead) (body : List ℕ) (table : Table P) (p : ℕ × ℕ)
+shown : {P : Type 0} (mic : Mic) (now : ℕ) (head : CallHead) (body : List ℕ) (table : ContextTable P) (p : ℕ × ℕ)
     → admitted_by (verdict_of mic now head body table).answer ≡ Some p → Shown table.entries (verdict_of mic now head body table) p
 unfolding verdict_of
 shown mic now head body table p h = shown_cred mic now head body table (cred_of head) p h
@@ -229,7 +229,7 @@ shown mic now head body table p h = shown_cred mic now head body table (cred_of 
 shut_seen : {P : Type 0} (n s : ℕ) (seen : Option (ℕ × ℕ)) (entries : List (Entry P)) → seen ≡ Some (n, s) → AllByRecursion (Shut n s) (with_seen seen entries)
 shut_seen n s seen entries is = rw is (shut_first n s entries)
 
-pub shut_once : {P : Type 0} (mic : Mic) (first : Event P) (between : List (Event P)) (table : Table P) (n s : ℕ) → IsNumbered table
+pub shut_once : {P : Type 0} (mic : Mic) (first : Event P) (between : List (Event P)) (table : ContextTable P) (n s : ℕ) → IsNumbered table
     → admits mic first table ≡ Some (n, s) → IsShut n s (after_all mic between (after mic first table))
 shut_once mic (Makes now context) between table n s numbered h = no_admission (n, s) h
 shut_once mic (Ends number) between table n s numbered h = no_admission (n, s) h
@@ -241,7 +241,7 @@ shut_once {P} mic (Admits now head body) between table n s numbered h =
     shut_after_all mic n s between (after {P = P} mic (Admits now head body) table) (omega arith)
     (used_all (Shut n s) (shut_used n s) now verdict.answer _ (shut_seen n s verdict.seen table.entries by.seen))
 
-not_shut : {P : Type 0} (mic : Mic) (event : Event P) (table : Table P) (n s : ℕ) → IsShut n s table → admits mic event table ≢ Some (n, s)
+not_shut : {P : Type 0} (mic : Mic) (event : Event P) (table : ContextTable P) (n s : ℕ) → IsShut n s table → admits mic event table ≢ Some (n, s)
 not_shut mic (Makes now context) table n s h is = no_admission (n, s) is
 not_shut mic (Ends number) table n s h is = no_admission (n, s) is
 not_shut mic (Admits now head body) table n s h is =
@@ -250,7 +250,7 @@ not_shut mic (Admits now head body) table n s h is =
     let shut = all_found (Shut n s) by.test table.entries by.entry h by.found (sym number) in
     true≢false (sym shut ∙ by.open_to)
 
-pub admitted_never_twice : {P : Type 0} (mic : Mic) (first last : Event P) (between : List (Event P)) (table : Table P) (n s : ℕ) → IsNumbered table
+pub admitted_never_twice : {P : Type 0} (mic : Mic) (first last : Event P) (between : List (Event P)) (table : ContextTable P) (n s : ℕ) → IsNumbered table
     → admits mic first table ≡ Some (n, s) → admits mic last (after_all mic between (after mic first table)) ≢ Some (n, s)
 admitted_never_twice mic first last between table n s numbered h =
     not_shut mic last (after_all mic between (after mic first table)) n s (shut_once mic first between table n s numbered h)

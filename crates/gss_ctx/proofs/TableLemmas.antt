@@ -1,9 +1,8 @@
 -- Facts of all contexts of a table, through what calls do to it.
-use Rattle.std.specs.Prelude.{◌≡◌, ℕ, ◌+◌, ◌-◌, ◌<◌, Bool, true, false, nat_lt, if◌then◌else◌, List, [], ◌∷◌, ◌++◌, length, take, drop, slice_set, filter, map, find, Option, Some, refl}
+use Rattle.std.specs.Prelude.{◌≡◌, ℕ, ◌+◌, ◌<◌, Bool, true, false, if◌then◌else◌, List, [], ◌∷◌, ◌++◌, length, take, drop, slice_set, filter, map, find, Option, Some, refl}
 use Rattle.std.specs.List.{AllByRecursion}
-use Rattle.std.proofs.Common.{sym, ◌∙◌, ap, subst, arith, add-one, get_or, zero, suc}
+use Rattle.std.proofs.Common.{◌∙◌, ap, subst, arith, add-one, get_or, zero, suc}
 use Rattle.gss_ctx.specs.declared.context.Entry.{Entry}
-use Rattle.gss_ctx.specs.Table.{is_live}
 
 pub all_map : {X : Type 0} (P Q : X → Type 0) (f : X → X) → ((x : X) → P x → Q (f x)) → (xs : List X) → AllByRecursion P xs → AllByRecursion Q (map f xs)
 all_map P Q f step [] h = tt
@@ -41,25 +40,6 @@ noted_if Q false e f a c = a
 
 pub either : {P : Type 0} (Q : Entry P → Type 0) (b : Bool) (e f : Entry P) → Q e → Q f → Q (if b then f else e)
 either = noted_if
-
--- ---- a list to which one is added keeps its front
-
-filter_if : {X : Type 0} (b : Bool) (x : X) (xs ys : List X) → (if b then x ∷ xs else xs) ++ ys ≡ (if b then x ∷ (xs ++ ys) else (xs ++ ys))
-filter_if true x xs ys = refl
-filter_if false x xs ys = refl
-
-pub filter_more : {X : Type 0} (test : X → Bool) (xs : List X) (y : X) → test y ≡ true → filter test (xs ++ y ∷ []) ≡ filter test xs ++ y ∷ []
-filter_more test [] y h = rw h refl
-filter_more test (x ∷ xs) y h =
-    ap (λ (rest : List _). if test x then x ∷ rest else rest) (filter_more test xs y h) ∙ sym (filter_if (test x) x (filter test xs) (y ∷ []))
-
-sub_self : (n : ℕ) → nat_lt (n - n) 3600 ≡ true
-sub_self n = let e : n - n ≡ 0 = omega arith in rw e refl
-
--- taking the dead out after one was added that is used now
-pub more_live : {P : Type 0} (now : ℕ) (entries : List (Entry P)) (entry : Entry P) → entry.context.used ≡ now
-    → filter (is_live now) (entries ++ entry ∷ []) ≡ filter (is_live now) entries ++ entry ∷ []
-more_live now entries entry is = filter_more (is_live now) entries entry (rw is (sub_self now))
 
 -- ---- changing a list element by element
 

@@ -1,6 +1,6 @@
 -- What an acceptor answers to a call of an established context: the first test that fails, in the table's
 -- order (RFC 2203 section 5.3.3, RFC 7861 section 2).
-use Rattle.std.specs.Prelude.{ℕ, ◌^◌, ◌==◌, ◌||◌, ◌&&◌, Bool, not, nat_lt, nat_le, if◌then◌else◌, List, [], ◌∷◌, map, is_none, Option, Some, None}
+use Rattle.std.specs.Prelude.{◌≡◌, ℕ, ◌^◌, ◌==◌, ◌||◌, ◌&&◌, Bool, not, nat_lt, nat_le, if◌then◌else◌, List, [], ◌∷◌, map, is_none, Option, Some, None}
 use Rattle.rpc_msg.specs.declared.call.CallHead.{CallHead}
 use Rattle.rpc_msg.specs.declared.gss_cred.GssCred.{GssCred}
 use Rattle.gss_ctx.specs.declared.context.Entry.{Entry}
@@ -9,7 +9,7 @@ use Rattle.gss_ctx.specs.declared.admit.Admit.TheVariants.{Admitted, Dropped, De
 use Rattle.gss_ctx.specs.declared.admit.Why.TheVariants.{Repeat, Old}
 use Rattle.gss_ctx.specs.declared.admit.Verdict.{Verdict}
 use Rattle.gss_ctx.specs.Window.{is_below, has}
-use Rattle.gss_ctx.specs.Table.{Table, entry_of, live_entry, noted_on, used_on}
+use Rattle.gss_ctx.specs.Table.{ContextTable, entry_of, live_entry, noted_on, used_on}
 use Rattle.gss_ctx.specs.Seals.{Mic, cred_of, header_of, is_code, unsealed}
 
 -- a row of the table: what has to hold, and the answer where it doesn't
@@ -69,7 +69,7 @@ abbrev pub on_entry : {P : Type 0} → Mic → CallHead → List ℕ → GssCred
 on_entry mic head body cred None = unseen (Denied 13)
 on_entry mic head body cred (Some entry) = past_number mic cred body entry (first_failing (number_rows mic head cred entry))
 
-abbrev pub on_cred : {P : Type 0} → Mic → ℕ → CallHead → List ℕ → Table P → Option GssCred → Verdict
+abbrev pub on_cred : {P : Type 0} → Mic → ℕ → CallHead → List ℕ → ContextTable P → Option GssCred → Verdict
 on_cred mic now head body table None = unseen (Denied 1)
 on_cred mic now head body table (Some cred) =
     if is_served cred
@@ -77,8 +77,19 @@ on_cred mic now head body table (Some cred) =
     else unseen (Denied 1)
 
 -- the answer to a call with this head and this body
-unfoldable pub verdict_of : {P : Type 0} → Mic → ℕ → CallHead → List ℕ → Table P → Verdict
+unfoldable pub verdict_of : {P : Type 0} → Mic → ℕ → CallHead → List ℕ → ContextTable P → Verdict
 verdict_of mic now head body table = on_cred mic now head body table (cred_of head)
+
+-- the context under which it is answered: that of an admission, or of a body that isn't right
+abbrev pub number_of : Admit → Option ℕ
+number_of (Admitted number seq args) = Some number
+number_of (BadBody number seq) = Some number
+number_of _ = None
+
+-- a number is that of the live context that a credential names
+abbrev pub IsNamed : {P : Type 0} → ℕ → Option GssCred → ContextTable P → ℕ → Type 0
+IsNamed now None table number = ⊥
+IsNamed {P} now (Some cred) table number = (entry : Entry P) × (live_entry table.boot now cred.handle table.entries ≡ Some entry) × (entry_of number table.entries ≡ Some entry)
 
 -- What it leaves: the number is seen, and where the call is admitted its context and the parent are used.
 abbrev pub with_seen : {P : Type 0} → Option (ℕ × ℕ) → List (Entry P) → List (Entry P)
@@ -96,5 +107,5 @@ abbrev pub with_use : {P : Type 0} → ℕ → Admit → List (Entry P) → List
 with_use now (Admitted number seq args) entries = map (used_on number (parent_of number entries) now) entries
 with_use now _ entries = entries
 
-abbrev pub after_verdict : {P : Type 0} → ℕ → Verdict → Table P → Table P
+abbrev pub after_verdict : {P : Type 0} → ℕ → Verdict → ContextTable P → ContextTable P
 after_verdict now verdict table = record table { entries = with_use now verdict.answer (with_seen verdict.seen table.entries) }

@@ -13,11 +13,11 @@ use Rattle.gss_ctx.specs.Admission.{is_served, may_create, verdict_of}
 use Rattle.gss_ctx.specs.Calls.{Side, call_cred, with_cred, verified}
 use Rattle.gss_ctx.specs.Once.{is_shut}
 use Rattle.gss_ctx.specs.Seals.{Mic}
-use Rattle.gss_ctx.specs.Table.{Table, live_entry}
+use Rattle.gss_ctx.specs.Table.{ContextTable, live_entry}
 
 -- The contexts hold the context of this side, with its key. The next number of the side is open there, and what
 -- it asks for is served.
-pub record IsOpenTo {P : Type 0} (now : ℕ) (table : Table P) (side : Side) (asked : GssCred) (entry : Entry P) : Type 0 where
+pub record IsOpenTo {P : Type 0} (now : ℕ) (table : ContextTable P) (side : Side) (asked : GssCred) (entry : Entry P) : Type 0 where
   pub handle : length side.handle ≡ 8
   pub found : live_entry table.boot now side.handle table.entries ≡ Some entry
   pub key : entry.context.key ≡ side.key
@@ -34,11 +34,11 @@ abbrev pub sent_head : Mic → Side → CallHead → GssCred → CallHead
 sent_head mic side head asked = verified mic side.key (next_head side head asked)
 
 -- what is answered to a record, where a call stands in it
-abbrev pub verdict_read : {P : Type 0} → Mic → ℕ → List ℕ → Table P → Result (CallHead × ℕ) RpcFault → Result Verdict RpcFault
+abbrev pub verdict_read : {P : Type 0} → Mic → ℕ → List ℕ → ContextTable P → Result (CallHead × ℕ) RpcFault → Result Verdict RpcFault
 verdict_read mic now message table (Ok read) = Ok (verdict_of mic now read.0 (drop read.1 message) table)
 verdict_read mic now message table (Err fault) = Err fault
 
-abbrev pub verdict_on : {P : Type 0} → Mic → ℕ → List ℕ → Table P → Result Verdict RpcFault
+abbrev pub verdict_on : {P : Type 0} → Mic → ℕ → List ℕ → ContextTable P → Result Verdict RpcFault
 verdict_on mic now message table = verdict_read mic now message table (head_told call 1 message)
 
 -- the call is carried out with these arguments, and its number is seen

@@ -8,7 +8,7 @@ use Rattle.gss_ctx.specs.declared.context.Context.{Context}
 use Rattle.gss_ctx.specs.declared.context.Entry.{Entry}
 use Rattle.gss_ctx.specs.declared.making.Inited.{Inited}
 use Rattle.gss_ctx.specs.declared.making.Inited.TheVariants.{Made, Refused}
-use Rattle.gss_ctx.specs.Table.{Table, handle_of, is_full, with_new}
+use Rattle.gss_ctx.specs.Table.{ContextTable, handle_of, is_full, with_new}
 use Rattle.gss_ctx.specs.Seals.{Mic}
 
 -- the window of every context, in numbers
@@ -23,10 +23,10 @@ accepted_context now taken = record { principal = taken.principal; parent = None
 abbrev pub made_of : Mic → ℕ → ℕ → Accepted → Inited
 made_of mic boot number taken = Made (handle_of boot number) window_size taken.token (mic taken.key 1 (word_bytes window_size))
 
--- a child has its parent's principal and a key derived from its parent's
-abbrev pub child_context : {P : Type 0} → (List ℕ → ℕ → List ℕ → List ℕ) → List ℕ → ℕ → Context P → P → ℕ → Context P
-child_context derived handle parent of carry now =
-    record { principal = of.principal; parent = Some parent; key = derived of.key 4 handle; carry = Some carry; used = now }
+-- a child of a context with this principal, and with a key derived from its parent's
+abbrev pub child_context : {P : Type 0} → (List ℕ → ℕ → List ℕ → List ℕ) → List ℕ → ℕ → List ℕ → Context P → P → ℕ → Context P
+child_context derived handle parent principal of carry now =
+    record { principal = principal; parent = Some parent; key = derived of.key 4 handle; carry = Some carry; used = now }
 
 -- a callback context
 abbrev pub callback_context : {P : Type 0} → (List ℕ → ℕ → List ℕ → List ℕ) → List ℕ → List ℕ → List ℕ → ℕ → Context P
@@ -35,31 +35,36 @@ callback_context derived handle principal from now =
 
 -- What INIT answers, and what it leaves: the token is tested first, with a nonce of zeros, then the table,
 -- then the draw. That the token is refused with the drawn nonce doesn't come, by the law of mechanisms.
-abbrev pub Makes : {P : Type 0} → Mic → ℕ → Option Accepted → Table P → Table P → Inited → Type 0
+abbrev pub Makes : {P : Type 0} → Mic → ℕ → Option Accepted → ContextTable P → ContextTable P → Inited → Type 0
 Makes mic now None old new answer = (answer ≡ Refused 3) × (new ≡ old)
 Makes mic now (Some taken) old new answer = (answer ≡ made_of mic old.boot (old.made + 1) taken) × (new ≡ with_new now (accepted_context now taken) old)
 
-abbrev pub InitsWith : {P : Type 0} → Mic → (List ℕ → Option Accepted) → ℕ → Drawn → Table P → Table P → Inited → Type 0
+abbrev pub InitsWith : {P : Type 0} → Mic → (List ℕ → Option Accepted) → ℕ → Drawn → ContextTable P → ContextTable P → Inited → Type 0
 InitsWith mic accepted now Failed old new answer = (answer ≡ Refused 1) × (new ≡ old)
 InitsWith mic accepted now (Got nonce) old new answer = Makes mic now (accepted nonce) old new answer
 
 -- the draws stay as they are where none is made
-abbrev pub InitsUnless : {P W : Type 0} → Mic → (List ℕ → Option Accepted) → (W → Drawn → W → Type 0) → ℕ → Bool → Table P → Table P → W → W → Inited → Type 0
+abbrev pub InitsUnless : {P W : Type 0} → Mic → (List ℕ → Option Accepted) → (W → Drawn → W → Type 0) → ℕ → Bool → ContextTable P → ContextTable P → W → W → Inited → Type 0
 InitsUnless mic accepted gives now true old new before after answer = (answer ≡ Refused 2) × (new ≡ old) × (after ≡ before)
 InitsUnless mic accepted gives now false old new before after answer = (drawn : Drawn) × gives before drawn after × InitsWith mic accepted now drawn old new answer
 
-abbrev pub Inits : {P W : Type 0} → Mic → (List ℕ → Option Accepted) → (W → Drawn → W → Type 0) → ℕ → Option Accepted → Table P → Table P → W → W → Inited → Type 0
+abbrev pub Inits : {P W : Type 0} → Mic → (List ℕ → Option Accepted) → (W → Drawn → W → Type 0) → ℕ → Option Accepted → ContextTable P → ContextTable P → W → W → Inited → Type 0
 Inits mic accepted gives now None old new before after answer = (answer ≡ Refused 3) × (new ≡ old) × (after ≡ before)
 Inits mic accepted gives now (Some taken) old new before after answer = InitsUnless mic accepted gives now (is_full now old.entries) old new before after answer
 
 -- what making a context for callbacks answers: None where the table is full
-abbrev pub Adds : {P : Type 0} → Bool → ℕ → Context P → Table P → Table P → Option ℕ → Type 0
+abbrev pub Adds : {P : Type 0} → Bool → ℕ → Context P → ContextTable P → ContextTable P → Option ℕ → Type 0
 Adds true now context old new answer = (answer ≡ None) × (new ≡ old)
 Adds false now context old new answer = (answer ≡ Some (old.made + 1)) × (new ≡ with_new now context old)
 
--- what making a child answers: its number, or the carry where the table is full
-abbrev pub MakesChild : {P : Type 0} → (List ℕ → ℕ → List ℕ → List ℕ) → ℕ → ℕ → P → Bool → Option (Entry P) → Table P → Table P → Result ℕ P → Type 0
+-- what making a child of a principal answers: its number, or the carry where the table is full
+abbrev pub MakesChildOf : {P : Type 0} → (List ℕ → ℕ → List ℕ → List ℕ) → ℕ → ℕ → List ℕ → P → Bool → Option (Entry P) → ContextTable P → ContextTable P → Result ℕ P → Type 0
+MakesChildOf derived now parent principal carry full None old new answer = ⊥
+MakesChildOf derived now parent principal carry true (Some root) old new answer = (answer ≡ Err carry) × (new ≡ old)
+MakesChildOf derived now parent principal carry false (Some root) old new answer =
+    (answer ≡ Ok (old.made + 1)) × (new ≡ with_new now (child_context derived (handle_of old.boot (old.made + 1)) parent principal root.context carry now) old)
+
+-- the same of its parent's principal
+abbrev pub MakesChild : {P : Type 0} → (List ℕ → ℕ → List ℕ → List ℕ) → ℕ → ℕ → P → Bool → Option (Entry P) → ContextTable P → ContextTable P → Result ℕ P → Type 0
 MakesChild derived now parent carry full None old new answer = ⊥
-MakesChild derived now parent carry true (Some root) old new answer = (answer ≡ Err carry) × (new ≡ old)
-MakesChild derived now parent carry false (Some root) old new answer =
-    (answer ≡ Ok (old.made + 1)) × (new ≡ with_new now (child_context derived (handle_of old.boot (old.made + 1)) parent root.context carry now) old)
+MakesChild derived now parent carry full (Some root) old new answer = MakesChildOf derived now parent root.context.principal carry full (Some root) old new answer

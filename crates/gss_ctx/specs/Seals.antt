@@ -1,6 +1,6 @@
 -- What is sealed, and by which codes (RFC 2203 section 5.3, RFC 7861 section 2). A code is made of bytes by
 -- `mic key side`; the initiator is side 0, the acceptor side 1.
-use Rattle.std.specs.Prelude.{ℕ, ◌==◌, ◌&&◌, Bool, if◌then◌else◌, List, [], ◌∷◌, ◌++◌, take, drop, bytes_eq, Option, Some, None}
+use Rattle.std.specs.Prelude.{ℕ, ◌+◌, ◌<◌, ◌≤◌, ◌==◌, ◌&&◌, Bool, if◌then◌else◌, List, [], ◌∷◌, ◌++◌, take, drop, bytes_eq, Option, Some, None}
 use Rattle.std.proofs.Common.{lit<}
 use Rattle.wire_xdr.specs.Form.{Form}
 use Rattle.wire_xdr.specs.Forms.{opaque, both}
@@ -10,9 +10,11 @@ use Rattle.rpc_msg.specs.GssCred.{gss_cred}
 use Rattle.rpc_msg.specs.declared.auth.Auth.{Auth}
 use Rattle.rpc_msg.specs.declared.call.CallHead.{CallHead}
 use Rattle.rpc_msg.specs.declared.gss_cred.GssCred.{GssCred}
+use Rattle.rpc_msg.specs.declared.reply.Stat.{Stat}
 use Rattle.rpc_msg.specs.declared.reply.Stat.TheVariants.{Success}
 use Rattle.rpc_msg.specs.declared.reply.ReplyHead.TheVariants.{Accepted}
 use Rattle.wire_xdr.specs.All.{value_of}
+use Rattle.gss_ctx.specs.declared.sealing.TheConstants.{SEAL_ROOM}
 
 -- how codes are made: of a key, a side and bytes
 abbrev pub Mic : Type 0
@@ -59,7 +61,32 @@ is_first_version head = bytes_eq (take 4 head.cred.body) (0 ∷ 0 ∷ 0 ∷ 1 �
 unfoldable pub reply_code : Mic → List ℕ → CallHead → ℕ → List ℕ
 reply_code mic key head seq = mic key 1 (if is_first_version head then word_bytes seq else header_of 1 head)
 
+-- A reply to a call under a context up to its result: the verifier is flavor 6 with the code. This is all of
+-- it where it carries no result.
+unfoldable pub reply_front : Mic → List ℕ → CallHead → ℕ → Stat → List ℕ
+reply_front mic key head seq stat = reply.spell (Accepted head.xid (code_auth (reply_code mic key head seq)) stat)
+
 -- a whole reply under a seal
 unfoldable pub sealed_reply : Mic → List ℕ → CallHead → ℕ → List ℕ → List ℕ
-sealed_reply mic key head seq result =
-    reply.spell (Accepted head.xid (code_auth (reply_code mic key head seq)) Success) ++ sealed_body (mic key 1) seq result
+sealed_reply mic key head seq result = reply_front mic key head seq Success ++ sealed_body (mic key 1) seq result
+
+-- A reply whose result is yet to come: its front, the key and the number under which the result is sealed, and how
+-- many bytes the result may have.
+pub record Sealing : Type 0 where
+  pub front : List ℕ
+  pub key : List ℕ
+  pub seq : ℕ
+  pub most : ℕ
+
+-- the whole reply, once its result is there
+abbrev pub sealed_with : Mic → Sealing → List ℕ → List ℕ
+sealed_with mic sealing result = sealing.front ++ sealed_body (mic sealing.key 1) sealing.seq result
+
+-- the reply to this call, sealed under this key
+abbrev pub sealing_of : Mic → List ℕ → CallHead → ℕ → ℕ → Sealing
+sealing_of mic key head seq most = record { front = reply_front mic key head seq Success; key = key; seq = seq; most = most }
+
+-- a page with so many bytes has room for the result and its seal
+pub record HasRoom (written most room : ℕ) : Type 0 where
+  pub small : most < 4294967292
+  pub fits : written + most + SEAL_ROOM ≤ room

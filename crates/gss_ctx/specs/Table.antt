@@ -1,6 +1,8 @@
 -- The contexts of an acceptor, and what each call does to them (RFC 2203, RFC 7861).
-use Rattle.std.specs.Prelude.{ℕ, ◌+◌, ◌-◌, ◌==◌, ◌||◌, ◌&&◌, Bool, false, not, nat_lt, nat_le, if◌then◌else◌, List, [], ◌∷◌, ◌++◌, take, drop, filter, find, fold, count_by, min, is_none, bytes_eq, Option, Some, None, option_map}
+use Rattle.std.specs.Prelude.{◌≢◌, ◌≤◌, ℕ, ◌+◌, ◌-◌, ◌==◌, ◌||◌, ◌&&◌, Bool, false, not, nat_lt, nat_le, if◌then◌else◌, List, [], ◌∷◌, ◌++◌, take, drop, filter, find, fold, count_by, min, is_none, bytes_eq, Option, Some, None, option_map}
 use Rattle.std.specs.Int.{w32, from_be_bytes}
+use Rattle.std.specs.List.{AllByRecursion}
+use Rattle.nfs_base.specs.declared.limits.TheConstants.{MOST_CONTEXTS}
 use Rattle.nfs_base.specs.declared.seal.End.{End}
 use Rattle.wire_xdr.specs.Words.{word_bytes}
 use Rattle.gss_ctx.specs.declared.context.Context.{Context}
@@ -8,11 +10,26 @@ use Rattle.gss_ctx.specs.declared.context.Entry.{Entry}
 use Rattle.gss_ctx.specs.Window.{none_seen, noted}
 
 -- whose contexts these are and in which boot, how many numbers were given out, and the contexts
-pub record Table (P : Type 0) : Type 0 where
+pub record ContextTable (P : Type 0) : Type 0 where
   pub owner : End
   pub boot : ℕ
   pub made : ℕ
   pub entries : List (Entry P)
+
+-- no context has a number that wasn't given out yet
+abbrev pub IsNumbered : {P : Type 0} → ContextTable P → Type 0
+IsNumbered table = AllByRecursion (λ e. e.number ≤ table.made) table.entries
+
+-- no two contexts have one number
+abbrev pub AreDistinct : {P : Type 0} → List (Entry P) → Type 0
+AreDistinct [] = Unit {0}
+AreDistinct (e ∷ entries) = AllByRecursion (λ other. other.number ≢ e.number) entries × AreDistinct entries
+
+-- what contexts keep true of themselves: both, and that there is room for as many as there may be
+pub record IsKept {P : Type 0} (made : ℕ) (entries : List (Entry P)) (capacity : ℕ) : Type 0 where
+  pub given : AllByRecursion (λ e. e.number ≤ made) entries
+  pub distinct : AreDistinct entries
+  pub room : MOST_CONTEXTS ≤ capacity
 
 -- a handle is the boot and the context's number (own profile)
 abbrev pub handle_of : ℕ → ℕ → List ℕ
@@ -74,7 +91,7 @@ used_on number parent now e = if (e.number == number) || is_number parent e.numb
 abbrev pub new_entry : {P : Type 0} → ℕ → Context P → Entry P
 new_entry number context = record { number = number; context = context; window = none_seen }
 
-abbrev pub with_new : {P : Type 0} → ℕ → Context P → Table P → Table P
+abbrev pub with_new : {P : Type 0} → ℕ → Context P → ContextTable P → ContextTable P
 with_new now context table = record table {
   made = table.made + 1;
   entries = filter (is_live now) table.entries ++ new_entry (table.made + 1) context ∷ [];
@@ -84,5 +101,5 @@ with_new now context table = record table {
 abbrev pub is_kept : {P : Type 0} → ℕ → Entry P → Bool
 is_kept number e = not ((e.number == number) || is_number e.context.parent number)
 
-abbrev pub destroyed : {P : Type 0} → ℕ → Table P → Table P
+abbrev pub destroyed : {P : Type 0} → ℕ → ContextTable P → ContextTable P
 destroyed number table = record table { entries = filter (is_kept number) table.entries }

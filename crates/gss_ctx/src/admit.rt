@@ -1,10 +1,10 @@
-ghost use Rattle.std.specs.Prelude.{◌≡◌, drop, map, None, IfOk, OnErr};
+ghost use Rattle.std.specs.Prelude.{◌≡◌, drop, map, vec_capacity, None, IfOk, IfSome, IsSome, OnErr};
 ghost use Rattle.std.specs.Option.{option_copied};
 ghost use Rattle.rpc_msg.specs.Heads.{call};
 ghost use Rattle.rpc_msg.specs.Messages.{IsHead};
-ghost use Rattle.gss_ctx.specs.Table.{live_entry, noted_on, used_on, is_number};
-ghost use Rattle.gss_ctx.specs.Seals.{header_of};
-ghost use Rattle.gss_ctx.specs.Admission.{is_served, may_create, number_rows, service_rows, first_failing, seen_answer, parent_of, verdict_of, after_verdict};
+ghost use Rattle.gss_ctx.specs.Table.{context_of, live_entry, noted_on, used_on, is_number};
+ghost use Rattle.gss_ctx.specs.Seals.{cred_of, header_of};
+ghost use Rattle.gss_ctx.specs.Admission.{is_served, may_create, number_rows, service_rows, first_failing, seen_answer, parent_of, number_of, IsNamed, verdict_of, with_seen, with_use, after_verdict};
 
 use crate::context::Entry;
 use crate::contexts::{Contexts, entry_of, handle_of, is_live};
@@ -37,8 +37,9 @@ pub enum Admit {
     BadBody { number: u32, seq: u32 },
 }
 
-/// An answer, and the context and sequence number that are seen with it.
-#[derive(Drop)]
+/// What [`Contexts::weigh`] says of a call: the answer, and the context and the sequence number that are seen with
+/// it once it is counted.
+#[derive(Debug, Drop)]
 pub struct Verdict {
     pub answer: Admit,
     pub seen: Option<(u32, u32)>,
@@ -170,14 +171,15 @@ impl<P> Contexts<P> {
         ensures table { IfOk result (λ answer. self.new ≡ after_verdict now (verdict_of M.mic_of now head.now (drop body record_.now) self.old) self.old) }
         ensures err { OnErr result (self.new ≡ self.old) }
     {
-        let verdict = self.judge(alloc, head, &record_[body..], now, mech)?;
-        self.keep(&verdict, now);
+        let verdict = self.weigh(alloc, head, &record_[body..], now, mech)?;
+        self.count(&verdict, now);
         Ok(verdict.answer)
     }
 
-    /// The answer to a call, and what is seen with it.
+    /// The first half of [`Contexts::admit`]: the answer to a call, and what is to be seen with it. Nothing is
+    /// changed yet. Where the answer is under a context, this is the live one that the call's handle names.
     #[tactic(auto, unfolding(crate::specs::Admission::verdict_of))]
-    fn judge<M: Mechanism>(
+    pub fn weigh<M: Mechanism>(
         &self,
         alloc: Global,
         head: &CallHead,
@@ -186,7 +188,9 @@ impl<P> Contexts<P> {
         mech: &M,
     ) -> Mem<Verdict>
         requires { call.Fits head.now }
-        ensures { IfOk result (λ verdict. verdict ≡ verdict_of M.mic_of now head.now body.now self.now) }
+        ensures verdict { IfOk result (λ verdict. verdict ≡ verdict_of M.mic_of now head.now body.now self.now) }
+        ensures there { IfOk result (λ verdict. IfSome (number_of verdict.answer) (λ number. IsSome (context_of number self.now.entries))) }
+        ensures named { IfOk result (λ verdict. IfSome (number_of verdict.answer) (IsNamed now (cred_of head.now) self.now)) }
     {
         let Some(cred) = read_cred(alloc, head)? else {
             return Ok(unseen(Admit::Denied(BADCRED)));
@@ -212,17 +216,26 @@ impl<P> Contexts<P> {
         })
     }
 
-    /// Sees the number of a verdict, and uses the context of an admission.
-    fn keep(&mut self, verdict: &Verdict, now: u64)
+    /// The second half: sees the number of a verdict, and uses the context of an admission and its parent. It
+    /// takes no memory.
+    pub fn count(&mut self, verdict: &Verdict, now: u64)
         ensures { self.new ≡ after_verdict now verdict.now self.old }
     {
-        if let Some((number, seq)) = verdict.seen {
-            note_on(self.entries.as_mut_slice(), number, seq);
-        }
-        if let Admit::Admitted { number, .. } = verdict.answer {
-            let parent = parent_of(self.entries.as_slice(), number);
-            use_on(self.entries.as_mut_slice(), number, parent, now);
-        }
+        note_verdict(&mut self.entries, verdict, now);
+    }
+}
+
+/// Sees the number of a verdict, and uses the context of an admission and its parent.
+fn note_verdict<P>(entries: &mut Vec<Entry<P>>, verdict: &Verdict, now: u64)
+    ensures items { entries.new.items ≡ with_use now verdict.now.answer (with_seen verdict.now.seen entries.old.items) }
+    ensures capacity { vec_capacity entries.new ≡ vec_capacity entries.old }
+{
+    if let Some((number, seq)) = verdict.seen {
+        note_on(entries.as_mut_slice(), number, seq);
+    }
+    if let Admit::Admitted { number, .. } = verdict.answer {
+        let parent = parent_of(entries.as_slice(), number);
+        use_on(entries.as_mut_slice(), number, parent, now);
     }
 }
 

@@ -1,6 +1,6 @@
-ghost use Rattle.std.specs.Prelude.{◌≡◌, ◌<◌, [], IfOk, OnOk, OnErr, count_by, filter};
+ghost use Rattle.std.specs.Prelude.{◌≡◌, ◌<◌, [], false, IfOk, count_by, filter, vec_capacity};
 ghost use Rattle.std.specs.Option.{option_copied};
-ghost use Rattle.gss_ctx.specs.Table.{Table, handle_of, boot_named, number_named, is_live, is_full, entry_of, context_of, lower_live, lowest_above, is_kept, destroyed, with_new};
+ghost use Rattle.gss_ctx.specs.Table.{ContextTable, IsNumbered, AreDistinct, handle_of, boot_named, number_named, is_live, is_full, entry_of, context_of, lower_live, lowest_above, is_kept, destroyed, with_new};
 
 use crate::context::{Context, Entry};
 use crate::window::Window;
@@ -10,7 +10,9 @@ use std::alloc::Global;
 use std::marker::Model;
 
 /// The contexts of an acceptor: of one opening of a server, or of the client for its callbacks. A child
-/// carries a `P`. Contracts see them as a `Table`. A context is live for 3,600 seconds after its last use.
+/// carries a `P`. Contracts see them as a `ContextTable`. A context is live for 3,600 seconds after its last use.
+/// All room for contexts is taken when they are made: later calls want memory for what they read, copy and answer
+/// alone.
 #[derive(Drop)]
 pub struct Contexts<P> {
     pub(crate) owner: End,
@@ -20,11 +22,14 @@ pub struct Contexts<P> {
 }
 
 impl<P> Model for Contexts<P> {
-    ghost use Rattle.gss_ctx.specs.Table.{Table};
+    ghost use Rattle.std.specs.Prelude.{vec_capacity};
+    ghost use Rattle.gss_ctx.specs.Table.{ContextTable, IsKept};
 
-    ghost Value = { Table P };
+    ghost Value = { ContextTable P };
 
     ghost view = { λ c. record { owner = c.owner; boot = c.boot; made = c.made; entries = c.entries.items } };
+
+    ghost invariant = { λ c. IsKept c.made c.entries.items (vec_capacity c.entries) };
 }
 
 impl<P> Contexts<P> {
@@ -36,13 +41,15 @@ impl<P> Contexts<P> {
             owner,
             boot,
             made: 0,
-            entries: Vec::new(alloc),
+            entries: Vec::with_capacity(alloc, MOST_CONTEXTS)?,
         })
     }
 
-    /// How many numbers were given out.
+    /// How many numbers were given out. No context has a higher one, and no two have one number.
     pub fn made(&self) -> u32
-        ensures { result ≡ self.now.made }
+        ensures made { result ≡ self.now.made }
+        ensures given { IsNumbered self.now }
+        ensures distinct { AreDistinct self.now.entries }
     {
         self.made
     }
@@ -96,22 +103,21 @@ impl<P: Drop> Contexts<P> {
         keep_others(&mut self.entries, number);
     }
 
-    /// Adds a context that is used now, under the next number, and takes out the dead ones.
-    #[tactic(auto, using(crate::proofs::TableLemmas::more_live))]
-    pub(crate) fn insert(&mut self, context: Context<P>, now: u64) -> Mem<()>
-        requires room { self.old.made < 4294967295 }
-        requires fresh { context.used ≡ now }
-        ensures ok { OnOk result (self.new ≡ with_new now context self.old) }
-        ensures err { OnErr result (self.new ≡ self.old) }
+    /// Takes out the dead contexts, and adds one under the next number. It takes no memory.
+    pub(crate) fn insert(&mut self, context: Context<P>, now: u64)
+        requires made { self.old.made < 4294967295 }
+        requires room { is_full now self.old.entries ≡ false }
+        ensures { self.new ≡ with_new now context self.old }
     {
-        self.entries.push(Entry {
-            number: self.made + 1,
-            context,
-            window: Window::new(),
-        })?;
-        self.made += 1;
         keep_live(&mut self.entries, now);
-        Ok(())
+        self.entries
+            .push(Entry {
+                number: self.made + 1,
+                context,
+                window: Window::new(),
+            })
+            .unwrap();
+        self.made += 1;
     }
 }
 
@@ -173,14 +179,16 @@ pub(crate) fn is_live<P>(entry: &Entry<P>, now: u64) -> bool
 
 /// Takes out the dead contexts.
 fn keep_live<P: Drop>(entries: &mut Vec<Entry<P>>, now: u64)
-    ensures { entries.new.items ≡ filter (is_live now) entries.old.items }
+    ensures items { entries.new.items ≡ filter (is_live now) entries.old.items }
+    ensures capacity { vec_capacity entries.new ≡ vec_capacity entries.old }
 {
     entries.retain(|entry| is_live(entry, now));
 }
 
 /// Takes out a context and its children.
 fn keep_others<P: Drop>(entries: &mut Vec<Entry<P>>, number: u32)
-    ensures { entries.new.items ≡ filter (is_kept number) entries.old.items }
+    ensures items { entries.new.items ≡ filter (is_kept number) entries.old.items }
+    ensures capacity { vec_capacity entries.new ≡ vec_capacity entries.old }
 {
     entries.retain(|entry| is_kept(entry, number));
 }

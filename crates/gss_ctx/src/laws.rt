@@ -10,8 +10,8 @@ ghost use Rattle.gss_ctx.specs.Calls.{Side, sealed_of};
 ghost use Rattle.gss_ctx.specs.Ends.{IsOpenTo, next_head, sent_head, verdict_on, admission};
 ghost use Rattle.gss_ctx.specs.Replies.{checked_of};
 ghost use Rattle.gss_ctx.specs.Seals.{sealed_body, unsealed, sealed_reply};
-ghost use Rattle.gss_ctx.specs.Table.{Table};
-ghost use Rattle.gss_ctx.specs.Once.{Event, after, after_all, admits, IsNumbered, IsShut};
+ghost use Rattle.gss_ctx.specs.Table.{ContextTable, IsNumbered};
+ghost use Rattle.gss_ctx.specs.Once.{Event, after, after_all, admits, IsShut};
 
 use gss_mech::Mechanism;
 
@@ -20,11 +20,11 @@ use gss_mech::Mechanism;
 /// no context has a number that wasn't given out yet, as in the first one and after every call.
 pub fn admitted_once<P, M: Mechanism>()
     ensures start { (owner : End) (boot : ℕ) → IsNumbered {P = P} (record { owner = owner; boot = boot; made = 0; entries = [] }) }
-    ensures kept { (event : Event P) (table : Table P) → IsNumbered table → IsNumbered (after M.mic_of event table) }
-    ensures shut { (first : Event P) (between : List (Event P)) (table : Table P) (number seq : ℕ) → IsNumbered table
+    ensures kept { (event : Event P) (table : ContextTable P) → IsNumbered table → IsNumbered (after M.mic_of event table) }
+    ensures shut { (first : Event P) (between : List (Event P)) (table : ContextTable P) (number seq : ℕ) → IsNumbered table
         → admits M.mic_of first table ≡ Some (number, seq)
         → IsShut number seq (after_all M.mic_of between (after M.mic_of first table)) }
-    ensures once { (first last : Event P) (between : List (Event P)) (table : Table P) (number seq : ℕ) → IsNumbered table
+    ensures once { (first last : Event P) (between : List (Event P)) (table : ContextTable P) (number seq : ℕ) → IsNumbered table
         → admits M.mic_of first table ≡ Some (number, seq)
         → admits M.mic_of last (after_all M.mic_of between (after M.mic_of first table)) ≢ Some (number, seq) }
 {}
@@ -40,7 +40,7 @@ pub fn sealed_once<M: Mechanism>()
 /// what [`Contexts::seal_reply`](crate::Contexts::seal_reply) gives for the head that was read is the result
 /// that the caller awaits.
 pub fn ends_meet<P, M: Mechanism>()
-    ensures call { (now : ℕ) (table : Table P) (side : Side) (head : CallHead) (asked : GssCred) (args : List ℕ) (entry : Entry P)
+    ensures call { (now : ℕ) (table : ContextTable P) (side : Side) (head : CallHead) (asked : GssCred) (args : List ℕ) (entry : Entry P)
         → IsOpenTo now table side asked entry → call.Fits head → length args + 4 < 4294967296
         → verdict_on M.mic_of now (sealed_of M.mic_of side (next_head side head asked) args).bytes table ≡ Ok (admission entry.number side.next args) }
     ensures reply { (side : Side) (head : CallHead) (asked : GssCred) (args result_ : List ℕ) → call.Fits head → length result_ + 4 < 4294967296

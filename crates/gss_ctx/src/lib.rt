@@ -17,10 +17,11 @@ mod contexts;
 mod create;
 mod laws;
 mod making;
+mod sealer;
 mod sealing;
 mod window;
 
-pub use admit::{Admit, Why};
+pub use admit::{Admit, Verdict, Why};
 pub use begin::{
     Begun, InitResult, init_call, init_reply, read_init, read_init_result, write_init_result,
 };
@@ -32,3 +33,4 @@ pub use create::{
 };
 pub use laws::{admitted_once, ends_meet, sealed_once};
 pub use making::Inited;
+pub use sealer::Sealer;

@@ -2,7 +2,7 @@ ghost use Rattle.std.specs.Prelude.{◌≡◌, ◌<◌, ◌≤◌, ◌+◌, IfOk
 ghost use Rattle.std.specs.Option.{option_copied};
 ghost use Rattle.outcome.specs.Causes.{Rose};
 ghost use Rattle.gss_ctx.specs.Table.{handle_of, is_full, root_of, with_new};
-ghost use Rattle.gss_ctx.specs.Making.{Inits, Adds, MakesChild, callback_context};
+ghost use Rattle.gss_ctx.specs.Making.{Inits, Adds, MakesChild, MakesChildOf, callback_context};
 
 use crate::context::{Context, Entry};
 use crate::contexts::{Contexts, handle_of, is_live};
@@ -80,7 +80,7 @@ impl<P: Drop> Contexts<P> {
             carry: None,
             used: now,
         };
-        self.insert(context, now)?;
+        self.insert(context, now);
         Ok(Inited::Made {
             handle,
             window: WINDOW_SIZE,
@@ -114,7 +114,7 @@ impl<P: Drop> Contexts<P> {
             carry: None,
             used: now,
         };
-        self.insert(context, now)?;
+        self.insert(context, now);
         Ok(Some(number))
     }
 
@@ -140,21 +140,40 @@ impl<P: Drop> Contexts<P> {
         ensures ok { IfOk result (λ answer. MakesChild M.derived now parent carry (is_full now self.old.entries) (root_of now parent self.old.entries) self.old self.new answer) }
         ensures err { OnErr result (self.new ≡ self.old) }
     {
+        let root = root_of(self.entries.as_slice(), parent, now).unwrap();
+        let principal = Octets::from_slice(alloc, root.context.principal.as_slice())?;
+        Ok(self.create_child_taken(parent, principal, carry, now, mech))
+    }
+
+    /// The same with the child's principal, which is its parent's, as a value that it takes over. It takes no
+    /// memory.
+    pub fn create_child_taken<M: Mechanism>(
+        &mut self,
+        parent: u32,
+        principal: Octets,
+        carry: P,
+        now: u64,
+        mech: &M,
+    ) -> Result<u32, P>
+        requires room { self.old.made < 4294967295 }
+        requires parent { IsSome (root_of now parent self.old.entries) }
+        ensures { MakesChildOf M.derived now parent principal carry (is_full now self.old.entries) (root_of now parent self.old.entries) self.old self.new result }
+    {
         if self.is_full(now) {
-            return Ok(Err(carry));
+            return Err(carry);
         }
         let number = self.made + 1;
         let handle = handle_of(self.boot, number);
         let root = root_of(self.entries.as_slice(), parent, now).unwrap();
         let context = Context {
-            principal: root.context.principal.copy()?,
+            principal,
             parent: Some(parent),
             key: mech.derive(&root.context.key, CHILD, &handle),
             carry: Some(carry),
             used: now,
         };
-        self.insert(context, now)?;
-        Ok(Ok(number))
+        self.insert(context, now);
+        Ok(number)
     }
 }
 

@@ -1,17 +1,15 @@
-ghost use Rattle.std.specs.Prelude.{◌≡◌, ◌<◌, ◌++◌, length, take, drop, bytes_eq, if◌then◌else◌, replicate, IfOk, OnOk, IfSome, IsSome, None, Some, MatchOption};
+ghost use Rattle.std.specs.Prelude.{◌≡◌, ◌+◌, ◌<◌, ◌≤◌, ◌++◌, length, take, drop, bytes_eq, if◌then◌else◌, replicate, IfOk, None, Some, MatchOption};
 ghost use Rattle.std.specs.Option.{option_copied};
 ghost use Rattle.rpc_msg.specs.Heads.{call};
 ghost use Rattle.wire_xdr.specs.Words.{padding, word_bytes};
 ghost use Rattle.wire_xdr.specs.All.{value_of};
-ghost use Rattle.gss_ctx.specs.Table.{context_of};
-ghost use Rattle.gss_ctx.specs.Seals.{cred_of, header_of, code_auth, is_code, sealed_body, two_opaques, unsealed, is_first_version, reply_code, sealed_reply};
+ghost use Rattle.gss_ctx.specs.Seals.{cred_of, header_of, code_auth, is_code, sealed_body, two_opaques, unsealed, is_first_version, reply_code};
 
-use crate::contexts::Contexts;
 use gss_mech::Mechanism;
 use outcome::Mem;
-use rpc_msg::{Auth, CallHead, GssCred, ReplyHead, Stat};
+use rpc_msg::{Auth, CallHead, GssCred};
 use std::alloc::Global;
-use wire_xdr::{Octets, Reader, Writer, Xdr, put_four, read_all};
+use wire_xdr::{Octets, Page, Reader, Writer, Xdr, put_four, read_all};
 
 /// The flavor of RPCSEC_GSS.
 pub(crate) const GSS: u32 = 6;
@@ -22,8 +20,8 @@ pub(crate) const INITIATOR: u8 = 0;
 /// The side of the codes that an acceptor makes.
 pub(crate) const ACCEPTOR: u8 = 1;
 
-/// More room than a head, the lengths and a code need, in bytes.
-const ROOM: usize = 1024;
+/// How many bytes a seal adds to what is carried, at most: two lengths, the number, the padding and the code.
+pub(crate) const SEAL_ROOM: usize = 47;
 
 /// The RPCSEC_GSS credential of a head, where it has one.
 pub(crate) fn read_cred(alloc: Global, head: &CallHead) -> Mem<Option<GssCred>>
@@ -72,7 +70,7 @@ pub(crate) fn is_code(verf: &Auth, code: &[u8; 32]) -> bool
     verf.flavor == GSS && verf.body.as_slice() == code.as_slice()
 }
 
-/// A message: its head, and what is carried under a seal. What is carried is copied once and hashed once.
+/// A message: its head, and what is carried under a seal.
 pub(crate) fn seal_message<M: Mechanism>(
     alloc: Global,
     head: &[u8],
@@ -85,26 +83,33 @@ pub(crate) fn seal_message<M: Mechanism>(
     requires { length payload.now < 4294967292 }
     ensures { IfOk result (λ message. message ≡ head.now ++ sealed_body (M.mic_of key.now side) seq payload.now) }
 {
-    let mut bytes = Vec::with_capacity(alloc, payload.len() + ROOM)?;
-    bytes.extend_from_slice(head)?;
-    push_word(&mut bytes, payload.len() as u32 + 4)?;
-    let start = bytes.len();
-    push_word(&mut bytes, seq)?;
-    bytes.extend_from_slice(payload)?;
-    let code = mech.mic(key, side, &bytes.as_slice()[start..]);
-    bytes.extend_from_slice(zeros_behind(payload.len()))?;
-    push_word(&mut bytes, 32)?;
-    bytes.extend_from_slice(&code)?;
-    Ok(Octets::from_vec(bytes))
+    let mut page = Page::new(alloc, head.len() + payload.len() + SEAL_ROOM)?;
+    page.append(head);
+    put_sealed(&mut page, key, side, seq, payload, mech);
+    Ok(page.finish())
 }
 
-/// Adds a word.
-#[tactic(auto, unfolding(wire_xdr::specs::Words::word_bytes))]
-fn push_word(bytes: &mut Vec<u8>, word: u32) -> Mem<()>
-    ensures { OnOk result (bytes.new.items ≡ bytes.old.items ++ word_bytes word) }
+/// Puts what is carried under a seal. It is copied once and hashed once.
+pub(crate) fn put_sealed<M: Mechanism>(
+    page: &mut Page,
+    key: &[u8; 32],
+    side: u8,
+    seq: u32,
+    payload: &[u8],
+    mech: &M,
+)
+    requires small { length payload.now < 4294967292 }
+    requires room { length page.old.bytes + length payload.now + SEAL_ROOM ≤ page.old.room }
+    ensures { page.new.bytes ≡ page.old.bytes ++ sealed_body (M.mic_of key.now side) seq payload.now }
 {
-    bytes.extend_from_slice(&word.to_be_bytes())?;
-    Ok(())
+    page.u32(payload.len() as u32 + 4);
+    let start = page.len();
+    page.u32(seq);
+    page.append(payload);
+    let code = mech.mic(key, side, &page.as_slice()[start..]);
+    page.append(zeros_behind(payload.len()));
+    page.u32(32);
+    page.append(&code);
 }
 
 /// The two parts of an integrity body: the sealed bytes and the code. They are lent.
@@ -181,35 +186,6 @@ fn is_first_version(head: &CallHead) -> bool
     match head.cred.body.as_slice().strip_prefix(&[0, 0, 0, 1]) {
         Some(_) => true,
         None => false,
-    }
-}
-
-impl<P> Contexts<P> {
-    /// Seals the reply to a call that was admitted: the whole record, with the status SUCCESS.
-    #[tactic(auto, unfolding(crate::specs::Seals::sealed_reply, rpc_msg::specs::Heads::call, rpc_msg::specs::Heads::reply, rpc_msg::specs::Heads::auth, rpc_msg::specs::Heads::stat))]
-    pub fn seal_reply<M: Mechanism>(
-        &self,
-        alloc: Global,
-        number: u32,
-        seq: u32,
-        head: &CallHead,
-        result_: &[u8],
-        mech: &M,
-    ) -> Mem<Octets>
-        requires there { IsSome (context_of number self.now.entries) }
-        requires small { length result_.now < 4294967292 }
-        requires head { call.Fits head.now }
-        ensures { IfOk result (λ message. IfSome (context_of number self.now.entries) (λ context. message ≡ sealed_reply M.mic_of context.key head.now seq result_.now)) }
-    {
-        let key = &self.context(number).unwrap().key;
-        let reply = ReplyHead::Accepted {
-            xid: head.xid,
-            verf: code_auth(alloc, &reply_code(alloc, key, head, seq, mech)?)?,
-            stat: Stat::Success,
-        };
-        let mut writer = Writer::new(alloc)?;
-        reply.put(&mut writer)?;
-        seal_message(alloc, writer.as_slice(), key, ACCEPTOR, seq, result_, mech)
     }
 }
 
