@@ -11,6 +11,9 @@ use Rattle.gss_ctx.specs.declared.admit.Verdict.{Verdict}
 use Rattle.gss_ctx.specs.Window.{is_below, has}
 use Rattle.gss_ctx.specs.Table.{ContextTable, entry_of, live_entry, noted_on, used_on}
 use Rattle.gss_ctx.specs.Seals.{Mic, cred_of, header_of, is_code, unsealed}
+use Rattle.rpc_msg.specs.declared.numbers.TheConstants.{CALL, AUTH_BADCRED, AUTH_TOOWEAK, RPCSEC_GSS_CREDPROBLEM, RPCSEC_GSS_CTXPROBLEM, RPCSEC_GSS_DATA, RPCSEC_GSS_DESTROY, RPC_GSS_SVC_NONE, RPC_GSS_SVC_PRIVACY}
+use Rattle.gss_mech.specs.declared.mechanism.TheConstants.{INITIATOR}
+use Rattle.gss_ctx.specs.declared.numbers.TheConstants.{RPCSEC_GSS_CREATE, RPCSEC_GSS_VERSION_1, RPCSEC_GSS_VERSION_3}
 
 -- a row of the table: what has to hold, and the answer where it doesn't
 abbrev pub Row : Type 0
@@ -20,29 +23,29 @@ abbrev pub first_failing : List Row → Option Admit
 first_failing [] = None
 first_failing (row ∷ rows) = if row.0 then first_failing rows else Some row.1
 
--- version 1 or 3; DATA 0, DESTROY 3 or CREATE 5; none 1, integrity 2 or privacy 3
+-- version 1 or 3; DATA, DESTROY or CREATE; no protection, integrity or privacy
 abbrev pub is_served : GssCred → Bool
 is_served cred =
-    ((cred.version == 1) || (cred.version == 3))
-    && ((cred.gss_proc == 0) || (cred.gss_proc == 3) || (cred.gss_proc == 5))
-    && nat_le 1 cred.service && nat_le cred.service 3
+    ((cred.version == RPCSEC_GSS_VERSION_1) || (cred.version == RPCSEC_GSS_VERSION_3))
+    && ((cred.gss_proc == RPCSEC_GSS_DATA) || (cred.gss_proc == RPCSEC_GSS_DESTROY) || (cred.gss_proc == RPCSEC_GSS_CREATE))
+    && nat_le RPC_GSS_SVC_NONE cred.service && nat_le cred.service RPC_GSS_SVC_PRIVACY
 
 -- CREATE is of version 3, and not under a child
 abbrev pub may_create : {P : Type 0} → GssCred → Entry P → Bool
-may_create cred entry = not (cred.gss_proc == 5) || ((cred.version == 3) && is_none entry.context.parent)
+may_create cred entry = not (cred.gss_proc == RPCSEC_GSS_CREATE) || ((cred.version == RPCSEC_GSS_VERSION_3) && is_none entry.context.parent)
 
 -- the rows before the number is seen, and those after
 abbrev pub number_rows : {P : Type 0} → Mic → CallHead → GssCred → Entry P → List Row
 number_rows mic head cred entry =
-    (nat_lt cred.seq_num (2 ^ 31), Denied 14)
-    ∷ (is_code head.verf (mic entry.context.key 0 (header_of 0 head)), Denied 13)
+    (nat_lt cred.seq_num (2 ^ 31), Denied RPCSEC_GSS_CTXPROBLEM)
+    ∷ (is_code head.verf (mic entry.context.key INITIATOR (header_of CALL head)), Denied RPCSEC_GSS_CREDPROBLEM)
     ∷ (not (is_below entry.window cred.seq_num), Dropped Old)
     ∷ (not (has entry.window cred.seq_num), Dropped Repeat) ∷ []
 
 abbrev pub service_rows : {P : Type 0} → GssCred → Entry P → List Row
 service_rows cred entry =
-    (not (cred.service == 1), Denied 5)
-    ∷ (not (cred.service == 3) && may_create cred entry, Denied 1) ∷ []
+    (not (cred.service == RPC_GSS_SVC_NONE), Denied AUTH_TOOWEAK)
+    ∷ (not (cred.service == RPC_GSS_SVC_PRIVACY) && may_create cred entry, Denied AUTH_BADCRED) ∷ []
 
 -- the answer, and the context and number that are seen with it
 abbrev pub unseen : Admit → Verdict
@@ -59,22 +62,22 @@ unless_denied (Some denial) answer = denial
 -- what is answered once the number is seen
 abbrev pub seen_answer : {P : Type 0} → Mic → GssCred → List ℕ → Entry P → Admit
 seen_answer mic cred body entry =
-    unless_denied (first_failing (service_rows cred entry)) (body_answer entry.number cred.seq_num (unsealed (mic entry.context.key 0) cred.seq_num body))
+    unless_denied (first_failing (service_rows cred entry)) (body_answer entry.number cred.seq_num (unsealed (mic entry.context.key INITIATOR) cred.seq_num body))
 
 abbrev pub past_number : {P : Type 0} → Mic → GssCred → List ℕ → Entry P → Option Admit → Verdict
 past_number mic cred body entry (Some answer) = unseen answer
 past_number mic cred body entry None = record { answer = seen_answer mic cred body entry; seen = Some (entry.number, cred.seq_num) }
 
 abbrev pub on_entry : {P : Type 0} → Mic → CallHead → List ℕ → GssCred → Option (Entry P) → Verdict
-on_entry mic head body cred None = unseen (Denied 13)
+on_entry mic head body cred None = unseen (Denied RPCSEC_GSS_CREDPROBLEM)
 on_entry mic head body cred (Some entry) = past_number mic cred body entry (first_failing (number_rows mic head cred entry))
 
 abbrev pub on_cred : {P : Type 0} → Mic → ℕ → CallHead → List ℕ → ContextTable P → Option GssCred → Verdict
-on_cred mic now head body table None = unseen (Denied 1)
+on_cred mic now head body table None = unseen (Denied AUTH_BADCRED)
 on_cred mic now head body table (Some cred) =
     if is_served cred
     then on_entry mic head body cred (live_entry table.boot now cred.handle table.entries)
-    else unseen (Denied 1)
+    else unseen (Denied AUTH_BADCRED)
 
 -- the answer to a call with this head and this body
 unfoldable pub verdict_of : {P : Type 0} → Mic → ℕ → CallHead → List ℕ → ContextTable P → Verdict

@@ -10,6 +10,8 @@ use Rattle.rpc_msg.specs.declared.gss_cred.GssCred.{GssCred}
 use Rattle.gss_ctx.specs.declared.caller.Sealed.{Sealed}
 use Rattle.gss_ctx.specs.Seals.{Mic, header_of, code_auth, sealed_body, reply_code}
 use Rattle.gss_ctx.specs.Table.{boot_named, number_named}
+use Rattle.rpc_msg.specs.declared.numbers.TheConstants.{AUTH_NONE, CALL, RPCSEC_GSS, RPC_GSS_SVC_INTEGRITY}
+use Rattle.gss_mech.specs.declared.mechanism.TheConstants.{INITIATOR}
 
 -- whose context this is, its handle and its key, and the number of the next call
 pub record Side : Type 0 where
@@ -24,25 +26,25 @@ seal_of side seq = record { owner = side.owner; boot = boot_named side.handle; n
 
 -- no verifier, and a credential of flavor 6
 abbrev pub none_auth : Auth
-none_auth = record { flavor = 0; body = [] }
+none_auth = record { flavor = AUTH_NONE; body = [] }
 
 abbrev pub cred_auth : GssCred → Auth
-cred_auth cred = record { flavor = 6; body = gss_cred.spell cred }
+cred_auth cred = record { flavor = RPCSEC_GSS; body = gss_cred.spell cred }
 
 -- the credential of a call under integrity
 abbrev pub call_cred : List ℕ → ℕ → GssCred → GssCred
-call_cred handle seq asked = record { version = asked.version; gss_proc = asked.gss_proc; seq_num = seq; service = 2; handle = handle }
+call_cred handle seq asked = record { version = asked.version; gss_proc = asked.gss_proc; seq_num = seq; service = RPC_GSS_SVC_INTEGRITY; handle = handle }
 
 -- a head with this credential, and the same with the code of its header as verifier
 abbrev pub with_cred : CallHead → GssCred → CallHead
 with_cred head cred = record head { cred = cred_auth cred; verf = none_auth }
 
 abbrev pub verified : Mic → List ℕ → CallHead → CallHead
-verified mic key head = record head { verf = code_auth (mic key 0 (header_of 0 head)) }
+verified mic key head = record head { verf = code_auth (mic key INITIATOR (header_of CALL head)) }
 
 -- a call as it is sent
 abbrev pub sealed_call : Mic → List ℕ → CallHead → ℕ → List ℕ → List ℕ
-sealed_call mic key head seq args = call.spell (verified mic key head) ++ sealed_body (mic key 0) seq args
+sealed_call mic key head seq args = call.spell (verified mic key head) ++ sealed_body (mic key INITIATOR) seq args
 
 abbrev pub sealed_of : Mic → Side → CallHead → List ℕ → Sealed
 sealed_of mic side head args = record {

@@ -10,10 +10,9 @@ use Rattle.gss_ctx.specs.declared.making.Inited.{Inited}
 use Rattle.gss_ctx.specs.declared.making.Inited.TheVariants.{Made, Refused}
 use Rattle.gss_ctx.specs.Table.{ContextTable, handle_of, is_full, with_new}
 use Rattle.gss_ctx.specs.Seals.{Mic}
-
--- the window of every context, in numbers
-abbrev pub window_size : ℕ
-window_size = 128
+use Rattle.nfs_base.specs.declared.limits.TheConstants.{WINDOW_SIZE}
+use Rattle.gss_mech.specs.declared.mechanism.TheConstants.{ACCEPTOR}
+use Rattle.gss_ctx.specs.declared.numbers.TheConstants.{CHILD_KEY, CALLBACK_KEY}
 
 -- the context of an accepted token
 abbrev pub accepted_context : {P : Type 0} → ℕ → Accepted → Context P
@@ -21,17 +20,17 @@ accepted_context now taken = record { principal = taken.principal; parent = None
 
 -- what INIT answers with it: the verifier is the acceptor's code of the window under the new key
 abbrev pub made_of : Mic → ℕ → ℕ → Accepted → Inited
-made_of mic boot number taken = Made (handle_of boot number) window_size taken.token (mic taken.key 1 (word_bytes window_size))
+made_of mic boot number taken = Made (handle_of boot number) WINDOW_SIZE taken.token (mic taken.key ACCEPTOR (word_bytes WINDOW_SIZE))
 
 -- a child of a context with this principal, and with a key derived from its parent's
 abbrev pub child_context : {P : Type 0} → (List ℕ → ℕ → List ℕ → List ℕ) → List ℕ → ℕ → List ℕ → Context P → P → ℕ → Context P
 child_context derived handle parent principal of carry now =
-    record { principal = principal; parent = Some parent; key = derived of.key 4 handle; carry = Some carry; used = now }
+    record { principal = principal; parent = Some parent; key = derived of.key CHILD_KEY handle; carry = Some carry; used = now }
 
 -- a callback context
 abbrev pub callback_context : {P : Type 0} → (List ℕ → ℕ → List ℕ → List ℕ) → List ℕ → List ℕ → List ℕ → ℕ → Context P
 callback_context derived handle principal from now =
-    record { principal = principal; parent = None; key = derived from 5 handle; carry = None; used = now }
+    record { principal = principal; parent = None; key = derived from CALLBACK_KEY handle; carry = None; used = now }
 
 -- What INIT answers, and what it leaves: the token is tested first, with a nonce of zeros, then the table,
 -- then the draw. That the token is refused with the drawn nonce doesn't come, by the law of mechanisms.

@@ -18,6 +18,7 @@ use Rattle.gss_ctx.specs.declared.caller.Checked.{Checked}
 use Rattle.gss_ctx.specs.declared.caller.Checked.TheVariants as checked
 use Rattle.gss_ctx.specs.Forms.{init_result}
 use Rattle.gss_ctx.specs.Seals.{Mic, is_code, unsealed}
+use Rattle.gss_mech.specs.declared.mechanism.TheConstants.{ACCEPTOR}
 
 -- ---- the reply to a sealed call
 
@@ -28,7 +29,7 @@ result_of (Some result) = checked.Result result
 -- a result has the awaited code as verifier, and a body sealed by the acceptor with the call's number
 abbrev pub of_stat : Mic → List ℕ → Awaited → List ℕ → Auth → Stat → Checked
 of_stat mic key awaited body verf Success =
-    if is_code verf awaited.code then result_of (unsealed (mic key 1) awaited.seq body) else checked.Unmatched
+    if is_code verf awaited.code then result_of (unsealed (mic key ACCEPTOR) awaited.seq body) else checked.Unmatched
 of_stat mic key awaited body verf stat = checked.Failed stat
 
 abbrev pub of_head : Mic → List ℕ → Awaited → List ℕ → ReplyHead → Checked
@@ -49,7 +50,7 @@ checked_of mic key awaited message = of_read mic key awaited message (head_told 
 abbrev pub begun_under : Mic → Auth → InitResult → Option (List ℕ) → Begun
 begun_under mic verf made None = begun.Unmatched
 begun_under mic verf made (Some key) =
-    if is_code verf (mic key 1 (word_bytes made.window)) then begun.Made made.handle key else begun.Unmatched
+    if is_code verf (mic key ACCEPTOR (word_bytes made.window)) then begun.Made made.handle key else begun.Unmatched
 
 -- a result whose major status is 0 has a handle of 8 bytes
 abbrev pub begun_with : Mic → (List ℕ → Option (List ℕ)) → Auth → Option InitResult → Begun

@@ -2,7 +2,7 @@
 use Rattle.std.specs.Prelude.{◌≢◌, ◌≤◌, ℕ, ◌+◌, ◌-◌, ◌==◌, ◌||◌, ◌&&◌, Bool, false, not, nat_lt, nat_le, if◌then◌else◌, List, [], ◌∷◌, ◌++◌, take, drop, filter, find, fold, count_by, min, is_none, bytes_eq, Option, Some, None, option_map}
 use Rattle.std.specs.Int.{w32, from_be_bytes}
 use Rattle.std.specs.List.{AllByRecursion}
-use Rattle.nfs_base.specs.declared.limits.TheConstants.{MOST_CONTEXTS}
+use Rattle.nfs_base.specs.declared.limits.TheConstants.{CONTEXT_IDLE, MOST_CONTEXTS}
 use Rattle.nfs_base.specs.declared.seal.End.{End}
 use Rattle.wire_xdr.specs.Words.{word_bytes}
 use Rattle.gss_ctx.specs.declared.context.Context.{Context}
@@ -44,11 +44,11 @@ number_named handle = from_be_bytes w32 (drop 4 handle)
 
 -- it admitted something in the last 3,600 seconds, or was made in them
 abbrev pub is_live : {P : Type 0} → ℕ → Entry P → Bool
-is_live now entry = nat_lt (now - entry.context.used) 3600
+is_live now entry = nat_lt (now - entry.context.used) CONTEXT_IDLE
 
 -- 256 live contexts are held
 abbrev pub is_full : {P : Type 0} → ℕ → List (Entry P) → Bool
-is_full now entries = nat_le 256 (count_by (is_live now) entries)
+is_full now entries = nat_le MOST_CONTEXTS (count_by (is_live now) entries)
 
 abbrev pub entry_of : {P : Type 0} → ℕ → List (Entry P) → Option (Entry P)
 entry_of number entries = find (λ e. e.number == number) entries
@@ -57,8 +57,11 @@ abbrev pub context_of : {P : Type 0} → ℕ → List (Entry P) → Option (Cont
 context_of number entries = option_map (λ e. e.context) (entry_of number entries)
 
 -- the live context of a handle
+abbrev pub is_named : {P : Type 0} → ℕ → ℕ → List ℕ → Entry P → Bool
+is_named boot now handle e = bytes_eq (handle_of boot e.number) handle && is_live now e
+
 abbrev pub live_entry : {P : Type 0} → ℕ → ℕ → List ℕ → List (Entry P) → Option (Entry P)
-live_entry boot now handle entries = find (λ e. bytes_eq (handle_of boot e.number) handle && is_live now e) entries
+live_entry boot now handle entries = find (is_named boot now handle) entries
 
 -- the lowest number of a live context above another number
 abbrev pub lower : Option ℕ → ℕ → Option ℕ
@@ -72,8 +75,11 @@ abbrev pub lowest_above : {P : Type 0} → ℕ → ℕ → List (Entry P) → Op
 lowest_above after now entries = fold (lower_live after now) None entries
 
 -- a live context that isn't a child
+abbrev pub is_root : {P : Type 0} → ℕ → ℕ → Entry P → Bool
+is_root now number e = (e.number == number) && is_live now e && is_none e.context.parent
+
 abbrev pub root_of : {P : Type 0} → ℕ → ℕ → List (Entry P) → Option (Entry P)
-root_of now number entries = find (λ e. (e.number == number) && is_live now e && is_none e.context.parent) entries
+root_of now number entries = find (is_root now number) entries
 
 abbrev pub is_number : Option ℕ → ℕ → Bool
 is_number None n = false

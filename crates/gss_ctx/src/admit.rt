@@ -2,16 +2,20 @@ ghost use Rattle.std.specs.Prelude.{◌≡◌, drop, map, vec_capacity, None, If
 ghost use Rattle.std.specs.Option.{option_copied};
 ghost use Rattle.rpc_msg.specs.Heads.{call};
 ghost use Rattle.rpc_msg.specs.Messages.{IsHead};
-ghost use Rattle.gss_ctx.specs.Table.{context_of, live_entry, noted_on, used_on, is_number};
+ghost use Rattle.gss_ctx.specs.Table.{context_of, is_named, live_entry, noted_on, used_on, is_number};
 ghost use Rattle.gss_ctx.specs.Seals.{cred_of, header_of};
 ghost use Rattle.gss_ctx.specs.Admission.{is_served, may_create, number_rows, service_rows, first_failing, seen_answer, parent_of, number_of, IsNamed, verdict_of, with_seen, with_use, after_verdict};
 
 use crate::context::Entry;
 use crate::contexts::{Contexts, entry_of, handle_of, is_live};
-use crate::sealing::{INITIATOR, is_code, read_cred, unsealed, write_header};
-use gss_mech::Mechanism;
+use crate::numbers::{RPCSEC_GSS_CREATE, RPCSEC_GSS_VERSION_1, RPCSEC_GSS_VERSION_3};
+use crate::sealing::{is_code, read_cred, unsealed, write_header};
+use gss_mech::{INITIATOR, Mechanism};
 use outcome::Mem;
-use rpc_msg::{CallHead, GssCred};
+use rpc_msg::{
+    AUTH_BADCRED, AUTH_TOOWEAK, CALL, CallHead, GssCred, RPC_GSS_SVC_NONE, RPC_GSS_SVC_PRIVACY,
+    RPCSEC_GSS_CREDPROBLEM, RPCSEC_GSS_CTXPROBLEM, RPCSEC_GSS_DATA, RPCSEC_GSS_DESTROY,
+};
 use std::alloc::Global;
 use wire_xdr::Octets;
 
@@ -45,26 +49,6 @@ pub struct Verdict {
     pub seen: Option<(u32, u32)>,
 }
 
-/// RPCSEC_GSS procedures and services (RFC 2203 section 5.2.1, RFC 7861 section 2).
-const DATA: u32 = 0;
-
-const DESTROY: u32 = 3;
-
-const CREATE: u32 = 5;
-
-const NONE: u32 = 1;
-
-const PRIVACY: u32 = 3;
-
-// auth_stat, RFC 5531 section 9 and RFC 2203 section 5.3.3.3.
-const BADCRED: u32 = 1;
-
-const TOOWEAK: u32 = 5;
-
-const CREDPROBLEM: u32 = 13;
-
-const CTXPROBLEM: u32 = 14;
-
 /// An answer with which no number is seen.
 fn unseen(answer: Admit) -> Verdict
     ensures { result ≡ record { answer = answer; seen = None } }
@@ -76,17 +60,20 @@ fn unseen(answer: Admit) -> Verdict
 fn is_served(cred: &GssCred) -> bool
     ensures { result ≡ is_served cred.now }
 {
-    (cred.version == 1 || cred.version == 3)
-        && (cred.gss_proc == DATA || cred.gss_proc == DESTROY || cred.gss_proc == CREATE)
-        && 1 <= cred.service
-        && cred.service <= PRIVACY
+    (cred.version == RPCSEC_GSS_VERSION_1 || cred.version == RPCSEC_GSS_VERSION_3)
+        && (cred.gss_proc == RPCSEC_GSS_DATA
+            || cred.gss_proc == RPCSEC_GSS_DESTROY
+            || cred.gss_proc == RPCSEC_GSS_CREATE)
+        && RPC_GSS_SVC_NONE <= cred.service
+        && cred.service <= RPC_GSS_SVC_PRIVACY
 }
 
 /// Whether CREATE may be called here: in version 3, and not under a child.
 fn may_create<P>(cred: &GssCred, entry: &Entry<P>) -> bool
     ensures { result ≡ may_create cred.now entry.now }
 {
-    cred.gss_proc != CREATE || (cred.version == 3 && entry.context.parent.is_none())
+    cred.gss_proc != RPCSEC_GSS_CREATE
+        || (cred.version == RPCSEC_GSS_VERSION_3 && entry.context.parent.is_none())
 }
 
 /// The answer of the first row that fails, of those before the number is seen.
@@ -97,14 +84,14 @@ fn number_fault<P, M: Mechanism>(
     entry: &Entry<P>,
     mech: &M,
 ) -> Option<Admit>
-    requires { header.now ≡ header_of 0 head.now }
+    requires { header.now ≡ header_of CALL head.now }
     ensures { result ≡ first_failing (number_rows M.mic_of head.now cred.now entry.now) }
 {
     if cred.seq_num >= 1 << 31 {
-        return Some(Admit::Denied(CTXPROBLEM));
+        return Some(Admit::Denied(RPCSEC_GSS_CTXPROBLEM));
     }
     if !is_code(&head.verf, &mech.mic(&entry.context.key, INITIATOR, header)) {
-        return Some(Admit::Denied(CREDPROBLEM));
+        return Some(Admit::Denied(RPCSEC_GSS_CREDPROBLEM));
     }
     if entry.window.is_below(cred.seq_num) {
         return Some(Admit::Dropped { why: Why::Old });
@@ -119,11 +106,11 @@ fn number_fault<P, M: Mechanism>(
 fn service_fault<P>(cred: &GssCred, entry: &Entry<P>) -> Option<Admit>
     ensures { result ≡ first_failing (service_rows cred.now entry.now) }
 {
-    if cred.service == NONE {
-        return Some(Admit::Denied(TOOWEAK));
+    if cred.service == RPC_GSS_SVC_NONE {
+        return Some(Admit::Denied(AUTH_TOOWEAK));
     }
-    if cred.service == PRIVACY || !may_create(cred, entry) {
-        return Some(Admit::Denied(BADCRED));
+    if cred.service == RPC_GSS_SVC_PRIVACY || !may_create(cred, entry) {
+        return Some(Admit::Denied(AUTH_BADCRED));
     }
     None
 }
@@ -193,10 +180,10 @@ impl<P> Contexts<P> {
         ensures named { IfOk result (λ verdict. IfSome (number_of verdict.answer) (IsNamed now (cred_of head.now) self.now)) }
     {
         let Some(cred) = read_cred(alloc, head)? else {
-            return Ok(unseen(Admit::Denied(BADCRED)));
+            return Ok(unseen(Admit::Denied(AUTH_BADCRED)));
         };
         if !is_served(&cred) {
-            return Ok(unseen(Admit::Denied(BADCRED)));
+            return Ok(unseen(Admit::Denied(AUTH_BADCRED)));
         }
         let Some(entry) = live_entry(
             self.entries.as_slice(),
@@ -204,9 +191,9 @@ impl<P> Contexts<P> {
             cred.handle.as_slice(),
             now,
         ) else {
-            return Ok(unseen(Admit::Denied(CREDPROBLEM)));
+            return Ok(unseen(Admit::Denied(RPCSEC_GSS_CREDPROBLEM)));
         };
-        let header = write_header(alloc, 0, head)?;
+        let header = write_header(alloc, CALL, head)?;
         if let Some(fault) = number_fault(head, header.as_slice(), &cred, entry, mech) {
             return Ok(unseen(fault));
         }
@@ -248,12 +235,14 @@ fn live_entry<'a, P>(
 ) -> Option<&'a Entry<P>>
     ensures { option_copied result ≡ live_entry boot now handle.now entries.now }
 {
-    for entry in entries {
-        if handle_of(boot, entry.number).as_slice() == handle && is_live(entry, now) {
-            return Some(entry);
-        }
-    }
-    None
+    entries.iter().find(|e| is_named(e, boot, handle, now))
+}
+
+/// Whether a context is live and has this handle.
+fn is_named<P>(entry: &Entry<P>, boot: u32, handle: &[u8], now: u64) -> bool
+    ensures { result ≡ is_named boot now handle.now entry.now }
+{
+    handle_of(boot, entry.number).as_slice() == handle && is_live(entry, now)
 }
 
 /// The number of a context's parent, where it is a child.

@@ -7,11 +7,11 @@ ghost use Rattle.gss_ctx.specs.Init.{init_head, init_message};
 ghost use Rattle.gss_ctx.specs.Replies.{begun_of, begun_with};
 
 use crate::caller::call_head;
-use crate::sealing::{ACCEPTOR, is_code};
-use gss_mech::Mechanism;
-use nfs_base::TOKEN_LIMIT;
+use crate::sealing::is_code;
+use gss_mech::{ACCEPTOR, Mechanism};
+use nfs_base::{PROC_NULL, TOKEN_LIMIT};
 use outcome::Mem;
-use rpc_msg::{Auth, Denial, ReplyHead, Stat, read_reply};
+use rpc_msg::{Auth, Denial, RPCSEC_GSS_INIT, ReplyHead, Stat, read_reply};
 use std::alloc::Global;
 use wire_xdr::{Octets, ReadError, Reader, Writer, Xdr, read_all, write_all};
 
@@ -101,7 +101,7 @@ pub fn init_call(alloc: Global, xid: u32, token: &[u8]) -> Mem<Octets>
     requires { length token.now ≤ TOKEN_LIMIT }
     ensures { IfOk result (λ message. message ≡ init_message xid token.now) }
 {
-    let head = call_head(alloc, xid, 0, 1)?;
+    let head = call_head(alloc, xid, PROC_NULL, RPCSEC_GSS_INIT)?;
     let mut writer = Writer::new(alloc)?;
     head.put(&mut writer)?;
     writer.opaque(token)?;

@@ -7,14 +7,17 @@ ghost use Rattle.gss_ctx.specs.Init.{asked_head, asked_cred};
 ghost use Rattle.gss_ctx.specs.Replies.{checked_of};
 
 use crate::contexts::named_by;
+use crate::numbers::RPCSEC_GSS_VERSION_3;
 use crate::sealing::{
-    ACCEPTOR, GSS, INITIATOR, code_auth, is_code, read_cred, reply_code, seal_message, unsealed,
-    write_header,
+    code_auth, is_code, read_cred, reply_code, seal_message, unsealed, write_header,
 };
-use gss_mech::Mechanism;
-use nfs_base::{End, Seal};
+use gss_mech::{ACCEPTOR, INITIATOR, Mechanism};
+use nfs_base::{End, NFS_PROGRAM, NFS_VERSION, Seal};
 use outcome::Mem;
-use rpc_msg::{Auth, CallHead, Denial, GssCred, ReplyHead, Stat, read_reply};
+use rpc_msg::{
+    Auth, CALL, CallHead, Denial, GssCred, RPC_GSS_SVC_INTEGRITY, RPC_VERSION, RPCSEC_GSS,
+    ReplyHead, Stat, read_reply,
+};
 use std::alloc::Global;
 use std::marker::Model;
 use wire_xdr::{Octets, Writer, Xdr};
@@ -73,17 +76,17 @@ pub fn call_head(alloc: Global, xid: u32, proc: u32, gss_proc: u32) -> Mem<CallH
     ensures cred { IfOk result (λ head. cred_of head ≡ Some (asked_cred gss_proc)) }
 {
     let cred = GssCred {
-        version: 3,
+        version: RPCSEC_GSS_VERSION_3,
         gss_proc,
         seq_num: 0,
-        service: 2,
+        service: RPC_GSS_SVC_INTEGRITY,
         handle: Octets::from_vec(Vec::new(alloc)),
     };
     Ok(CallHead {
         xid,
-        rpcvers: 2,
-        prog: 100_003,
-        vers: 4,
+        rpcvers: RPC_VERSION,
+        prog: NFS_PROGRAM,
+        vers: NFS_VERSION,
         proc,
         cred: cred_auth(alloc, &cred)?,
         verf: Auth::none(alloc),
@@ -101,7 +104,7 @@ pub(crate) fn cred_auth(alloc: Global, cred: &GssCred) -> Mem<Auth>
     let mut writer = Writer::new(alloc)?;
     cred.put(&mut writer)?;
     Ok(Auth {
-        flavor: GSS,
+        flavor: RPCSEC_GSS,
         body: writer.finish(),
     })
 }
@@ -161,7 +164,7 @@ impl Caller {
             version: asked.version,
             gss_proc: asked.gss_proc,
             seq_num: seq,
-            service: 2,
+            service: RPC_GSS_SVC_INTEGRITY,
             handle: Octets::from_slice(alloc, &self.handle)?,
         };
         let sent = CallHead {
@@ -243,7 +246,7 @@ pub(crate) fn sealed_call<M: Mechanism>(
     requires args { length args.now < 4294967292 }
     ensures { IfOk result (λ message. message ≡ sealed_call M.mic_of key.now head seq args.now) }
 {
-    let header = write_header(alloc, 0, &head)?;
+    let header = write_header(alloc, CALL, &head)?;
     let verf = code_auth(alloc, &mech.mic(key, INITIATOR, header.as_slice()))?;
     let verified = CallHead { verf, ..head };
     let mut writer = Writer::new(alloc)?;

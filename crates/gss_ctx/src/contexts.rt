@@ -125,36 +125,23 @@ impl<P: Drop> Contexts<P> {
 pub(crate) fn entry_of<P>(entries: &[Entry<P>], number: u32) -> Option<&Entry<P>>
     ensures { option_copied result ≡ entry_of number entries.now }
 {
-    for entry in entries {
-        if entry.number == number {
-            return Some(entry);
-        }
-    }
-    None
+    entries.iter().find(|e| e.number == number)
 }
 
 /// How many contexts are live.
 fn live_count<P>(entries: &[Entry<P>], now: u64) -> usize
     ensures { result ≡ count_by (is_live now) entries.now }
 {
-    let mut count = 0;
-    for entry in entries {
-        if is_live(entry, now) {
-            count += 1;
-        }
-    }
-    count
+    entries.iter().filter(|e| is_live(e, now)).count()
 }
 
 /// The lowest number of a live context above another number.
 fn lowest_above<P>(entries: &[Entry<P>], after: u32, now: u64) -> Option<u32>
     ensures { result ≡ lowest_above after now entries.now }
 {
-    let mut lowest = None;
-    for entry in entries {
-        lowest = lower_live(lowest, entry, after, now);
-    }
-    lowest
+    entries
+        .iter()
+        .fold(None, |lowest, e| lower_live(lowest, e, after, now))
 }
 
 /// The lower of a number and that of a context, where this is live and above `after`.

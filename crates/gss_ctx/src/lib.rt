@@ -17,6 +17,7 @@ mod contexts;
 mod create;
 mod laws;
 mod making;
+mod numbers;
 mod sealer;
 mod sealing;
 mod window;
@@ -33,4 +34,7 @@ pub use create::{
 };
 pub use laws::{admitted_once, ends_meet, sealed_once};
 pub use making::Inited;
+pub use numbers::{
+    CALLBACK_KEY, CHILD_KEY, RPCSEC_GSS_CREATE, RPCSEC_GSS_VERSION_1, RPCSEC_GSS_VERSION_3,
+};
 pub use sealer::Sealer;

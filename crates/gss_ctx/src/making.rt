@@ -1,26 +1,18 @@
 ghost use Rattle.std.specs.Prelude.{◌≡◌, ◌<◌, ◌≤◌, ◌+◌, IfOk, OnErr, IsSome, is_some, replicate};
 ghost use Rattle.std.specs.Option.{option_copied};
 ghost use Rattle.outcome.specs.Causes.{Rose};
-ghost use Rattle.gss_ctx.specs.Table.{handle_of, is_full, root_of, with_new};
+ghost use Rattle.gss_ctx.specs.Table.{handle_of, is_full, is_root, root_of, with_new};
 ghost use Rattle.gss_ctx.specs.Making.{Inits, Adds, MakesChild, MakesChildOf, callback_context};
 
 use crate::context::{Context, Entry};
 use crate::contexts::{Contexts, handle_of, is_live};
-use gss_mech::Mechanism;
+use crate::numbers::{CALLBACK_KEY, CHILD_KEY};
+use gss_mech::{ACCEPTOR, Mechanism};
 use nfs_base::WINDOW_SIZE;
 use outcome::Mem;
 use std::alloc::Global;
 use streams::{Drawn, Draws};
 use wire_xdr::Octets;
-
-/// The kind of key that a child has, derived from its parent's.
-const CHILD: u8 = 4;
-
-/// The kind of key that a callback context has, derived from that of the context that made its session.
-const CALLBACK: u8 = 5;
-
-/// The side of the codes that an acceptor makes.
-const ACCEPTOR: u8 = 1;
 
 /// What INIT answers (RFC 2203 section 5.2.3).
 #[derive(Debug, Drop)]
@@ -110,7 +102,7 @@ impl<P: Drop> Contexts<P> {
         let context = Context {
             principal: Octets::from_slice(alloc, principal)?,
             parent: None,
-            key: mech.derive(from, CALLBACK, &handle_of(self.boot, number)),
+            key: mech.derive(from, CALLBACK_KEY, &handle_of(self.boot, number)),
             carry: None,
             used: now,
         };
@@ -168,7 +160,7 @@ impl<P: Drop> Contexts<P> {
         let context = Context {
             principal,
             parent: Some(parent),
-            key: mech.derive(&root.context.key, CHILD, &handle),
+            key: mech.derive(&root.context.key, CHILD_KEY, &handle),
             carry: Some(carry),
             used: now,
         };
@@ -181,10 +173,12 @@ impl<P: Drop> Contexts<P> {
 fn root_of<P>(entries: &[Entry<P>], number: u32, now: u64) -> Option<&Entry<P>>
     ensures { option_copied result ≡ root_of now number entries.now }
 {
-    for entry in entries {
-        if entry.number == number && is_live(entry, now) && entry.context.parent.is_none() {
-            return Some(entry);
-        }
-    }
-    None
+    entries.iter().find(|e| is_root(e, number, now))
+}
+
+/// Whether this is the live context of a number, and isn't a child.
+fn is_root<P>(entry: &Entry<P>, number: u32, now: u64) -> bool
+    ensures { result ≡ is_root now number entry.now }
+{
+    entry.number == number && is_live(entry, now) && entry.context.parent.is_none()
 }

@@ -4,8 +4,8 @@ ghost use Rattle.gss_ctx.specs.Table.{context_of};
 ghost use Rattle.gss_ctx.specs.Seals.{reply_front, sealed_reply, sealing_of, sealed_with};
 
 use crate::contexts::Contexts;
-use crate::sealing::{ACCEPTOR, SEAL_ROOM, code_auth, put_sealed, reply_code};
-use gss_mech::Mechanism;
+use crate::sealing::{SEAL_ROOM, code_auth, put_sealed, reply_code};
+use gss_mech::{ACCEPTOR, Mechanism};
 use outcome::Mem;
 use rpc_msg::{CallHead, ReplyHead, Stat};
 use std::alloc::Global;

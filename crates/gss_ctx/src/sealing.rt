@@ -5,20 +5,11 @@ ghost use Rattle.wire_xdr.specs.Words.{padding, word_bytes};
 ghost use Rattle.wire_xdr.specs.All.{value_of};
 ghost use Rattle.gss_ctx.specs.Seals.{cred_of, header_of, code_auth, is_code, sealed_body, two_opaques, unsealed, is_first_version, reply_code};
 
-use gss_mech::Mechanism;
+use gss_mech::{ACCEPTOR, Mechanism};
 use outcome::Mem;
-use rpc_msg::{Auth, CallHead, GssCred};
+use rpc_msg::{Auth, CallHead, GssCred, REPLY, RPCSEC_GSS};
 use std::alloc::Global;
 use wire_xdr::{Octets, Page, Reader, Writer, Xdr, put_four, read_all};
-
-/// The flavor of RPCSEC_GSS.
-pub(crate) const GSS: u32 = 6;
-
-/// The side of the codes that an initiator makes.
-pub(crate) const INITIATOR: u8 = 0;
-
-/// The side of the codes that an acceptor makes.
-pub(crate) const ACCEPTOR: u8 = 1;
 
 /// How many bytes a seal adds to what is carried, at most: two lengths, the number, the padding and the code.
 pub(crate) const SEAL_ROOM: usize = 47;
@@ -27,7 +18,7 @@ pub(crate) const SEAL_ROOM: usize = 47;
 pub(crate) fn read_cred(alloc: Global, head: &CallHead) -> Mem<Option<GssCred>>
     ensures { IfOk result (λ cred. cred ≡ cred_of head.now) }
 {
-    if head.cred.flavor != GSS {
+    if head.cred.flavor != RPCSEC_GSS {
         return Ok(None);
     }
     Ok(read_all(alloc, head.cred.body.as_slice())?.ok())
@@ -58,7 +49,7 @@ pub(crate) fn code_auth(alloc: Global, code: &[u8; 32]) -> Mem<Auth>
     ensures { IfOk result (λ auth. auth ≡ code_auth code.now) }
 {
     Ok(Auth {
-        flavor: GSS,
+        flavor: RPCSEC_GSS,
         body: Octets::from_slice(alloc, code)?,
     })
 }
@@ -67,7 +58,7 @@ pub(crate) fn code_auth(alloc: Global, code: &[u8; 32]) -> Mem<Auth>
 pub(crate) fn is_code(verf: &Auth, code: &[u8; 32]) -> bool
     ensures { result ≡ is_code verf.now code.now }
 {
-    verf.flavor == GSS && verf.body.as_slice() == code.as_slice()
+    verf.flavor == RPCSEC_GSS && verf.body.as_slice() == code.as_slice()
 }
 
 /// A message: its head, and what is carried under a seal.
@@ -175,7 +166,7 @@ pub(crate) fn reply_code<M: Mechanism>(
     if is_first_version(head) {
         return Ok(mech.mic(key, ACCEPTOR, &seq.to_be_bytes()));
     }
-    let header = write_header(alloc, 1, head)?;
+    let header = write_header(alloc, REPLY, head)?;
     Ok(mech.mic(key, ACCEPTOR, header.as_slice()))
 }
 

@@ -30,7 +30,7 @@ context_key key initiator acceptor = hmac key (2 ∷ (initiator ++ acceptor))
 abbrev pub reply_code : List ℕ → List ℕ
 reply_code key = hmac key (3 ∷ [])
 
--- the code of bytes by the initiator (side 0) or the acceptor (side 1)
+-- the code of bytes by a side, the initiator or the acceptor
 unfoldable pub realm_mic : List ℕ → ℕ → List ℕ → List ℕ
 realm_mic key side bytes = hmac key (side ∷ bytes)
 

@@ -14,5 +14,5 @@ mod realm;
 mod token;
 
 pub use hmac::hmac_sha256;
-pub use mechanism::{Accepted, Mechanism, tokens_agree};
+pub use mechanism::{ACCEPTOR, Accepted, INITIATOR, Mechanism, tokens_agree};
 pub use realm::Realm;

@@ -7,6 +7,12 @@ use outcome::Mem;
 use std::alloc::Global;
 use wire_xdr::Octets;
 
+/// The side of the codes that an initiator makes.
+pub const INITIATOR: u8 = 0;
+
+/// The side of the codes that an acceptor makes.
+pub const ACCEPTOR: u8 = 1;
+
 /// What an acceptor makes of a token: who sent it, the key of the new context, and the token that goes
 /// back.
 #[derive(Debug, Drop)]
@@ -19,7 +25,7 @@ pub struct Accepted {
 /// A security mechanism, as RPCSEC_GSS uses it (RFC 2203 section 5). Nothing is claimed of the strength of
 /// its codes.
 pub trait Mechanism: Drop {
-    // The code of bytes under a key, made by the initiator (side 0) or the acceptor (side 1).
+    // The code of bytes under a key, made by a side, the initiator or the acceptor.
     ghost mic_of: { List ℕ → ℕ → List ℕ → List ℕ };
 
     // The key of a kind that is derived from a key for a handle.
@@ -35,7 +41,7 @@ pub trait Mechanism: Drop {
     // where this is one of the realm for them.
     ghost finished: { Self → List ℕ → List ℕ → List ℕ → Option (List ℕ) };
 
-    /// The code of bytes under a key: the initiator is side 0, the acceptor side 1. It takes no memory.
+    /// The code of bytes under a key that a side makes, [`INITIATOR`] or [`ACCEPTOR`]. It takes no memory.
     fn mic(&self, key: &[u8; 32], side: u8, bytes: &[u8]) -> [u8; 32]
         ensures { result ≡ mic_of key.now side bytes.now };
 
