@@ -10,10 +10,11 @@ use Rattle.copy_privs.specs.declared.create.Confirming.{Confirming}
 use Rattle.copy_privs.specs.declared.peer.Peer.{Peer}
 use Rattle.copy_privs.specs.declared.privilege.Privilege.{Privilege}
 use Rattle.copy_privs.specs.declared.privilege.Privilege.TheVariants.{From, To, Confirm}
+use Rattle.gss_mech.specs.declared.mechanism.TheConstants.{INITIATOR}
 
 -- the code is the initiator's code of the secret under the key
 abbrev pub confirms : (List ℕ → ℕ → List ℕ → List ℕ) → List ℕ → List ℕ → List ℕ → Bool
-confirms mic_of code secret key = bytes_eq code (mic_of key 0 secret)
+confirms mic_of code secret key = bytes_eq code (mic_of key INITIATOR secret)
 
 -- ---- the servers of the realm
 
