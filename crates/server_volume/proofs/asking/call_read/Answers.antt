@@ -1,0 +1,34 @@
+use Rattle.std.proofs.Common.{length, ap, ◌∙◌}
+use Rattle.server_volume.specs.declared.used.CallAnswer.{CallAnswer}
+use Rattle.server_volume.specs.declared.used.VolumeCall.TheVariants as calls
+use Rattle.server_volume.specs.Calls.{read_call, Reads}
+use Rattle.server_volume.specs.Choices.{noted}
+use Rattle.server_volume.specs.Store.{seat_of}
+use Rattle.server_volume.proofs.CallLemmas.{reads_make, reads_ran}
+use Rattle.server_volume.proofs.Facts.{read_facts}
+use Rattle.server_volume.proofs.asking.call_read.Goals as goal
+
+pub returns-clause-makes : goal.returns-clause-makes
+unfolding read_call
+returns-clause-makes g c = λ told choice agrees.
+    let D = g.D.Disk in
+    let old = c.args.volume.now in
+    let new = c.read-result.new.self in
+    let e = c.read-result.ensures in
+    let facts = read_facts D.size D.fuse D.timeline c.args.file c.args.off (length c.args.out.now) c.read-result.result old new c.requires.there e.broken
+    (e.volume told) e.tag e.homes e.size e.fuse (e.timeline told) in
+    reads_make c.read-result.result (Reads c.args.file c.args.off (length c.args.out.now)) (seat_of D.size D.fuse D.timeline old) (seat_of D.size D.fuse D.timeline new)
+    c.args.used.now c.note.new.self facts
+    (c.note.ensures ∙ ap (λ (a : CallAnswer). noted c.args.used.now (calls.Read c.args.file c.args.off (length c.args.out.now)) a) c.read_answer.ensures) choice agrees
+
+pub returns-clause-ran : goal.returns-clause-ran
+returns-clause-ran g c = λ told.
+    let D = g.D.Disk in
+    let old = c.args.volume.now in
+    let new = c.read-result.new.self in
+    let e = c.read-result.ensures in
+    let facts = read_facts D.size D.fuse D.timeline c.args.file c.args.off (length c.args.out.now) c.read-result.result old new c.requires.there e.broken
+    (e.volume told) e.tag e.homes e.size e.fuse (e.timeline told) in
+    reads_ran c.read-result.result (Reads c.args.file c.args.off (length c.args.out.now)) (seat_of D.size D.fuse D.timeline old) (seat_of D.size D.fuse D.timeline new)
+    c.args.used.now c.note.new.self facts
+    (c.note.ensures ∙ ap (λ (a : CallAnswer). noted c.args.used.now (calls.Read c.args.file c.args.off (length c.args.out.now)) a) c.read_answer.ensures)

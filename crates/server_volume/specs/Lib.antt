@@ -1,0 +1,5 @@
+pub mod Calls
+pub mod Choices
+pub mod MomentLaws
+pub mod Moments
+pub mod Store
