@@ -1,0 +1,5 @@
+pub mod Answering
+pub mod Handles
+pub mod Machine
+pub mod Reading
+pub mod Writing
