@@ -12,5 +12,5 @@ mod laws;
 mod used;
 
 pub use asking::{call_commit, call_read, call_write};
-pub use laws::moments_join;
+pub use laws::{moments_join, one_call_is_one_effect};
 pub use used::{CallAnswer, CallList, MOST_CALLS, Used, VolumeCall};
