@@ -1,2 +1,3 @@
 mod Stored
 mod Torn
+mod Whole

@@ -1,4 +1,4 @@
-ghost use Rattle.std.specs.Prelude.{◌≡◌, ◌↔◌, ℕ, ◌+◌, ◌<◌, ◌≤◌, IsTrue};
+ghost use Rattle.std.specs.Prelude.{◌≡◌, ◌↔◌, ℕ, ◌+◌, ◌<◌, ◌≤◌, IsTrue, length};
 ghost use Rattle.outcome.specs.Causes.{Rose};
 ghost use Rattle.disk_model.specs.declared.fuse.Fuse.{Fuse};
 ghost use Rattle.disk_model.specs.declared.fuse.Fuse.TheVariants.{Unset};
@@ -32,9 +32,10 @@ pub trait Disk {
     // How many calls failed. The count stops at the end of its type.
     ghost faults: { Self → ℕ };
 
-    /// How many blocks the disk has.
+    /// How many blocks the disk has. A read of any of them gives 4,096 bytes.
     fn blocks(&self) -> u64
-        ensures { result ≡ size self.now };
+        ensures count { result ≡ size self.now }
+        ensures whole { Told → (b : ℕ) → length (contents (timeline self.now) b) ≡ 4096 };
 
     /// Reads a block.
     fn read(&mut self, at: u64, block: &mut Block) -> Io

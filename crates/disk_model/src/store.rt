@@ -45,6 +45,7 @@ pub(crate) struct Store {
     calls: Vec<Call>,
     ghost reads: { IsReplayed written left calls.items },
     ghost placed: { HavePlaces left calls.items },
+    ghost whole: { (b : ℕ) → length (base_of left b) ≡ 4096 },
 }
 
 impl Store {
@@ -165,6 +166,7 @@ fn synced_len(calls: &[Call]) -> usize
 fn apply(left: &mut BTreeMap<u64, Box<Block>>, calls: &[Call], pick: u8)
     requires { HavePlaces left.old calls.now }
     ensures torn { (b : ℕ) → base_of left.new b ≡ torn pick calls.now (base_of left.old) b }
+    ensures whole { ((b : ℕ) → length (base_of left.old b) ≡ 4096) → (b : ℕ) → length (base_of left.new b) ≡ 4096 }
     ensures placed { (call : Call) → has_place left.new call ≡ has_place left.old call }
 {
     for call in calls {

@@ -11,11 +11,11 @@ use Rattle.block_file.proofs.opening.load_head.Goals as goal
 pub returns-then-size-eq0-clause-refused : goal.returns-then-size-eq0-clause-refused
 returns-then-size-eq0-clause-refused g c = λ told.
     flaw_none (g.D.Disk.size c.args.disk.now) (contents (g.D.Disk.timeline c.args.disk.now))
-    (sym c.sync.ensures.size ∙ sym c.blocks-size.ensures ∙ c.if-size-eq0.true)
+    (sym c.sync.ensures.size ∙ sym c.blocks-size.ensures.count ∙ c.if-size-eq0.true)
 
 pub returns-in-Err-clause-refused : goal.returns-in-Err-clause-refused
 returns-in-Err-clause-refused g c = λ told.
-    let size : c.blocks-size.result ≡ g.D.Disk.size c.args.disk.now = c.blocks-size.ensures ∙ c.sync.ensures.size in
+    let size : c.blocks-size.result ≡ g.D.Disk.size c.args.disk.now = c.blocks-size.ensures.count ∙ c.sync.ensures.size in
     let some : g.D.Disk.size c.args.disk.now ≢ 0 = λ e. c.if-size-eq0.false (size ∙ e) in
     let block : c.read.new.block ≡ contents (g.D.Disk.timeline c.args.disk.now) 0 =
     c.in-Done-read.ensures.bytes told refl ∙ (c.sync.ensures.synced told).same 0 in
@@ -38,7 +38,7 @@ returns-in-Err-clause-any_moment g c = λ told.
 
 pub returns-in-Ok-clause-head : goal.returns-in-Ok-clause-head
 returns-in-Ok-clause-head g c = λ told.
-    let size : c.blocks-size.result ≡ g.D.Disk.size c.args.disk.now = c.blocks-size.ensures ∙ c.sync.ensures.size in
+    let size : c.blocks-size.result ≡ g.D.Disk.size c.args.disk.now = c.blocks-size.ensures.count ∙ c.sync.ensures.size in
     let block : c.read.new.block ≡ contents (g.D.Disk.timeline c.args.disk.now) 0 =
     c.in-Done-read.ensures.bytes told refl ∙ (c.sync.ensures.synced told).same 0 in
     subst (λ (n : ℕ). HeadIs n c.in-Ok.shape c.tag_in.result (contents (g.D.Disk.timeline c.args.disk.now) 0)) size

@@ -11,7 +11,7 @@ returns-in-Done-clause-formatted g c = λ told image left.
     let product : c.from-2.result * c.from-3.result ≡ c.args.files * c.args.blocks =
     ap (λ (n : ℕ). n * c.from-3.result) c.from-2.ensures ∙ ap (λ (n : ℕ). c.args.files * n) c.from-3.ensures in
     let room : blocks_of c.args.files c.args.blocks ≤ c.blocks-have.result = omega (arith, product, files, c.if-have-need.false) in
-    let same : c.blocks-have.result ≡ g.D.Disk.size c.lay_out.new.disk = c.blocks-have.ensures ∙ sym c.lay_out.ensures.size in
+    let same : c.blocks-have.result ≡ g.D.Disk.size c.lay_out.new.disk = c.blocks-have.ensures.count ∙ sym c.lay_out.ensures.size in
     subst (λ (n : ℕ). IsFormatted n c.args.files c.args.blocks c.args.tag image) same
     (formatted_is c.blocks-have.result _ c.args.tag (present (g.D.Disk.timeline c.lay_out.new.disk)) image room
     (c.in-Done.ensures.head told refl) (c.in-Done.ensures.cleared told refl) (c.in-Done.ensures.settled told refl) left)

@@ -16,3 +16,6 @@ returns-clause-left c =
     (base_of c.args.self.now.left) (base_of c.apply.new.left) (base_of c.apply-2.new.left) c.deref.result.now
     (rw calls_are c.requires) (rw calls_are c.args.self.now.placed) c.synced_len-synced.ensures.open
     (c.synced_len-synced.ensures.rest (base_of c.args.self.now.left)) c.apply.ensures.torn c.apply-2.ensures.torn)
+
+pub invariant_of-self-clause-whole : goal.invariant_of-self-clause-whole
+invariant_of-self-clause-whole c = c.apply-2.ensures.whole (c.apply.ensures.whole c.args.self.now.whole)
