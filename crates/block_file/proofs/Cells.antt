@@ -26,19 +26,6 @@ write_passes at block result f g old new w time soon =
     (λ image left. spares_now at (present old) image left)
     (λ image left. spares_write at block result (present old) (present new) w image left)
 
--- a write and then a sync, of which what is said is what the write left
-pub sync_passes : (at : ℕ) (block : List ℕ) (first second : Io) (f g h : Fuse) (old middle new : Timeline)
-    → Writes at block first (present old) (present middle) → Elapses f g old middle → middle.latest ≤ old.latest + 1
-    → Syncs second (present middle) (present new) → Elapses g h middle new → new.latest ≤ middle.latest + 1
-    → Passes f h old new (Spares at (present old))
-sync_passes at block first second f g h old middle new w time soon s later close =
-    passes_on (Spares at (present old)) f g h old middle new
-    (write_passes at block first f g old middle w time soon)
-    (passes_one (Spares at (present old)) g h middle new later close
-    (λ image left. spares_write at block first (present old) (present middle) w image left)
-    (λ image left. λ b ne closed.
-    left b (s.kept b ((w.elsewhere b ne).1 ∙ closed)) ∙ (s.same b ∙ (w.elsewhere b ne).0)))
-
 pub lands : (at : ℕ) (block : List ℕ) (second : Io) (old middle new : DiskState)
     → Writes at block Done old middle → Syncs second middle new → Lands at block second old new
 lands at block second old middle new w s = record {

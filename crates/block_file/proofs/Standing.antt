@@ -170,12 +170,6 @@ put_passes shape safe before after table j f g old new le stands had has passes 
     ])
     passes
 
--- the blocks outside a cell are as they were
-pub content_put : (shape : Shape) (tables : ℕ → List ℕ) (content : ℕ → ℕ → List ℕ) (j : ℕ) (old new : DiskState) → j ≤ shape.files
-    → Keeps (cell_at j) old new → HasContent shape tables content old.reads → HasContent shape tables content new.reads
-content_put shape tables content j old new le keeps has = λ i c at.
-    keeps.reads (place_of shape (tables i) i c) (data_outside shape.files shape.blocks i c (home_in (tables i) c) j le) ∙ has i c at
-
 pub stands_put : (shape : Shape) (safe : Safe) (table : List ℕ) (j home : ℕ) (old new : DiskState) → j ≤ shape.files
     → safe.homes j ≡ home → Stands shape safe old → Keeps (cell_at j) old new → IsCell new (cell_at j) (1 - home)
     → new.reads (cell_at j + 1 + (1 - home)) ≡ table → IsSettled new → Stands shape (with_table safe j table) new
@@ -218,11 +212,6 @@ pub put_passes_at : (shape : Shape) (safe : Safe) (before after : ℕ → ℕ �
 put_passes_at shape safe before after table j at f g old new e le stands had has passes =
     put_passes shape safe before after table j f g old new le stands had has
     (subst (λ (a : ℕ). Passes f g old new (OldOrNew a (present old) (cell_of (contents old) a) table)) e passes)
-
-pub content_put_at : (shape : Shape) (tables : ℕ → List ℕ) (content : ℕ → ℕ → List ℕ) (j at : ℕ) (old new : DiskState) → at ≡ cell_at j
-    → j ≤ shape.files → Keeps at old new → HasContent shape tables content old.reads → HasContent shape tables content new.reads
-content_put_at shape tables content j at old new e le keeps =
-    content_put shape tables content j old new le (subst (λ (a : ℕ). Keeps a old new) e keeps)
 
 pub stands_put_at : (shape : Shape) (safe : Safe) (table : List ℕ) (j home at turned : ℕ) (old new : DiskState) → at ≡ cell_at j
     → turned ≡ 1 - home → j ≤ shape.files → safe.homes j ≡ home → Stands shape safe old → Keeps at old new → IsCell new at turned

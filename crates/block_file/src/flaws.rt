@@ -43,7 +43,7 @@ fn has_letters(head: &Block) -> bool
 
 // Whether there can't be a volume of so many files of so many blocks on a disk of this size.
 fn is_misfit(files: u32, blocks: u32, size: u64) -> bool
-    requires { files ≤ 64 }
+    requires { files ≤ MOST_FILES }
     ensures { result ≡ is_misfit files blocks size }
 {
     let slots = u64::from(files) * u64::from(blocks);

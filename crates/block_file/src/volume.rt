@@ -141,8 +141,8 @@ impl<D: Disk> Volume<D> {
         self.tag
     }
 
-    /// Whether a write or commit of this opening failed. At any time a crash leaves the volume as it is, and
-    /// only a failed commit leaves a doubt of what.
+    /// Whether a write or commit of this opening failed. At any time a crash leaves of each file its safe
+    /// contents; only of the file of a failed commit it may leave those that this was making safe.
     pub fn is_broken(&self) -> bool
         ensures broken { result ≡ self.now.volume.broken }
         ensures stands { D.Told → StandsFor D.timeline D.size self.now }
