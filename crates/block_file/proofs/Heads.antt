@@ -9,7 +9,8 @@ use Rattle.block_file.specs.declared.shape.Shape.{Shape}
 use Rattle.block_file.specs.Layout.{letters, head_files, head_blocks, blocks_of}
 use Rattle.block_file.specs.Stored.{head_flaw, is_misfit, first_stain}
 use Rattle.block_file.specs.Opened.{HeadIs}
-use Rattle.block_file.proofs.Parts.{put_in, front_put, part_put, past_put, len_put, before_put, beyond_put}
+use Rattle.block_file.specs.Lists.{put_in}
+use Rattle.block_file.proofs.Parts.{front_put, part_put, past_put, len_put, before_put, beyond_put}
 
 pub clean_zeros : (at n : ℕ) → first_stain at (replicate n 0) ≡ None
 clean_zeros at zero = refl

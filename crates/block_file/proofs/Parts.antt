@@ -1,11 +1,8 @@
 -- Bytes put at a place, in the place of what was there.
 use Rattle.std.proofs.Common.{◌≡◌, ℕ, ◌+◌, ◌-◌, ◌≤◌, List, ◌++◌, length, take, drop, sym, ◌∙◌, ap, arith, length-append, length-drop}
 use Rattle.std.proofs.Math.Seq.{take-append_seam, drop-append_seam}
+use Rattle.block_file.specs.Lists.{put_in}
 use Rattle.std.proofs.lemmas.List.{take-append-le, take-take, drop-drop, drop-take, length-take-le}
-
--- what put_part says
-abbrev pub put_in : ℕ → List ℕ → List ℕ → List ℕ
-put_in at part xs = take at xs ++ (part ++ drop (at + length part) xs)
 
 pub front_put : (at k : ℕ) (part xs : List ℕ) → at ≤ length xs → k ≤ at → take k (put_in at part xs) ≡ take k xs
 front_put at k part xs le within =

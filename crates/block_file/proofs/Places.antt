@@ -86,3 +86,10 @@ pub next_apart : (shape : Shape) (table : List ℕ) (j b c : ℕ) → InShape sh
 next_apart shape table j b c at other ne same =
     let one = same_place shape.files shape.blocks j b (1 - home_in table b) j c (1 - home_in table c) at.some other.some at.block other.block (omega arith) (omega arith) same in
     ne one.1
+
+-- and no other block is in the place where a block is written next
+pub other_apart : (shape : Shape) (table : List ℕ) (j b i c h : ℕ) → InShape shape j b → InShape shape i c → h ≤ 1 → (i ≡ j → c ≡ b → ⊥)
+    → data_at shape.files shape.blocks i c h ≢ next_place shape table j b
+other_apart shape table j b i c h at other le ne same =
+    let one = same_place shape.files shape.blocks i c h j b (1 - home_in table b) other.some at.some other.block at.block le (omega arith) same in
+    ne one.0 one.1

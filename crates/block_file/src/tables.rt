@@ -1,5 +1,6 @@
-ghost use Rattle.std.specs.Prelude.{◌≡◌, ℕ, ◌+◌, ◌-◌, ◌<◌, ◌≤◌, ◌++◌, length, [], take, drop, slice_index, slice_index_or};
+ghost use Rattle.std.specs.Prelude.{◌≡◌, ◌≢◌, ℕ, ◌+◌, ◌-◌, ◌<◌, ◌≤◌, ◌++◌, length, [], take, drop, slice_index, slice_index_or};
 ghost use Rattle.std.specs.Int.{w32, from_be_bytes};
+ghost use Rattle.block_file.specs.Lists.{put_in};
 ghost use Rattle.block_file.specs.Layout.{boot_in, head_tag, size_in, change_in, home_in};
 
 use disk_model::Block;
@@ -72,10 +73,7 @@ pub fn next_table(table: &Block, blocks: u32, size: u64, change: u64) -> Block
     ensures change { change_in result ≡ change }
     ensures homes { (b : ℕ) → b < blocks → home_in result b ≡ 1 - home_in table.now b }
 {
-    let mut next = turned(table, blocks);
-    put_part(&mut next, 0, &size.to_be_bytes());
-    put_part(&mut next, 8, &change.to_be_bytes());
-    next
+    with_words(&turned(table, blocks), size, change)
 }
 
 // The table with the bits of so many blocks turned.
@@ -92,10 +90,39 @@ fn turned(table: &Block, blocks: u32) -> Block
     next
 }
 
+/// The table with a file's size and change attribute.
+pub fn with_words(table: &Block, size: u64, change: u64) -> Block
+    ensures size { size_in result ≡ size }
+    ensures change { change_in result ≡ change }
+    ensures homes { (b : ℕ) → home_in result b ≡ home_in table.now b }
+{
+    let mut next = *table;
+    put_part(&mut next, 0, &size.to_be_bytes());
+    put_part(&mut next, 8, &change.to_be_bytes());
+    next
+}
+
+/// Names a home of a block in a table.
+pub fn set_home(table: &mut Block, block: u32, home: u8)
+    requires few { block < 16384 }
+    requires two { home ≤ 1 }
+    ensures here { home_in table.new block ≡ home }
+    ensures others { (b : ℕ) → b ≢ block → home_in table.new b ≡ home_in table.old b }
+    ensures words { take 16 table.new ≡ take 16 table.old }
+{
+    let at = 16 + block as usize / 8;
+    let bit = 1u8 << (block % 8);
+    if home == 1 {
+        table[at] |= bit;
+    } else {
+        table[at] &= !bit;
+    }
+}
+
 /// Puts bytes at a place of a block.
 pub fn put_part(block: &mut Block, at: usize, part: &[u8])
     requires { at + length part.now ≤ 4096 }
-    ensures { block.new ≡ take at block.old ++ (part.now ++ drop (at + length part.now) block.old) }
+    ensures { block.new ≡ put_in at part.now block.old }
 {
     block[at..at + part.len()].copy_from_slice(part);
 }

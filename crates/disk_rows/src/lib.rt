@@ -13,4 +13,6 @@ mod disks;
 #[cfg(test)]
 mod formats;
 #[cfg(test)]
+mod homes;
+#[cfg(test)]
 mod openings;

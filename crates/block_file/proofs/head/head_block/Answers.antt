@@ -2,7 +2,7 @@ use Rattle.std.proofs.Common.{◌≡◌, ℕ, List, replicate, w32, refl, sym, �
 use Rattle.std.specs.Int.{to_be_bytes}
 use Rattle.block_file.specs.Layout.{letters}
 use Rattle.block_file.specs.Opened.{HeadIs}
-use Rattle.block_file.proofs.Parts.{put_in}
+use Rattle.block_file.specs.Lists.{put_in}
 use Rattle.block_file.proofs.Heads.{head_is, head_of}
 use Rattle.block_file.proofs.head.head_block.Goals as goal
 
