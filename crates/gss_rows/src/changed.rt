@@ -1,11 +1,9 @@
-use crate::ends::{Server, Told, drawn};
 use crate::vectors::{GETATTR, INIT};
-use gss_ctx::{Begun, Caller, Checked, Why, call_head, init_reply};
-use nfs_base::End;
+use gss_ctx::{Begun, Checked, Why, init_reply};
 use rpc_msg::{CountDraws, Denial, Stat};
 use std::alloc::Global;
-use std::process::Abort;
 use std::test::Fail;
+use two_ends::{Client, Server, Told, Wrong, drawn, same};
 
 /// What becomes of the call where the last bit of the byte at this place is turned.
 fn told_at(at: usize) -> Told {
@@ -44,47 +42,38 @@ fn told_after(at: usize) -> Told {
     Told::Dropped(Why::Repeat)
 }
 
-/// Sends the recorded call with some bits of a byte turned, and then as it was recorded.
-fn check_call(
-    rt: &impl Abort,
-    alloc: Global,
-    at: usize,
-    bits: u8,
-    wanted: Told,
-) -> Result<(), Fail> {
-    let mut server = Server::with_context(rt, alloc, 0)?;
-    let call = changed(alloc, GETATTR.call, at, bits)?;
-    let told = server.take(alloc, call.as_slice(), 0)?;
-    assert_eq!(rt; told, wanted, "{bits} at {at}");
-    let call = changed(alloc, GETATTR.call, at, 0)?;
-    let told = server.take(alloc, call.as_slice(), 0)?;
-    assert_eq!(rt; told, told_after(at), "behind {bits} at {at}");
-    Ok(())
+/// The bytes with these bits turned in the byte at a place.
+fn changed(alloc: Global, bytes: &[u8], at: usize, bits: u8) -> Result<Vec<u8>, Wrong> {
+    let mut bytes = Vec::from_slice(alloc, bytes)?;
+    match bytes.get_mut(at) {
+        Some(byte) => *byte ^= bits,
+        None => return Err(Wrong::Lacks("a byte")),
+    }
+    Ok(bytes)
 }
 
-/// The bytes of a text in hex, with these bits turned in the byte at this place.
-fn changed(alloc: Global, text: &str, at: usize, bits: u8) -> Result<Vec<u8>, Fail> {
-    let mut bytes = hex::decode(alloc, text)?;
-    let byte = bytes.get_mut(at).ok_or("no such byte")?;
-    *byte ^= bits;
-    Ok(bytes)
+/// Sends the recorded call with some bits of a byte turned, and then as it was recorded.
+fn check_call(alloc: Global, call: &[u8], at: usize, bits: u8, wanted: Told) -> Result<(), Wrong> {
+    let mut server = Server::with_context(alloc, 0)?;
+    let turned = changed(alloc, call, at, bits)?;
+    let told = server.take(alloc, turned.as_slice(), 0)?;
+    same(alloc, at, &told, &wanted)?;
+    let told = server.take(alloc, call, 0)?;
+    same(alloc, at, &told, &told_after(at))
 }
 
 #[test]
 fn each_byte_of_a_call(rt: HostRuntime) -> Result<(), Fail> {
+    let call = hex::decode(rt.alloc(), GETATTR.call)?;
+    same(rt.alloc(), 0, &call.len(), &260)?;
     for at in 0..260 {
-        check_call(&rt, rt.alloc(), at, 1, told_at(at))?;
+        check_call(rt.alloc(), call.as_slice(), at, 1, told_at(at))?;
     }
-    assert_eq!(rt; hex::decode(rt.alloc(), GETATTR.call)?.len(), 260);
-    Ok(())
-}
-
-#[test]
-fn other_bits_of_a_call(rt: HostRuntime) -> Result<(), Fail> {
     // A number of 2^31 or more is denied before the verifier is tested, and service 1 behind it.
-    check_call(&rt, rt.alloc(), 40, 128, Told::Denied(14))?;
-    check_call(&rt, rt.alloc(), 47, 3, Told::Denied(13))?;
-    check_call(&rt, rt.alloc(), 47, 2, Told::Denied(1))
+    for (at, bits, stat) in [(40, 128, 14), (47, 3, 13), (47, 2, 1)] {
+        check_call(rt.alloc(), call.as_slice(), at, bits, Told::Denied(stat))?;
+    }
+    Ok(())
 }
 
 /// What a record is taken for by a caller: as `Checked` without the result.
@@ -105,68 +94,63 @@ fn taken_at(at: usize) -> Taken {
     Taken::Unmatched
 }
 
-/// What a caller takes a record for, which awaits the reply to its fifth call under context 1, xid 6.
-fn take(rt: &impl Abort, alloc: Global, record_: &[u8]) -> Result<Taken, Fail> {
-    let server = Server::with_context(rt, alloc, 0)?;
-    let key = server.key(1).ok_or("no context 1")?;
-    let mut caller = Caller::new(End::Source, [0, 0, 0, 1, 0, 0, 0, 1], key);
-    let head = call_head(alloc, 6, 1, 0)?;
+/// What a client takes a record for, which awaits the reply to its fifth call under context 1, xid 6.
+fn take(alloc: Global, record_: &[u8]) -> Result<Taken, Wrong> {
+    let server = Server::with_context(alloc, 0)?;
+    let mut client = Client::new([0, 0, 0, 1, 0, 0, 0, 1], server.key(1)?);
     for _ in 0..4 {
-        caller.seal_call(alloc, &head, &[], &server.mech)?;
+        client.seal(alloc, (6, 1, 0), &[], &server.mech)?;
     }
-    let sealed = caller
-        .seal_call(alloc, &head, &[], &server.mech)?
-        .ok_or("no number is left")?;
-    assert_eq!(rt; sealed.awaited.seq, 5);
-    Ok(
-        match caller.check_reply(alloc, &sealed.awaited, record_, &server.mech)? {
-            Checked::Result(_) => Taken::Result,
-            Checked::Failed(stat) => Taken::Failed(stat),
-            Checked::Denied(why) => Taken::Denied(why),
-            Checked::Unmatched => Taken::Unmatched,
-        },
-    )
+    let sealed = client.seal(alloc, (6, 1, 0), &[], &server.mech)?;
+    same(alloc, 0, &sealed.awaited.seq, &5)?;
+    Ok(match client.check(alloc, &sealed, record_, &server.mech)? {
+        Checked::Result(_) => Taken::Result,
+        Checked::Failed(stat) => Taken::Failed(stat),
+        Checked::Denied(why) => Taken::Denied(why),
+        Checked::Unmatched => Taken::Unmatched,
+    })
 }
 
 #[test]
 fn each_byte_of_a_reply(rt: HostRuntime) -> Result<(), Fail> {
     let alloc = rt.alloc();
     let reply = hex::decode(alloc, GETATTR.reply)?;
-    assert_eq!(rt; reply.len(), 188);
-    assert_eq!(rt; take(&rt, alloc, reply.as_slice())?, Taken::Result);
+    same(alloc, 0, &reply.len(), &188)?;
+    same(alloc, 0, &take(alloc, reply.as_slice())?, &Taken::Result)?;
     for at in 0..188 {
-        let reply = changed(alloc, GETATTR.reply, at, 1)?;
-        let taken = take(&rt, alloc, reply.as_slice())?;
-        assert_eq!(rt; taken, taken_at(at), "at {at}");
+        let reply = changed(alloc, reply.as_slice(), at, 1)?;
+        same(alloc, at, &take(alloc, reply.as_slice())?, &taken_at(at))?;
     }
     Ok(())
 }
 
+/// Replies that aren't results, and what they are taken for.
+const FAILURES: [(&str, Taken); 5] = [
+    (
+        "000000060000000100000000000000000000000000000005",
+        Taken::Failed(Stat::SystemErr),
+    ),
+    (
+        "000000060000000100000001000000010000000d",
+        Taken::Denied(Denial::Auth(13)),
+    ),
+    (
+        "000000060000000100000001000000000000000200000002",
+        Taken::Denied(Denial::Mismatch { low: 2, high: 2 }),
+    ),
+    ("000000050000000100000001000000010000000d", Taken::Unmatched),
+    (
+        "000000060000000100000000000000060000000000000000",
+        Taken::Unmatched,
+    ),
+];
+
 #[test]
 fn failures_and_denials(rt: HostRuntime) -> Result<(), Fail> {
-    let alloc = rt.alloc();
-    for (text, wanted) in [
-        (
-            "000000060000000100000000000000000000000000000005",
-            Taken::Failed(Stat::SystemErr),
-        ),
-        (
-            "000000060000000100000001000000010000000d",
-            Taken::Denied(Denial::Auth(13)),
-        ),
-        (
-            "000000060000000100000001000000000000000200000002",
-            Taken::Denied(Denial::Mismatch { low: 2, high: 2 }),
-        ),
-        ("000000050000000100000001000000010000000d", Taken::Unmatched),
-        (
-            "000000060000000100000000000000060000000000000000",
-            Taken::Unmatched,
-        ),
-    ] {
-        let record_ = hex::decode(alloc, text)?;
-        let taken = take(&rt, alloc, record_.as_slice())?;
-        assert_eq!(rt; taken, wanted, "{text}");
+    for (row, (text, wanted)) in FAILURES.iter().enumerate() {
+        let record_ = hex::decode(rt.alloc(), *text)?;
+        let taken = take(rt.alloc(), record_.as_slice())?;
+        same(rt.alloc(), row, &taken, wanted)?;
     }
     Ok(())
 }
@@ -201,9 +185,9 @@ fn init_at(at: usize) -> Init {
 }
 
 /// What a record makes, where the reply to the INIT of `user` is awaited.
-fn begin(alloc: Global, record_: &[u8]) -> Result<Init, Fail> {
+fn begin(alloc: Global, record_: &[u8]) -> Result<Init, Wrong> {
     let server = Server::new(alloc)?;
-    let nonce = drawn(&mut CountDraws::new()).ok_or("no draw")?;
+    let nonce = drawn(&mut CountDraws::new())?;
     Ok(
         match init_reply(alloc, 1, b"user", &nonce, record_, &server.mech)? {
             Begun::Made { handle, .. } => Init::Made(handle),
@@ -219,21 +203,15 @@ fn begin(alloc: Global, record_: &[u8]) -> Result<Init, Fail> {
 fn each_byte_of_the_reply_to_init(rt: HostRuntime) -> Result<(), Fail> {
     let alloc = rt.alloc();
     let reply = hex::decode(alloc, INIT.reply)?;
-    assert_eq!(rt; reply.len(), 148);
+    same(alloc, 0, &reply.len(), &148)?;
     let made = Init::Made([0, 0, 0, 1, 0, 0, 0, 1]);
-    assert_eq!(rt; begin(alloc, reply.as_slice())?, made);
+    same(alloc, 0, &begin(alloc, reply.as_slice())?, &made)?;
     for at in 0..148 {
-        let reply = changed(alloc, INIT.reply, at, 1)?;
-        assert_eq!(rt; begin(alloc, reply.as_slice())?, init_at(at), "at {at}");
+        let reply = changed(alloc, reply.as_slice(), at, 1)?;
+        same(alloc, at, &begin(alloc, reply.as_slice())?, &init_at(at))?;
     }
-    Ok(())
-}
-
-#[test]
-fn init_that_is_denied(rt: HostRuntime) -> Result<(), Fail> {
-    let alloc = rt.alloc();
     let denied = hex::decode(alloc, "0000000100000001000000010000000100000001")?;
     let told = Init::Denied(Denial::Auth(1));
-    assert_eq!(rt; begin(alloc, denied.as_slice())?, told);
+    same(alloc, 148, &begin(alloc, denied.as_slice())?, &told)?;
     Ok(())
 }

@@ -1,157 +1,129 @@
-use crate::asked::Asked;
-use crate::ends::{Init, Server, Told};
 use gss_ctx::Inited;
 use std::alloc::Global;
-use std::process::Abort;
 use std::test::Fail;
 use streams::MemDraws;
+use two_ends::{Asked, Init, Server, Told, Wrong, same};
 use wire_xdr::Octets;
 
-/// Makes a child of a context, which carries 77. The carry comes back where no room is left.
-fn create(
-    rt: &impl Abort,
-    alloc: Global,
-    server: &mut Server,
-    parent: u32,
-    now: u64,
-) -> Result<Result<u32, u8>, Fail> {
-    assert!(rt; server.contexts.made() < u32::MAX);
-    assert!(rt; server.contexts.is_root(parent, now));
-    let made = server
-        .contexts
-        .create_child(alloc, parent, 77, now, &server.mech)?;
-    Ok(made)
-}
-
 /// A source with 256 live contexts, none of which is a child.
-fn full(rt: &impl Abort, alloc: Global) -> Result<Server, Fail> {
+fn full(alloc: Global) -> Result<Server, Wrong> {
     let mut server = Server::new(alloc)?;
     for _ in 0..256 {
-        server.init(rt, alloc, 0)?;
+        server.init(alloc, 0)?;
     }
-    assert_eq!(rt; server.contexts.made(), 256);
+    same(alloc, 0, &server.contexts.made(), &256)?;
     Ok(server)
 }
 
-#[test]
-fn a_full_table(rt: HostRuntime) -> Result<(), Fail> {
-    let alloc = rt.alloc();
-    let mut server = full(&rt, alloc)?;
+fn check_full(alloc: Global) -> Result<(), Wrong> {
+    let mut server = full(alloc)?;
     let drawn = server.draws.count();
-    assert_eq!(rt; server.init(&rt, alloc, 0)?, Init::Refused(2));
-    assert_eq!(rt; server.draws.count(), drawn);
-    assert_eq!(rt; create(&rt, alloc, &mut server, 256, 0)?, Err(77));
+    same(alloc, 0, &server.init(alloc, 0)?, &Init::Refused(2))?;
+    same(alloc, 1, &server.draws.count(), &drawn)?;
+    same(alloc, 2, &server.create(alloc, 256, 0)?, &Err(77))?;
     server.token = Octets::from_slice(alloc, b"bad")?;
-    assert_eq!(rt; server.init(&rt, alloc, 0)?, Init::Refused(3));
-    assert_eq!(rt; server.contexts.made(), 256);
-    Ok(())
+    same(alloc, 3, &server.init(alloc, 0)?, &Init::Refused(3))?;
+    same(alloc, 4, &server.contexts.made(), &256)
 }
 
-#[test]
-fn a_table_with_room_again(rt: HostRuntime) -> Result<(), Fail> {
-    let alloc = rt.alloc();
-    let mut server = full(&rt, alloc)?;
+fn check_room(alloc: Global) -> Result<(), Wrong> {
+    let mut server = full(alloc)?;
     server.contexts.destroy(255);
     server.contexts.destroy(1);
     let made = Init::Made([0, 0, 0, 1, 0, 0, 1, 1]);
-    assert_eq!(rt; server.init(&rt, alloc, 0)?, made);
-    assert_eq!(rt; create(&rt, alloc, &mut server, 256, 0)?, Ok(258));
-    assert_eq!(rt; server.init(&rt, alloc, 3599)?, Init::Refused(2));
+    same(alloc, 0, &server.init(alloc, 0)?, &made)?;
+    same(alloc, 1, &server.create(alloc, 256, 0)?, &Ok(258))?;
+    same(alloc, 2, &server.init(alloc, 3599)?, &Init::Refused(2))?;
     let made = Init::Made([0, 0, 0, 1, 0, 0, 1, 3]);
-    assert_eq!(rt; server.init(&rt, alloc, 3600)?, made);
-    assert_eq!(rt; server.contexts.next(0, 3600), Some(259));
-    assert!(rt; server.contexts.context(258).is_none());
-    Ok(())
+    same(alloc, 3, &server.init(alloc, 3600)?, &made)?;
+    same(alloc, 4, &server.contexts.next(0, 3600), &Some(259))?;
+    same(alloc, 5, &server.contexts.context(258).is_none(), &true)
 }
 
-#[test]
-fn a_draw_that_fails(rt: HostRuntime) -> Result<(), Fail> {
-    let alloc = rt.alloc();
+/// A token whose draw fails makes no context.
+fn check_draw(alloc: Global) -> Result<(), Wrong> {
     let mut server = Server::new(alloc)?;
-    assert!(rt; server.contexts.made() < u32::MAX);
-    let mut draws = MemDraws::new(Vec::new(alloc), vec![in alloc; 1]?);
+    let mut draws = MemDraws::new(Vec::new(alloc), Vec::from_slice(alloc, &[1])?);
+    if server.contexts.made() != 0 {
+        return Err(Wrong::Lacks("a new table"));
+    }
     let token = server.token.as_slice();
     let inited = server
         .contexts
         .init(alloc, token, 0, &server.mech, &mut draws)?;
-    assert!(rt; matches!(&inited, Inited::Refused { minor: 1 }));
-    assert_eq!(rt; server.contexts.made(), 0);
+    let refused = matches!(&inited, Inited::Refused { minor: 1 });
+    same(alloc, 0, &refused, &true)?;
+    same(alloc, 1, &server.contexts.made(), &0)
+}
+
+#[test]
+fn room_for_contexts(rt: HostRuntime) -> Result<(), Fail> {
+    check_full(rt.alloc())?;
+    check_room(rt.alloc())?;
+    check_draw(rt.alloc())?;
     Ok(())
 }
 
-/// A call under a context at a second, and what is to become of it.
+/// What a call is to become: admitted, or denied since its context is dead, or one whose body isn't right.
 #[derive(Clone, Copy)]
-struct Use {
-    number: u32,
+enum Use {
+    Good,
+    Dead,
+    Bad,
+}
+
+/// Context 1 is made at second 0 and, under it, context 2 at second 3,000. Then two calls, each with the context's
+/// number and the second.
+const IDLE: [[(u32, u64, Use); 2]; 9] = [
+    [(1, 3599, Use::Good), (1, 7198, Use::Good)],
+    [(1, 3600, Use::Dead), (2, 3600, Use::Good)],
+    [(2, 6599, Use::Good), (2, 10_198, Use::Good)],
+    [(2, 6600, Use::Dead), (2, 6600, Use::Dead)],
+    [(1, 3599, Use::Bad), (1, 3600, Use::Dead)],
+    // A child renews its parent, and a parent no child.
+    [(2, 3500, Use::Good), (1, 7099, Use::Good)],
+    [(2, 3500, Use::Good), (1, 7100, Use::Dead)],
+    [(2, 3500, Use::Bad), (1, 3600, Use::Dead)],
+    [(1, 3500, Use::Good), (2, 6600, Use::Dead)],
+];
+
+fn wanted(number: u32, seq: u32, what: Use) -> Told {
+    match what {
+        Use::Good => Told::Admitted { number, seq },
+        Use::Dead => Told::Denied(13),
+        Use::Bad => Told::BadBody { number, seq },
+    }
+}
+
+/// Sends the first or the second call of a row, whose sequence number is its place.
+fn send(
+    alloc: Global,
+    server: &mut Server,
+    row: usize,
     seq: u32,
-    inner: u32,
-    now: u64,
-    wanted: Told,
-}
-
-/// Makes context 1 at second 0 and, under it, context 2 at second 3,000. Asserts what becomes of the calls.
-fn check(rt: &impl Abort, alloc: Global, uses: &[Use]) -> Result<(), Fail> {
-    let mut server = Server::with_context(rt, alloc, 0)?;
-    assert_eq!(rt; create(rt, alloc, &mut server, 1, 3000)?, Ok(2));
-    let root = server.key(1).ok_or("no context 1")?;
-    let child = server.key(2).ok_or("no context 2")?;
-    for one in uses {
-        let asked = Asked {
-            number: one.number,
-            inner: one.inner,
-            ..Asked::data(one.seq)
-        };
-        let key = if one.number == 1 { &root } else { &child };
-        let record_ = asked.record(alloc, key)?;
-        let told = server.take(alloc, record_.as_slice(), one.now)?;
-        assert_eq!(rt; told, one.wanted, "{asked:?} at {}", one.now);
-    }
-    Ok(())
-}
-
-/// A call that is admitted.
-fn good(number: u32, seq: u32, now: u64) -> Use {
-    Use {
+    (number, now, what): (u32, u64, Use),
+) -> Result<(), Wrong> {
+    let asked = Asked {
         number,
-        seq,
-        inner: seq,
-        now,
-        wanted: Told::Admitted { number, seq },
-    }
+        inner: if matches!(what, Use::Bad) { 0 } else { seq },
+        ..Asked::data(seq)
+    };
+    let record_ = asked.record(alloc, &server.key(number)?)?;
+    let told = server.take(alloc, record_.as_slice(), now)?;
+    same(alloc, row, &told, &wanted(number, seq, what))
 }
 
-/// A call to a context that is dead.
-fn dead(number: u32, seq: u32, now: u64) -> Use {
-    Use {
-        wanted: Told::Denied(13),
-        ..good(number, seq, now)
-    }
-}
-
-/// A call whose body isn't right.
-fn bad(number: u32, seq: u32, now: u64) -> Use {
-    Use {
-        inner: 0,
-        wanted: Told::BadBody { number, seq },
-        ..good(number, seq, now)
-    }
+fn check_idle(alloc: Global, row: usize, uses: [(u32, u64, Use); 2]) -> Result<(), Wrong> {
+    let mut server = Server::with_context(alloc, 0)?;
+    same(alloc, row, &server.create(alloc, 1, 3000)?, &Ok(2))?;
+    send(alloc, &mut server, row, 1, uses[0])?;
+    send(alloc, &mut server, row, 2, uses[1])
 }
 
 #[test]
 fn contexts_that_idle(rt: HostRuntime) -> Result<(), Fail> {
-    let alloc = rt.alloc();
-    check(&rt, alloc, &[good(1, 1, 3599), good(1, 2, 7198)])?;
-    check(&rt, alloc, &[dead(1, 1, 3600), good(2, 1, 3600)])?;
-    check(&rt, alloc, &[good(2, 1, 6599), good(2, 2, 10_198)])?;
-    check(&rt, alloc, &[dead(2, 1, 6600)])?;
-    check(&rt, alloc, &[bad(1, 1, 3599), dead(1, 2, 3600)])
-}
-
-#[test]
-fn a_child_that_renews_its_parent(rt: HostRuntime) -> Result<(), Fail> {
-    let alloc = rt.alloc();
-    check(&rt, alloc, &[good(2, 1, 3500), good(1, 1, 7099)])?;
-    check(&rt, alloc, &[good(2, 1, 3500), dead(1, 1, 7100)])?;
-    check(&rt, alloc, &[bad(2, 1, 3500), dead(1, 1, 3600)])?;
-    check(&rt, alloc, &[good(1, 1, 3500), dead(2, 1, 6600)])
+    for (row, uses) in IDLE.iter().enumerate() {
+        check_idle(rt.alloc(), row, *uses)?;
+    }
+    Ok(())
 }

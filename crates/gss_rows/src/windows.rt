@@ -1,79 +1,83 @@
-use crate::asked::Asked;
-use crate::ends::{Server, Told};
 use gss_ctx::Why;
 use std::alloc::Global;
-use std::process::Abort;
 use std::test::Fail;
+use two_ends::{Asked, Server, Told, Wrong, same};
 
-const OLD: Told = Told::Dropped(Why::Old);
-
-const REPEAT: Told = Told::Dropped(Why::Repeat);
-
-/// A call with this number under context 1 is admitted.
-fn admitted(seq: u32) -> Told {
-    Told::Admitted { number: 1, seq }
+/// What becomes of a call with a number.
+#[derive(Clone, Copy)]
+enum Seen {
+    Admitted,
+    Repeat,
+    Old,
+    Large,
 }
 
-/// Sends calls with these numbers in turn, and asserts what becomes of each.
-fn check(rt: &impl Abort, alloc: Global, rows: &[(u32, Told)]) -> Result<(), Fail> {
-    let mut server = Server::with_context(rt, alloc, 0)?;
-    let key = server.key(1).ok_or("no context 1")?;
-    for &(seq, wanted) in rows {
-        let record_ = Asked::data(seq).record(alloc, &key)?;
+/// Numbers in turn under one context, and what becomes of each: one that leaps, the first and the last ones.
+const LEAP: [(u32, Seen); 10] = [
+    (200, Seen::Admitted),
+    (73, Seen::Admitted),
+    (73, Seen::Repeat),
+    (72, Seen::Old),
+    (200, Seen::Repeat),
+    (199, Seen::Admitted),
+    (201, Seen::Admitted),
+    (73, Seen::Old),
+    (74, Seen::Admitted),
+    (0, Seen::Old),
+];
+
+const FIRST: [(u32, Seen); 12] = [
+    (0, Seen::Admitted),
+    (0, Seen::Repeat),
+    (127, Seen::Admitted),
+    (0, Seen::Repeat),
+    (1, Seen::Admitted),
+    (128, Seen::Admitted),
+    (0, Seen::Old),
+    (1, Seen::Repeat),
+    (2, Seen::Admitted),
+    (256, Seen::Admitted),
+    (128, Seen::Old),
+    (129, Seen::Admitted),
+];
+
+const LAST: [(u32, Seen); 9] = [
+    (2_147_483_648, Seen::Large),
+    (4_294_967_295, Seen::Large),
+    (2_147_483_519, Seen::Admitted),
+    (2_147_483_647, Seen::Admitted),
+    (2_147_483_519, Seen::Old),
+    (2_147_483_520, Seen::Admitted),
+    (2_147_483_648, Seen::Large),
+    (2_147_483_647, Seen::Repeat),
+    (2_147_483_646, Seen::Admitted),
+];
+
+fn wanted(seq: u32, seen: Seen) -> Told {
+    match seen {
+        Seen::Admitted => Told::Admitted { number: 1, seq },
+        Seen::Repeat => Told::Dropped(Why::Repeat),
+        Seen::Old => Told::Dropped(Why::Old),
+        Seen::Large => Told::Denied(14),
+    }
+}
+
+/// Sends calls with these numbers in turn.
+fn check(alloc: Global, rows: &[(u32, Seen)]) -> Result<(), Wrong> {
+    let mut server = Server::with_context(alloc, 0)?;
+    let key = server.key(1)?;
+    for (row, (seq, seen)) in rows.iter().enumerate() {
+        let record_ = Asked::data(*seq).record(alloc, &key)?;
         let told = server.take(alloc, record_.as_slice(), 0)?;
-        assert_eq!(rt; told, wanted, "number {seq}");
+        same(alloc, row, &told, &wanted(*seq, *seen))?;
     }
     Ok(())
 }
 
 #[test]
-fn a_number_that_leaps(rt: HostRuntime) -> Result<(), Fail> {
-    let rows = [
-        (200, admitted(200)),
-        (73, admitted(73)),
-        (73, REPEAT),
-        (72, OLD),
-        (200, REPEAT),
-        (199, admitted(199)),
-        (201, admitted(201)),
-        (73, OLD),
-        (74, admitted(74)),
-        (0, OLD),
-    ];
-    check(&rt, rt.alloc(), &rows)
-}
-
-#[test]
-fn the_first_numbers(rt: HostRuntime) -> Result<(), Fail> {
-    let rows = [
-        (0, admitted(0)),
-        (0, REPEAT),
-        (127, admitted(127)),
-        (0, REPEAT),
-        (1, admitted(1)),
-        (128, admitted(128)),
-        (0, OLD),
-        (1, REPEAT),
-        (2, admitted(2)),
-        (256, admitted(256)),
-        (128, OLD),
-        (129, admitted(129)),
-    ];
-    check(&rt, rt.alloc(), &rows)
-}
-
-#[test]
-fn the_last_numbers(rt: HostRuntime) -> Result<(), Fail> {
-    let rows = [
-        (2_147_483_648, Told::Denied(14)),
-        (4_294_967_295, Told::Denied(14)),
-        (2_147_483_519, admitted(2_147_483_519)),
-        (2_147_483_647, admitted(2_147_483_647)),
-        (2_147_483_519, OLD),
-        (2_147_483_520, admitted(2_147_483_520)),
-        (2_147_483_648, Told::Denied(14)),
-        (2_147_483_647, REPEAT),
-        (2_147_483_646, admitted(2_147_483_646)),
-    ];
-    check(&rt, rt.alloc(), &rows)
+fn numbers(rt: HostRuntime) -> Result<(), Fail> {
+    for rows in [LEAP.as_slice(), FIRST.as_slice(), LAST.as_slice()] {
+        check(rt.alloc(), rows)?;
+    }
+    Ok(())
 }
