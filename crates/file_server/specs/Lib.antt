@@ -1,5 +1,6 @@
 pub mod Answering
 pub mod Handles
 pub mod Machine
+pub mod Placing
 pub mod Reading
 pub mod Writing

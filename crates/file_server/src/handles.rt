@@ -2,9 +2,9 @@
 
 ghost use Rattle.std.specs.Prelude.{◌≡◌, ◌+◌, ◌≤◌, ◌<◌, take, drop, length, IfOk};
 ghost use Rattle.std.specs.Int.{w32, w64, from_be_bytes};
-ghost use Rattle.file_server.specs.Handles.{handle_file};
+ghost use Rattle.file_server.specs.Handles.{file_handle, handle_file};
 
-use nfs_base::Status;
+use nfs_base::{Handle, Status};
 
 /// How many bytes the handle of a file has.
 const HANDLE_LENGTH: usize = 12;
@@ -44,4 +44,17 @@ fn file_in(handle: &[u8]) -> u32
     let mut word = [0; 4];
     word.copy_from_slice(&handle[8..12]);
     u32::from_be_bytes(word)
+}
+
+/// The handle of a file, by the volume's tag.
+#[tactic(auto, unfolding(crate::specs::Handles::file_handle, wire_xdr::specs::Words::hyper_bytes, wire_xdr::specs::Words::word_bytes))]
+pub(crate) fn handle_of(tag: u64, file: u32) -> Handle
+    ensures { result ≡ file_handle tag file }
+{
+    let [a, b, c, d, e, f, g, h] = tag.to_be_bytes();
+    let [i, j, k, l] = file.to_be_bytes();
+    match Handle::new(&[a, b, c, d, e, f, g, h, i, j, k, l]) {
+        Some(handle) => handle,
+        None => unreachable!(),
+    }
 }

@@ -11,6 +11,7 @@ mod extension;
 mod files;
 mod handles;
 mod held;
+mod placing;
 mod progress;
 mod reading;
 mod writing;

@@ -1,6 +1,6 @@
 //! How far a compound is in code: the page of its results, and all room that its operations need.
 
-ghost use Rattle.std.specs.Prelude.{◌≡◌, ◌+◌, ◌≤◌, ◌++◌, length};
+ghost use Rattle.std.specs.Prelude.{◌≡◌, ◌+◌, ◌≤◌, ◌++◌, length, Some, None};
 ghost use Rattle.nfs_base.specs.Forms.{stability};
 ghost use Rattle.nfs_base.specs.declared.limits.TheConstants.{DATA_LIMIT};
 ghost use Rattle.wire_xdr.specs.Words.{word_bytes, hyper_bytes, flag_bytes, opaque_bytes};
@@ -9,7 +9,7 @@ ghost use Rattle.file_server.specs.Answering.{Says};
 
 use crate::held::Held;
 use file_ops::{OP_COMMIT, OP_READ, OP_WRITE};
-use nfs_base::{Stability, Status};
+use nfs_base::{Handle, Stability, Status};
 use server_volume::CallList;
 use wire_xdr::Page;
 
@@ -101,5 +101,27 @@ fn stability_number(how: Stability) -> u32
         Stability::Unstable => 0,
         Stability::DataSync => 1,
         Stability::FileSync => 2,
+    }
+}
+
+impl Progress {
+    /// An operation is done that tells nothing more.
+    pub(crate) fn say_done(&mut self, op: u32) -> Status
+        requires { length self.old.page.bytes + 8 ≤ self.old.page.room }
+        ensures says { Says self.old (word_bytes op ++ word_bytes 0) self.new }
+        ensures len { length self.new.page.bytes ≤ length self.old.page.bytes + 8 }
+        ensures status { result ≡ Status.OK }
+    {
+        self.page.u32(op);
+        self.page.u32(0);
+        Status::OK
+    }
+
+    /// A handle becomes the current one, without a stateid.
+    pub(crate) fn put_current(&mut self, handle: Handle)
+        ensures { self.new ≡ (let held = record self.old.held { current = Some handle; id = None } in record self.old { held = held }) }
+    {
+        self.held.current = Some(handle);
+        self.held.id = None;
     }
 }
