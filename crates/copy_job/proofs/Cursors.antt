@@ -11,7 +11,7 @@ use Rattle.copy_job.specs.declared.job.End.{End}
 use Rattle.copy_job.specs.declared.job.End.TheVariants.{Stopped as stopped_by, Committed as committed_whole}
 use Rattle.copy_job.specs.Log.{JobLog, chunk_at, next_chunk}
 use Rattle.copy_job.specs.Cursor.{landings, progress_of, end_entry, entries_of, log_of, IsPartOf, IsProgress, IsCursor}
-use Rattle.copy_job.proofs.Landings.{has_ended-landings, landed_bytes-landings, unlanded-landings, unlanded-landings_all}
+use Rattle.copy_job.proofs.Landings.{Laws, has_ended-landings, landed_bytes-landings, unlanded-landings, unlanded-landings_all}
 
 -- the log's length is the cursor's
 pub size_of-entries_of : (len : Option ℕ) (landed : ℕ) (end : Option End) → size_of (entries_of len landed end) ≡ len
@@ -67,19 +67,19 @@ landed_bytes-entries_of plan len landed (Some end) p =
     omega arith
 
 -- of a range whose bytes have not all landed, the next chunk begins at the cursor
-pub next_chunk-more : (plan : Plan) (total landed : ℕ) → IsPartOf plan landed total → landed < total
+pub next_chunk-more : Laws → (plan : Plan) (total landed : ℕ) → IsPartOf plan landed total → landed < total
     → next_chunk (progress_of (Some total) landed) ≡ Some (chunk_at total landed)
-next_chunk-more plan total landed p lt =
+next_chunk-more laws plan total landed p lt =
     let here : chunks_of landed * chunk_size ≡ landed = sym (p.whole lt) in
     let P : ℕ → Type 0 = λ at. next_chunk (progress_of (Some total) landed) ≡ Some (chunk_at total at) in
     let e : unlanded (progress_of (Some total) landed) total ≡ Some (chunks_of landed * chunk_size)
-    = unlanded-landings total (chunks_of landed) (let l : landed < total = lt in omega arith) in
+    = unlanded-landings laws total (chunks_of landed) (let l : landed < total = lt in omega arith) in
     subst P here (ap (λ (o : Option ℕ). option_map (chunk_at total) o) e)
 
 -- and where all of them have, there is none
-pub next_chunk-none : (total landed : ℕ) → total ≤ landed → next_chunk (progress_of (Some total) landed) ≡ None
-next_chunk-none total landed ge =
-    ap (λ (o : Option ℕ). option_map (chunk_at total) o) (unlanded-landings_all total (chunks_of landed) (omega arith))
+pub next_chunk-none : Laws → (total landed : ℕ) → total ≤ landed → next_chunk (progress_of (Some total) landed) ≡ None
+next_chunk-none laws total landed ge =
+    ap (λ (o : Option ℕ). option_map (chunk_at total) o) (unlanded-landings_all laws total (chunks_of landed) (omega arith))
 
 -- What a landing of n bytes does to the cursor: it is one still, its log has the landing as its last
 -- entry, and its bytes fit.
@@ -119,76 +119,76 @@ lands_at plan total landed p lt =
       fits = omega arith;
     }
 
-lands_next : (plan : Plan) (total landed : ℕ) (chunk : Chunk) → IsPartOf plan landed total
+lands_next : Laws → (plan : Plan) (total landed : ℕ) (chunk : Chunk) → IsPartOf plan landed total
     → next_chunk (progress_of (Some total) landed) ≡ Some chunk → (landed < total) ⊎ (total ≤ landed)
     → LandsNext plan (Some total) landed None chunk
-lands_next plan total landed chunk p next (inl lt) =
+lands_next laws plan total landed chunk p next (inl lt) =
     let P : Chunk → Type 0 = λ k. LandsNext plan (Some total) landed None k in
-    let more = next_chunk-more plan total landed p lt in
+    let more = next_chunk-more laws plan total landed p lt in
     let same : chunk_at total landed ≡ chunk = cc in
     subst P same (lands_at plan total landed p lt)
-lands_next plan total landed chunk p next (inr ge) =
-    let none = next_chunk-none total landed ge in
+lands_next laws plan total landed chunk p next (inr ge) =
+    let none = next_chunk-none laws total landed ge in
     absurd (cc)
 
-lands_cursor : (plan : Plan) (len : Option ℕ) (landed : ℕ) (end : Option End) (chunk : Chunk) → IsCursor plan len landed end
+lands_cursor : Laws → (plan : Plan) (len : Option ℕ) (landed : ℕ) (end : Option End) (chunk : Chunk) → IsCursor plan len landed end
     → has_ended (entries_of len landed end) ≡ false → next_chunk (entries_of len landed end) ≡ Some chunk
     → LandsNext plan len landed end chunk
-lands_cursor plan len landed (Some end) chunk c running next =
+lands_cursor laws plan len landed (Some end) chunk c running next =
     absurd (both_ways (has_ended (entries_of len landed (Some end))) running (has_ended-entries_of len landed (Some end)))
-lands_cursor plan None landed None chunk c running next = absurd (cc)
-lands_cursor plan (Some total) landed None chunk c running next =
-    lands_next plan total landed chunk c.progress next (cases_lt landed total)
+lands_cursor laws plan None landed None chunk c running next = absurd (cc)
+lands_cursor laws plan (Some total) landed None chunk c running next =
+    lands_next laws plan total landed chunk c.progress next (cases_lt landed total)
 
 -- landing the next chunk of a job that runs
-pub lands : (plan : Plan) (len : Option ℕ) (landed : ℕ) (end : Option End) (log : JobLog) (chunk : Chunk) (n : ℕ)
+pub lands : Laws → (plan : Plan) (len : Option ℕ) (landed : ℕ) (end : Option End) (log : JobLog) (chunk : Chunk) (n : ℕ)
     → IsCursor plan len landed end → log_of plan len landed end ≡ log → n ≡ chunk.len
     → has_ended log.entries ≡ false → next_chunk log.entries ≡ Some chunk → Lands plan len landed end log chunk n
-lands plan len landed end log chunk n c shown same =
+lands laws plan len landed end log chunk n c shown same =
     let P : ℕ → Type 0 = λ m. has_ended log.entries ≡ false → next_chunk log.entries ≡ Some chunk → Lands plan len landed end log chunk m in
     let Q : JobLog → Type 0 = λ l. has_ended l.entries ≡ false → next_chunk l.entries ≡ Some chunk → Lands plan len landed end l chunk chunk.len in
-    subst P (sym same) (subst Q shown (lands_cursor plan len landed end chunk c))
+    subst P (sym same) (subst Q shown (lands_cursor laws plan len landed end chunk c))
 
-whole_at : (plan : Plan) (total landed : ℕ) → IsPartOf plan landed total
+whole_at : Laws → (plan : Plan) (total landed : ℕ) → IsPartOf plan landed total
     → next_chunk (progress_of (Some total) landed) ≡ None → (landed < total) ⊎ (total ≤ landed) → total ≡ landed
-whole_at plan total landed p next (inl lt) = let more = next_chunk-more plan total landed p lt in absurd (cc)
-whole_at plan total landed p next (inr ge) = let w = p.within in omega arith
+whole_at laws plan total landed p next (inl lt) = let more = next_chunk-more laws plan total landed p lt in absurd (cc)
+whole_at laws plan total landed p next (inr ge) = let w = p.within in omega arith
 
-whole_cursor : (plan : Plan) (len : Option ℕ) (landed : ℕ) (end : Option End) → IsCursor plan len landed end
+whole_cursor : Laws → (plan : Plan) (len : Option ℕ) (landed : ℕ) (end : Option End) → IsCursor plan len landed end
     → is_some (size_of (entries_of len landed end)) ≡ true
     → has_ended (entries_of len landed end) ≡ false → next_chunk (entries_of len landed end) ≡ None → len ≡ Some landed
-whole_cursor plan len landed (Some end) c sized running next =
+whole_cursor laws plan len landed (Some end) c sized running next =
     absurd (both_ways (has_ended (entries_of len landed (Some end))) running (has_ended-entries_of len landed (Some end)))
-whole_cursor plan None landed None c sized running next = absurd (cc)
-whole_cursor plan (Some total) landed None c sized running next =
-    ap (λ (n : ℕ). Some n) (whole_at plan total landed c.progress next (cases_lt landed total))
+whole_cursor laws plan None landed None c sized running next = absurd (cc)
+whole_cursor laws plan (Some total) landed None c sized running next =
+    ap (λ (n : ℕ). Some n) (whole_at laws plan total landed c.progress next (cases_lt landed total))
 
 -- a job that is sized, runs and has no next chunk has landed its whole length
-pub whole : (plan : Plan) (len : Option ℕ) (landed : ℕ) (end : Option End) (log : JobLog)
+pub whole : Laws → (plan : Plan) (len : Option ℕ) (landed : ℕ) (end : Option End) (log : JobLog)
     → IsCursor plan len landed end → log_of plan len landed end ≡ log
     → is_some (size_of log.entries) ≡ true → has_ended log.entries ≡ false → next_chunk log.entries ≡ None → len ≡ Some landed
-whole plan len landed end log c shown =
+whole laws plan len landed end log c shown =
     let P : JobLog → Type 0 = λ l. is_some (size_of l.entries) ≡ true → has_ended l.entries ≡ false → next_chunk l.entries ≡ None → len ≡ Some landed in
-    subst P shown (whole_cursor plan len landed end c)
+    subst P shown (whole_cursor laws plan len landed end c)
 
 -- the next chunk of a job that runs and is sized: none, or the one at the cursor
 abbrev pub IsNextAt : ℕ → ℕ → Option Chunk → Type 0
 IsNextAt total landed next = (total ≤ landed → next ≡ None) × (landed < total → next ≡ Some (chunk_at total landed))
 
-next_cursor : (plan : Plan) (len : Option ℕ) (landed : ℕ) (end : Option End) (total : ℕ) → IsCursor plan len landed end
+next_cursor : Laws → (plan : Plan) (len : Option ℕ) (landed : ℕ) (end : Option End) (total : ℕ) → IsCursor plan len landed end
     → len ≡ Some total → has_ended (entries_of len landed end) ≡ false → IsNextAt total landed (next_chunk (entries_of len landed end))
-next_cursor plan len landed (Some end) total c sized running =
+next_cursor laws plan len landed (Some end) total c sized running =
     absurd (both_ways (has_ended (entries_of len landed (Some end))) running (has_ended-entries_of len landed (Some end)))
-next_cursor plan None landed None total c sized running = absurd (cc)
-next_cursor plan (Some t) landed None total c sized running =
+next_cursor laws plan None landed None total c sized running = absurd (cc)
+next_cursor laws plan (Some t) landed None total c sized running =
     let P : ℕ → Type 0 = λ m. IsNextAt m landed (next_chunk (progress_of (Some t) landed)) in
     let same : t ≡ total = cc in
-    subst P same (next_chunk-none t landed, next_chunk-more plan t landed c.progress)
+    subst P same (next_chunk-none laws t landed, next_chunk-more laws plan t landed c.progress)
 
 -- the same of the log that contracts see
-pub next_at : (plan : Plan) (len : Option ℕ) (landed : ℕ) (end : Option End) (log : JobLog) (total : ℕ)
+pub next_at : Laws → (plan : Plan) (len : Option ℕ) (landed : ℕ) (end : Option End) (log : JobLog) (total : ℕ)
     → IsCursor plan len landed end → log_of plan len landed end ≡ log → len ≡ Some total → has_ended log.entries ≡ false
     → IsNextAt total landed (next_chunk log.entries)
-next_at plan len landed end log total c shown sized =
+next_at laws plan len landed end log total c shown sized =
     let P : JobLog → Type 0 = λ l. has_ended l.entries ≡ false → IsNextAt total landed (next_chunk l.entries) in
-    subst P shown (next_cursor plan len landed end total c sized)
+    subst P shown (next_cursor laws plan len landed end total c sized)

@@ -1,11 +1,10 @@
 -- A sized job whose chunks landed in order, the first n of them.
-use Rattle.std.proofs.Common.{◌≡◌, ℕ, zero, suc, ◌*◌, ◌<◌, ◌≤◌, min, true, false, None, Some, [], ◌∷◌, ◌⊎◌, refl, ◌∙◌, subst, arith, inl, inr}
+use Rattle.std.proofs.Common.{◌≡◌, ℕ, zero, suc, ◌*◌, ◌<◌, ◌≤◌, min, true, false, None, Some, List, [], ◌∷◌, ◌⊎◌, refl, ◌∙◌, subst, arith, inl, inr}
 use Rattle.std.proofs.lemmas.Bool.{cases_lt, or_left, or_right, or_from, eq-eqb, ne_eqb}
 use Rattle.std.proofs.lemmas.List.Folds.{list_any-append}
 use Rattle.std.proofs.lemmas.List.Sums.{sum_by-append}
-use Rattle.copy_model.specs.Job.{Sized, Landed, is_landing, has_landed, is_end, has_ended, bytes_landed, landed_bytes, chunk_size, chunk_len, IsChunk, unlanded}
+use Rattle.copy_model.specs.Job.{Entry, Sized, Landed, is_landing, has_landed, is_end, has_ended, bytes_landed, landed_bytes, chunk_size, chunk_len, IsChunk, unlanded, FirstUnlanded}
 use Rattle.copy_job.specs.Cursor.{landings}
-use Rattle.copy_job.proofs.Chunks.{unlanded-FirstUnlanded, unlanded-all_landed}
 
 landed_more : (total n i : ℕ) → (i < n) ⊎ (n ≤ i) → i < suc n
     → (i < n → has_landed (landings total n) (i * chunk_size) ≡ true)
@@ -56,11 +55,16 @@ has_landed_chunk total n start c lt =
     let s : c.number * chunk_size ≡ start = (let t = c.start in omega arith) in
     subst P s (has_landed-landings total n c.number lt)
 
+-- The laws of `copy_model` on the chunk that is next.
+pub record Laws : Type 0 where
+  pub only : (es : List Entry) (total off : ℕ) → FirstUnlanded es total off → unlanded es total ≡ Some off
+  pub all_landed : (es : List Entry) (total : ℕ) → ((off : ℕ) → IsChunk total off → has_landed es off ≡ true) → unlanded es total ≡ None
+
 -- the next chunk is the n-th
-pub unlanded-landings : (total n : ℕ) → n * chunk_size < total
+pub unlanded-landings : Laws → (total n : ℕ) → n * chunk_size < total
     → unlanded (Sized total ∷ landings total n) total ≡ Some (n * chunk_size)
-unlanded-landings total n lt =
-    unlanded-FirstUnlanded (Sized total ∷ landings total n) total (n * chunk_size)
+unlanded-landings laws total n lt =
+    laws.only (Sized total ∷ landings total n) total (n * chunk_size)
     (record {
       chunk = record { number = n; start = refl; within = lt };
       is_new = has_landed-landings_past total n n (omega arith);
@@ -68,8 +72,8 @@ unlanded-landings total n lt =
     })
 
 -- none is left where the n chunks make up the range
-pub unlanded-landings_all : (total n : ℕ) → total ≤ n * chunk_size
+pub unlanded-landings_all : Laws → (total n : ℕ) → total ≤ n * chunk_size
     → unlanded (Sized total ∷ landings total n) total ≡ None
-unlanded-landings_all total n le =
-    unlanded-all_landed (Sized total ∷ landings total n) total
+unlanded-landings_all laws total n le =
+    laws.all_landed (Sized total ∷ landings total n) total
     (λ off c. has_landed_chunk total n off c (let t = c.start in let w = c.within in omega arith))

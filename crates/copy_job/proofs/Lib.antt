@@ -1,4 +1,3 @@
-pub mod Chunks
 pub mod Landings
 pub mod Logs
 pub mod Cursors

@@ -81,6 +81,7 @@ impl Job {
         ensures next { result ≡ next_chunk self.now.entries }
         ensures inside { IfSome result (λ chunk. IsInside self.now.plan self.now.entries chunk) }
     {
+        copy_model::first_chunks();
         let rest = self.len.unwrap() - self.landed;
         if rest == 0 {
             return None;
@@ -97,6 +98,7 @@ impl Job {
         requires next { next_chunk self.old.entries ≡ Some chunk }
         ensures { self.new ≡ record self.old { entries = self.old.entries ++ Landed chunk.off chunk.len ∷ [] } }
     {
+        copy_model::first_chunks();
         self.landed += u64::from(chunk.len);
     }
 
@@ -115,6 +117,7 @@ impl Job {
         requires landed { next_chunk self.old.entries ≡ None }
         ensures { self.new ≡ record self.old { entries = self.old.entries ++ Committed ∷ [] } }
     {
+        copy_model::first_chunks();
         self.end = Some(End::Committed);
     }
 

@@ -18,7 +18,7 @@ use Rattle.run_machine.specs.Machine.{Copying, State, Step, says, job_name, inva
 use Rattle.run_machine.specs.History.{World, next}
 use Rattle.run_machine.proofs.Bytes.{goes_on}
 use Rattle.run_machine.proofs.Progress.{world_of, IsSoundDest, IsSound}
-use Rattle.run_machine.proofs.Sound.{sound_none}
+use Rattle.run_machine.proofs.Laws.{Laws}
 use Rattle.run_machine.proofs.Steps.{new_copy, dest_rests, copies_fresh, calm_good, IsGood}
 use Rattle.run_machine.proofs.Volumes.{quiet_good, none_from_is_none, source_formatted, dest_formatted, source_written, source_breaks}
 use Rattle.run_machine.proofs.Outcomes.{on_writes, on_shows}
@@ -38,14 +38,14 @@ file_there (Some files) v file sound has =
     omega arith
 
 -- the client's copy is accepted
-fresh_good : (context : Context) (s d b : Volume) (c : Option Copying) (was : Did)
+fresh_good : Laws → (context : Context) (s d b : Volume) (c : Option Copying) (was : Did)
     → IsSound context.source context.dest context.copied s d c
     → c ≡ None
     → (number : ℕ) (spec : CopySpec)
     → has_file context Dest spec.dst_file ≡ true
     → IsGoodStep (after context (event.Copy number spec)) (event.Copy number spec) (world_of s d b c was) (says (record (world_of s d b c was).state { copy = Some (new_copy number (plan_of spec)) }) (note.Accepted (job_name (world_of s d b c was).state) spec.dst_file spec.dst_off spec.count))
-fresh_good context s d b (Some c) was sound never number spec has = absurd (cc)
-fresh_good context s d b None was sound none number spec has =
+fresh_good laws context s d b (Some c) was sound never number spec has = absurd (cc)
+fresh_good laws context s d b None was sound none number spec has =
     calm_good (after context (event.Copy number spec)) s d b s d b None (Some (new_copy number (plan_of spec))) was _ now (λ file. goes_on (file_at s file)) (dest_rests d b) (copies_fresh number (plan_of spec)) refl
   where
     now : IsSound context.source context.dest (Some number) s d (Some (new_copy number (plan_of spec)))
@@ -55,7 +55,7 @@ fresh_good context s d b None was sound none number spec has =
           dest = sound.dest;
           whole = λ goes. sound.whole refl;
           none = λ never. absurd (cc);
-          copy = record { there = file_there context.dest d spec.dst_file sound.dest has; entries = sound_none spec.consecutive };
+          copy = record { there = file_there context.dest d spec.dst_file sound.dest has; entries = laws.log_empty spec.consecutive };
         }
 
 -- a step that changes nothing, after a copy was asked for
@@ -103,9 +103,9 @@ module _ (context : Context) (s d b : Volume) (c : Option Copying) (was : Did) (
       (quiet_good (after context e) s d b c was _ sound refl)
 
   -- the client's copy is accepted, or fails
-  copy_good : (number : ℕ) (spec : CopySpec) → is_in_order context (event.Copy number spec) ≡ true
+  copy_good : Laws → (number : ℕ) (spec : CopySpec) → is_in_order context (event.Copy number spec) ≡ true
       → IsGoodStep (after context (event.Copy number spec)) (event.Copy number spec) w (asks w.state number spec)
-  copy_good number spec ordered =
+  copy_good laws number spec ordered =
       let e : Event = event.Copy number spec in
       let files : Bool = has_file context Source spec.src_file && has_file context Dest spec.dst_file in
       let first = and_parts (is_none context.copied) files (and_parts (is_ready context) (is_none context.copied && files) ordered).1 in
@@ -126,7 +126,7 @@ module _ (context : Context) (s d b : Volume) (c : Option Copying) (was : Did) (
       accepted
       (IsGoodStep (after context e) e w)
       (λ too_long. quiet_good (after context e) s d b c was _ failed refl)
-      (λ fits. fresh_good context s d b c was sound none number spec has))
+      (λ fits. fresh_good laws context s d b c was sound none number spec has))
 
 -- the client learns how far its copy is
 status_good : (context : Context) (s d b : Volume) (c : Option Copying) (was : Did)
@@ -145,21 +145,21 @@ status_good context s d b (Some c) was sound number =
     (λ live. quiet_good (after context (event.Status number)) s d b (Some c) was _ sound refl)
 
 -- whatever an event does is good
-pub happens_good : (context : Context) (s d b : Volume) (c : Option Copying) (was : Did) (choice : Choice)
+pub happens_good : Laws → (context : Context) (s d b : Volume) (c : Option Copying) (was : Did) (choice : Choice)
     → IsSound context.source context.dest context.copied s d c
     → (e : Event) → admits context e ≡ true
     → IsGood (after context e) (world_of s d b c was) (next (world_of s d b c was) choice (Some e)) (happens (world_of s d b c was).state choice e).lines
-happens_good context s d b c was choice sound (event.Volume Source files blocks) admitted =
+happens_good laws context s d b c was choice sound (event.Volume Source files blocks) admitted =
     let none = none_from_is_none context.source (in_order context (event.Volume Source files blocks) admitted) in
     source_formatted (after context (event.Volume Source files blocks)) context.dest context.copied s d b c was files (blocks * 4096) (subst (λ o. IsSound o context.dest context.copied s d c) none sound) refl refl refl
-happens_good context s d b c was choice sound (event.Volume Dest files blocks) admitted =
+happens_good laws context s d b c was choice sound (event.Volume Dest files blocks) admitted =
     let none = none_from_is_none context.dest (in_order context (event.Volume Dest files blocks) admitted) in
     dest_formatted (after context (event.Volume Dest files blocks)) context.source context.copied s d b c was files (blocks * 4096) (subst (λ o. IsSound context.source o context.copied s d c) none sound) refl refl refl
-happens_good context s d b c was choice sound (event.Write file off bytes) admitted =
+happens_good laws context s d b c was choice sound (event.Write file off bytes) admitted =
     write_good context s d b c was choice sound file off bytes (in_order context (event.Write file off bytes) admitted)
-happens_good context s d b c was choice sound (event.Copy number spec) admitted =
-    copy_good context s d b c was choice sound number spec (in_order context (event.Copy number spec) admitted)
-happens_good context s d b c was choice sound event.Work admitted = works_good (after context event.Work) s d b c was choice sound
-happens_good context s d b c was choice sound (event.Status number) admitted = status_good context s d b c was sound number
-happens_good context s d b c was choice sound (event.Peek side file off len) admitted =
+happens_good laws context s d b c was choice sound (event.Copy number spec) admitted =
+    copy_good context s d b c was choice sound laws number spec (in_order context (event.Copy number spec) admitted)
+happens_good laws context s d b c was choice sound event.Work admitted = works_good laws (after context event.Work) s d b c was choice sound
+happens_good laws context s d b c was choice sound (event.Status number) admitted = status_good context s d b c was sound number
+happens_good laws context s d b c was choice sound (event.Peek side file off len) admitted =
     peek_good context s d b c was choice sound side file off len

@@ -4,6 +4,7 @@ use Rattle.std.specs.List.{list_any}
 use Rattle.std.proofs.lemmas.Bool.{both_ways, not_from_false, cases_lt}
 use Rattle.copy_model.specs.Volume.{Volume, file_at, byte_at, bytes_at, write}
 use Rattle.copy_model.specs.Job.{Entry, Landed, has_ended, is_end, chunk_len, unlanded}
+use Rattle.copy_model.specs.Marks.{len_of, covers}
 use Rattle.copy_model.specs.Moment.{Did, Moment, seen_dest, doubted}
 use Rattle.copy_model.specs.Moment as did
 use Rattle.copy_model.specs.Promise.{LandsAt, LandsOf, Reaches, Shows, IsAlike, source_byte}
@@ -12,15 +13,15 @@ use Rattle.sched_text.specs.declared.context.Context.{Context}
 use Rattle.sched_text.specs.declared.line.Line.{Line}
 use Rattle.run_machine.specs.Machine.{Copying}
 use Rattle.run_machine.specs.History.{moment_of}
-use Rattle.run_machine.proofs.Bytes.{HasWritten, has_written, length-bytes_at, byte_at-bytes_at, goes_on}
-use Rattle.run_machine.proofs.Chunks.{unlanded-Some}
-use Rattle.run_machine.proofs.Entries.{any_cases, any_other, size_kept}
-use Rattle.run_machine.proofs.Progress.{covers, covers_landing, copy_in, progress_in, world_of, len_of, not_committed, IsSound}
+use Rattle.run_machine.proofs.Bytes.{HasWritten, has_written, goes_on}
+use Rattle.run_machine.proofs.Entries.{any_other}
+use Rattle.run_machine.proofs.Laws.{Laws}
+use Rattle.run_machine.proofs.Progress.{covers_landing, copy_in, progress_in, world_of, not_committed, IsSound}
 use Rattle.run_machine.proofs.Sound.{len_at, sound_landed, chunk_within}
 use Rattle.run_machine.proofs.Ready.{IsReady}
 use Rattle.run_machine.proofs.Steps.{two, AreLawful, CopiesGoOn, copies_go_on, reports, unreported, IsGood}
 
-module _ (s d b : Volume) (c : Copying) (was : Did) (es : List Entry) (total off : ℕ)
+module _ (laws : Laws) (s d b : Volume) (c : Copying) (was : Did) (es : List Entry) (total off : ℕ)
     (ready : IsReady d c es total) (first : unlanded es total ≡ Some off) (readable : s.broken ≡ false) where
   abbrev len : ℕ
   len = chunk_len total off
@@ -42,13 +43,13 @@ module _ (s d b : Volume) (c : Copying) (was : Did) (es : List Entry) (total off
   now_moment = moment_of (world_of s dest b (Some after) (did.Landed 0 off len))
 
   long : len_of after.entries ≡ total
-  long = len_at after.entries (Some total) (size_kept es (Landed off len) total ready.size)
+  long = len_at after.entries (Some total) (laws.log_sized es (Landed off len) total ready.size)
 
   piece_long : length piece ≡ len
-  piece_long = length-bytes_at (file_at s c.plan.src_file).now (c.plan.src_off + off) len
+  piece_long = laws.read_long (file_at s c.plan.src_file).now (c.plan.src_off + off) len
 
   effect : HasWritten d dest c.plan.dst_file (c.plan.dst_off + off) piece
-  effect = has_written d c.plan.dst_file (c.plan.dst_off + off) piece ready.there
+  effect = has_written laws d c.plan.dst_file (c.plan.dst_off + off) piece ready.there
 
   -- a byte that isn't landed is as before
   outside : (file place : ℕ) → (file ≡ c.plan.dst_file → c.plan.dst_off + off ≤ place → place < c.plan.dst_off + off + len → ⊥)
@@ -92,14 +93,14 @@ module _ (s d b : Volume) (c : Copying) (was : Did) (es : List Entry) (total off
           ⊎_elim
           (λ old. sym (ready.same q) ∙ old)
           (λ new. let parts = covers_landing q off len new in absurd (omega arith))
-          (any_cases (covers q) es (Landed off len) now)
+          (laws.log_rises (covers q) es (Landed off len) now)
 
       was_landed_behind : off + len ≤ q → list_any (covers q) c.entries ≡ true
       was_landed_behind behind =
           ⊎_elim
           (λ old. sym (ready.same q) ∙ old)
           (λ new. let parts = covers_landing q off len new in absurd (omega arith))
-          (any_cases (covers q) es (Landed off len) now)
+          (laws.log_rises (covers q) es (Landed off len) now)
   landed (suc j) q now = absurd (cc)
 
   -- the chunk has the source's bytes
@@ -108,12 +109,12 @@ module _ (s d b : Volume) (c : Copying) (was : Did) (es : List Entry) (total off
   from_source place from below =
       let k = place - (c.plan.dst_off + off) in
       let there : c.plan.src_off + off + k ≡ c.plan.src_off + (place - c.plan.dst_off) = omega arith in
-      effect.within place from (omega (arith, piece_long)) ∙ byte_at-bytes_at (file_at s c.plan.src_file).now (c.plan.src_off + off) len k (omega arith) ∙ ap (λ i. byte_at (file_at s c.plan.src_file).now i) there
+      effect.within place from (omega (arith, piece_long)) ∙ laws.read_byte (file_at s c.plan.src_file).now (c.plan.src_off + off) len k (omega arith) ∙ ap (λ i. byte_at (file_at s c.plan.src_file).now i) there
 
   lands_own : (place : ℕ) → c.plan.dst_off + off ≤ place → place < c.plan.dst_off + off + len
       → LandingLaws (two before_moment now_moment) 0 0 place
   lands_own place from below =
-      let inside = chunk_within total off (place - c.plan.dst_off) (unlanded-Some es total off first).chunk.within (omega arith) in
+      let inside = chunk_within total off (place - c.plan.dst_off) (laws.chunk_first es total off first).chunk.within (omega arith) in
       record {
         within = (omega arith, omega (arith, long));
         read = 1;
@@ -143,8 +144,8 @@ module _ (s d b : Volume) (c : Copying) (was : Did) (es : List Entry) (total off
   copies : CopiesGoOn (Some c) (Some after)
   copies = copies_go_on c after refl ready.live (let grows = ready.grows in omega (arith, long))
 
-  laws : AreLawful before_moment now_moment (progress_in (Some c)) (progress_in (Some after))
-  laws =
+  step_laws : AreLawful before_moment now_moment (progress_in (Some c)) (progress_in (Some after))
+  step_laws =
       record {
         made = copies.made;
         copies = copies.copies;
@@ -181,12 +182,12 @@ module _ (s d b : Volume) (c : Copying) (was : Did) (es : List Entry) (total off
           none = λ none. absurd (let never = sound.none none in cc);
           copy = record {
             there = let there = ready.there in omega (arith, effect.files);
-            entries = sound_landed c.plan.consecutive es total off ready.sound ready.size first ready.still;
+            entries = sound_landed laws c.plan.consecutive es ready.sound total off ready.size first ready.still;
           };
         };
         copies = refl;
         goes = λ file. goes_on (file_at s file);
-        laws = laws;
+        laws = step_laws;
         marks = λ j. record {
           from_lines = λ reported. absurd (unreported lines quiet _ reported.1);
           only = λ stable. absurd (unstable j stable);

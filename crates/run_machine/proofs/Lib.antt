@@ -1,5 +1,5 @@
 mod Bytes
-mod Chunks
+mod Laws
 mod Entries
 mod Progress
 mod Sound

@@ -1,10 +1,11 @@
 -- How far the machine's copy is, read off its entries; the worlds of a run in the form that all of them
 -- have; and what is known of them.
-use Rattle.std.proofs.Common.{◌≡◌, ℕ, zero, suc, ◌+◌, ◌<◌, ◌≤◌, Bool, true, false, ◌&&◌, not, ltb, leb, Option, None, Some, IfSome, unwrap_or, List, [], ◌∷◌, length, slice_index_or, refl, arith}
+use Rattle.std.proofs.Common.{◌≡◌, ℕ, zero, suc, ◌+◌, ◌<◌, ◌≤◌, Bool, true, false, not, ltb, leb, Option, None, Some, IfSome, List, [], ◌∷◌, length, slice_index_or, refl, arith}
 use Rattle.std.specs.List.{list_any}
-use Rattle.std.proofs.lemmas.Bool.{both_ways, false_from_ne_true, and_parts, and_from, leb-true, ltb-true, le-leb, lt-ltb, not_from_true}
+use Rattle.std.proofs.lemmas.Bool.{both_ways, false_from_ne_true, and_parts, leb-true, ltb-true, not_from_true}
 use Rattle.copy_model.specs.Volume.{Volume}
-use Rattle.copy_model.specs.Job.{Entry, Sized, Landed, Stopped, Committed, Reported, size_of, has_landed, has_ended, is_end, chunk_len, IsLawful}
+use Rattle.copy_model.specs.Job.{Entry, Sized, Landed, Stopped, Committed, Reported, has_ended, is_end}
+use Rattle.copy_model.specs.Marks.{len_of, covers, is_stop, is_commit, AreSound}
 use Rattle.copy_model.specs.Moment.{Copy, Did}
 use Rattle.copy_model.specs.Laws.{Progress, MomentLaws}
 use Rattle.sched_text.specs.declared.event.Event.{Event}
@@ -13,32 +14,6 @@ use Rattle.run_machine.specs.Machine.{Copying, no_volume}
 use Rattle.run_machine.specs.History.{Watched, World, unwatched, moment_of, world_after}
 use Rattle.run_machine.proofs.Bytes.{IsStamped}
 use Rattle.run_machine.proofs.Entries.{any_implies}
-
--- the entry lands this byte of the range
-abbrev pub covers : ℕ → Entry → Bool
-covers q (Sized len) = false
-covers q (Landed off len) = leb off q && ltb q (off + len)
-covers q Stopped = false
-covers q Committed = false
-covers q Reported = false
-
-abbrev pub is_stop : Entry → Bool
-is_stop (Sized len) = false
-is_stop (Landed off len) = false
-is_stop Stopped = true
-is_stop Committed = false
-is_stop Reported = false
-
-abbrev pub is_commit : Entry → Bool
-is_commit (Sized len) = false
-is_commit (Landed off len) = false
-is_commit Stopped = false
-is_commit Committed = true
-is_commit Reported = false
-
--- the length of a copy's range, 0 until it is sized
-abbrev pub len_of : List Entry → ℕ
-len_of es = unwrap_or (size_of es) 0
 
 -- a copy as the transcript shows it when these are its entries
 abbrev pub shown : Copying → Watched
@@ -91,15 +66,6 @@ world_of s d b c did =
       state = record { source = s; dest = d; copy = c };
       seen = record { copies = copies_of c; bare = b; did = did };
     }
-
--- What is known of a copy's entries: they are lawful; a byte that landed lies in the range; each byte of
--- a chunk that landed landed; nothing lands before the size is known.
-pub record AreSound (consecutive : Bool) (es : List Entry) : Type 0 where
-  pub lawful : IsLawful consecutive es
-  pub within : (q : ℕ) → list_any (covers q) es ≡ true → q < len_of es
-  pub whole : (total off q : ℕ) → size_of es ≡ Some total → has_landed es off ≡ true → off ≤ q → q < off + chunk_len total off
-      → list_any (covers q) es ≡ true
-  pub sized_first : (off : ℕ) → size_of es ≡ None → has_landed es off ≡ true → ⊥
 
 -- what is known of the copy, whose file the destination has
 pub record IsSoundCopy (dest : Volume) (c : Copying) : Type 0 where
@@ -209,9 +175,6 @@ moment_laws s d b c did sound =
     }
 
 -- the bytes that a landing covers
-pub landing_covers : (q off len : ℕ) → off ≤ q → q < off + len → covers q (Landed off len) ≡ true
-landing_covers q off len from below = and_from (leb off q) (ltb q (off + len)) (le-leb off q from) (lt-ltb q (off + len) below)
-
 pub covers_landing : (q off len : ℕ) → covers q (Landed off len) ≡ true → (off ≤ q) × (q < off + len)
 covers_landing q off len h =
     let parts = and_parts (leb off q) (ltb q (off + len)) h in

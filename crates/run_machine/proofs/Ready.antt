@@ -3,9 +3,11 @@ use Rattle.std.proofs.Common.{◌≡◌, ℕ, ◌<◌, ◌≤◌, false, None, S
 use Rattle.std.specs.List.{list_any}
 use Rattle.copy_model.specs.Volume.{Volume}
 use Rattle.copy_model.specs.Job.{Entry, Sized, size_of, has_ended, is_end}
+use Rattle.copy_model.specs.Marks.{len_of, covers, AreSound}
 use Rattle.run_machine.specs.Machine.{Copying}
 use Rattle.run_machine.proofs.Entries.{any_other, size_first}
-use Rattle.run_machine.proofs.Progress.{covers, len_of, AreSound, IsSoundCopy}
+use Rattle.run_machine.proofs.Laws.{Laws}
+use Rattle.run_machine.proofs.Progress.{IsSoundCopy}
 use Rattle.run_machine.proofs.Sound.{len_at, sound_sized}
 
 -- the entries of the copy c, with the entry that sizes it if this step makes one
@@ -31,15 +33,15 @@ ready_sized dest c total sound live size =
       there = sound.there;
     }
 
-pub ready_unsized : (dest : Volume) (c : Copying) (total : ℕ) → IsSoundCopy dest c → has_ended c.entries ≡ false → size_of c.entries ≡ None
+pub ready_unsized : Laws → (dest : Volume) (c : Copying) (total : ℕ) → IsSoundCopy dest c → has_ended c.entries ≡ false → size_of c.entries ≡ None
     → IsReady dest c (c.entries ++ Sized total ∷ []) total
-ready_unsized dest c total sound live unsized =
+ready_unsized laws dest c total sound live unsized =
     record {
       live = live;
       still = any_other is_end c.entries (Sized total) refl ∙ live;
       size = size_first c.entries (Sized total) unsized;
       grows = omega (arith, len_at c.entries None unsized);
       same = λ q. any_other (covers q) c.entries (Sized total) refl;
-      sound = sound_sized c.plan.consecutive c.entries total sound.entries unsized live;
+      sound = sound_sized laws c.plan.consecutive c.entries sound.entries total unsized live;
       there = sound.there;
     }

@@ -3,15 +3,15 @@ use Rattle.std.proofs.Common.{◌≡◌, ℕ, ◌==◌, Bool, true, false, Some,
 use Rattle.std.specs.List.{list_any}
 use Rattle.std.proofs.lemmas.Bool.{cond-true, eq-eqb}
 use Rattle.copy_model.specs.Volume.{Volume}
-use Rattle.copy_model.specs.Job.{Plan, Entry, Stopped, Committed, size_of, has_ended}
+use Rattle.copy_model.specs.Job.{Plan, Entry, Stopped, Committed, has_ended}
+use Rattle.copy_model.specs.Marks.{len_of, is_stop, is_commit}
 use Rattle.copy_model.specs.Moment.{Did}
 use Rattle.sched_text.specs.declared.context.Context.{Context}
 use Rattle.sched_text.specs.declared.line.Line.{Line}
 use Rattle.run_machine.specs.Machine.{Copying}
 use Rattle.run_machine.specs.History.{Watched, World, mark_stable}
-use Rattle.run_machine.proofs.Entries.{any_new, any_other, size_same}
-use Rattle.run_machine.proofs.Progress.{copies_of, world_of, len_of, is_stop, is_commit, not_stopped, not_committed}
-use Rattle.run_machine.proofs.Sound.{len_at}
+use Rattle.run_machine.proofs.Entries.{any_new, any_other}
+use Rattle.run_machine.proofs.Progress.{copies_of, world_of, not_stopped, not_committed}
 use Rattle.run_machine.proofs.Steps.{IsGood}
 
 -- the one copy, with these marks
@@ -47,7 +47,8 @@ live_marks number plan es es' len live live' lens =
     (not_committed es' live' ∙ sym (not_committed es live))
 
 -- a copy that is stopped
-pub stopped_marks : (number : ℕ) (plan : Plan) (es es' : List Entry) (len : ℕ) → has_ended es ≡ false → has_ended es' ≡ false → len_of es' ≡ len
+pub stopped_marks : (number : ℕ) (plan : Plan) (es es' : List Entry) (len : ℕ) → has_ended es ≡ false → has_ended es' ≡ false
+    → len_of (es' ++ Stopped ∷ []) ≡ len
     → seen_as number plan (len_of (es' ++ Stopped ∷ [])) (list_any is_stop (es' ++ Stopped ∷ [])) (list_any is_commit (es' ++ Stopped ∷ []))
     ≡ seen_as number plan len true (list_any is_commit es)
 stopped_marks number plan es es' len live live' lens =
@@ -60,7 +61,7 @@ stopped_marks number plan es es' len live live' lens =
     true
     (list_any is_commit (es' ++ Stopped ∷ []))
     (list_any is_commit es)
-    (len_at (es' ++ Stopped ∷ []) (size_of es') (size_same es' Stopped refl) ∙ lens)
+    lens
     (any_new is_stop es' Stopped refl)
     (any_other is_commit es' Stopped refl ∙ not_committed es' live' ∙ sym (not_committed es live))
 

@@ -5,6 +5,7 @@ use Rattle.std.specs.List.{list_any}
 use Rattle.std.proofs.lemmas.Bool.{cond_both, cond-true, cond-false, eq-eqb, ne_eqb, ltb-false}
 use Rattle.copy_model.specs.Volume.{Volume, file_at}
 use Rattle.copy_model.specs.Job.{Plan, Entry, Sized, Landed, Stopped, Committed, Reported, size_of, has_ended, landed_bytes, chunk_len, unlanded, IsLawful}
+use Rattle.copy_model.specs.Marks.{is_commit}
 use Rattle.nfs_base.specs.declared.job.Stop.{Stop}
 use Rattle.nfs_base.specs.declared.job.Stop.TheVariants.{PastEnd, NoRoom, DiskFault}
 use Rattle.nfs_base.specs.declared.note.Note.TheVariants as note
@@ -15,9 +16,9 @@ use Rattle.sched_text.specs.declared.event.Event.TheVariants as event
 use Rattle.run_machine.specs.declared.choice.Choice.{Choice}
 use Rattle.run_machine.specs.Machine.{Copying, State, Step, rests, says, job_name, inval, fbig, plan_of, client_writes, asks, range_len, sizing, stops, moves, sizes, works, works_at, tells, happens}
 use Rattle.run_machine.specs.History.{World, next}
-use Rattle.run_machine.proofs.Entries.{size_kept, size_first}
+use Rattle.run_machine.proofs.Entries.{size_first}
+use Rattle.run_machine.proofs.Laws.{Laws}
 use Rattle.run_machine.proofs.Outcomes.{on_moves, on_starts, on_writes, on_shows}
-use Rattle.run_machine.proofs.Progress.{is_commit}
 use Rattle.run_machine.proofs.Steps.{new_copy}
 
 -- the length is the one that the plan asks for, where the source file has this size
@@ -83,7 +84,7 @@ same_given : (s d : Volume) (c : Option Copying) → IsGiven (state_of s d c) c
 same_given s d None = tt
 same_given s d (Some c) = λ len size. inl (refl, size)
 
-module _ (s d : Volume) (c : Copying) where
+module _ (laws : Laws) (s d : Volume) (c : Copying) where
   abbrev state : State
   state = state_of s d (Some c)
 
@@ -91,7 +92,7 @@ module _ (s d : Volume) (c : Copying) where
   pushed_given : (es : List Entry) (new : Entry) (len : ℕ) → size_of es ≡ Some len → IsLenGiven state c.plan len
       → IsGiven state (Some (record c { entries = es ++ new ∷ [] }))
   pushed_given es new len size given other size_then =
-      let kept = size_kept es new len size in
+      let kept = laws.log_sized es new len size in
       let same : len ≡ other = cc in
       subst (IsLenGiven state c.plan) same given
 
@@ -135,16 +136,16 @@ module _ (s d : Volume) (c : Copying) where
       (stops_given DiskFault unsized)
       (λ readable. sizes_given choice live unsized readable (sizing c.plan (length (file_at s c.plan.src_file).now) d.capacity) refl)
 
-works_given : (s d : Volume) (choice : Choice) (c : Option Copying) → IsGiven (state_of s d c) (works (state_of s d c) choice c).state.copy
-works_given s d choice None = tt
-works_given s d choice (Some c) =
+works_given : Laws → (s d : Volume) (choice : Choice) (c : Option Copying) → IsGiven (state_of s d c) (works (state_of s d c) choice c).state.copy
+works_given laws s d choice None = tt
+works_given laws s d choice (Some c) =
     cond_both
     (has_ended c.entries)
     (rests (state_of s d (Some c)))
     (works_at (state_of s d (Some c)) choice c (size_of c.entries))
     (λ (step : Step). IsGiven (state_of s d (Some c)) step.state.copy)
     (λ ended. same_given s d (Some c))
-    (λ live. works_at_given s d c choice live (size_of c.entries) refl)
+    (λ live. works_at_given laws s d c choice live (size_of c.entries) refl)
 
 tells_given : (s d : Volume) (c : Option Copying) (number : ℕ) → IsGiven (state_of s d c) (tells (state_of s d c) number c).state.copy
 tells_given s d None number = tt
@@ -157,7 +158,7 @@ tells_given s d (Some c) number =
     (λ ended. same_given s d (Some c))
     (λ live. same_given s d (Some c))
 
-module _ (s d : Volume) (c : Option Copying) (choice : Choice) where
+module _ (laws : Laws) (s d : Volume) (c : Option Copying) (choice : Choice) where
   abbrev now : State
   now = state_of s d c
 
@@ -191,15 +192,15 @@ module _ (s d : Volume) (c : Option Copying) (choice : Choice) where
   happens_given (event.Volume Dest files blocks) = same_given s d c
   happens_given (event.Write file off bytes) = writes_given file off bytes
   happens_given (event.Copy number spec) = asks_given number spec
-  happens_given event.Work = works_given s d choice c
+  happens_given event.Work = works_given laws s d choice c
   happens_given (event.Status number) = tells_given s d c number
   happens_given (event.Peek side file off len) =
       on_shows IsGivenBy now choice side file off len (same_given s d c) (same_given s d c)
 
 -- the next event, or rest, gives a length or keeps it
-pub next_given : (w : World) (choice : Choice) (o : Option Event) → IsGiven w.state (next w choice o).state.copy
-next_given w choice None = same_given w.state.source w.state.dest w.state.copy
-next_given w choice (Some e) = happens_given w.state.source w.state.dest w.state.copy choice e
+pub next_given : Laws → (w : World) (choice : Choice) (o : Option Event) → IsGiven w.state (next w choice o).state.copy
+next_given laws w choice None = same_given w.state.source w.state.dest w.state.copy
+next_given laws w choice (Some e) = happens_given laws w.state.source w.state.dest w.state.copy choice e
 
 -- where no entry gives the size, none of the first ones does
 unsized_take : (es : List Entry) (i : ℕ) → size_of es ≡ None → size_of (take i es) ≡ None

@@ -5,6 +5,7 @@ use Rattle.std.specs.List.{list_any}
 use Rattle.std.proofs.lemmas.Bool.{both_ways, or_parts, not_from_false}
 use Rattle.copy_model.specs.Volume.{Volume, file_at}
 use Rattle.copy_model.specs.Job.{Plan, Entry, has_ended, is_end}
+use Rattle.copy_model.specs.Marks.{len_of, covers, is_commit}
 use Rattle.copy_model.specs.Moment.{Copy, Did, Moment, History, seen_dest}
 use Rattle.copy_model.specs.Moment as did
 use Rattle.copy_model.specs.Promise.{InRange, IsAcceptedBy, source_byte, Shows, IsAlike}
@@ -17,7 +18,7 @@ use Rattle.run_machine.specs.Machine.{Copying}
 use Rattle.run_machine.specs.History.{World, watched_at, moment_of}
 use Rattle.run_machine.proofs.Bytes.{GoesOn}
 use Rattle.run_machine.proofs.Entries.{any_other}
-use Rattle.run_machine.proofs.Progress.{covers, copies_of, copy_in, progress_in, world_of, len_of, is_commit, not_stopped, not_committed, stable_durable, durable_stable, IsSound}
+use Rattle.run_machine.proofs.Progress.{copies_of, copy_in, progress_in, world_of, not_stopped, not_committed, stable_durable, durable_stable, IsSound}
 
 -- two moments as a history
 abbrev pub two : Moment → Moment → History

@@ -4,7 +4,8 @@ use Rattle.std.proofs.Common.{◌≡◌, inl, inr, ⊎_elim, ℕ, zero, suc, ◌
 use Rattle.std.specs.List.{list_any}
 use Rattle.std.proofs.lemmas.Bool.{both_ways, cond-true, cond-false, cases_eq, eq-eqb, ne_eqb}
 use Rattle.copy_model.specs.Volume.{Volume, file_at, fail_write, fail_commit}
-use Rattle.copy_model.specs.Job.{Entry, Stopped, size_of, has_ended, is_end}
+use Rattle.copy_model.specs.Job.{Entry, Stopped, has_ended, is_end}
+use Rattle.copy_model.specs.Marks.{len_of, covers, is_commit, AreSound}
 use Rattle.copy_model.specs.Moment.{Did, seen_dest}
 use Rattle.copy_model.specs.Moment as did
 use Rattle.copy_model.specs.Promise.{Shows, IsAlike}
@@ -12,8 +13,9 @@ use Rattle.sched_text.specs.declared.context.Context.{Context}
 use Rattle.sched_text.specs.declared.line.Line.{Line}
 use Rattle.run_machine.specs.Machine.{Copying}
 use Rattle.run_machine.proofs.Bytes.{goes_on}
-use Rattle.run_machine.proofs.Entries.{any_new, any_other, size_same}
-use Rattle.run_machine.proofs.Progress.{covers, progress_in, world_of, len_of, is_commit, not_committed, AreSound, IsSoundCopy, IsSound}
+use Rattle.run_machine.proofs.Entries.{any_new, any_other}
+use Rattle.run_machine.proofs.Laws.{Laws}
+use Rattle.run_machine.proofs.Progress.{progress_in, world_of, not_committed, IsSoundCopy, IsSound}
 use Rattle.run_machine.proofs.Sound.{len_at, sound_stopped}
 use Rattle.run_machine.proofs.Ready.{IsReady}
 use Rattle.run_machine.proofs.Steps.{DestGoesOn, CopiesRest, copies_go_on, reports, calm_good, IsGood}
@@ -104,11 +106,11 @@ going_live dest c sound live =
     record { live = live; still = live; grows = omega arith; same = λ q. refl; sound = sound.entries; there = sound.there }
 
 -- the stop lands nothing and completes nothing
-copies_stopped : (dest : Volume) (c : Copying) (es : List Entry) → IsGoing dest c es
+copies_stopped : Laws → (dest : Volume) (c : Copying) (es : List Entry) → IsGoing dest c es
     → CopiesRest (Some c) (Some (record c { entries = es ++ Stopped ∷ [] }))
-copies_stopped dest c es going =
+copies_stopped laws dest c es going =
     record {
-      goes = copies_go_on c (record c { entries = es ++ Stopped ∷ [] }) refl going.live (let grows = going.grows in omega (arith, len_at (es ++ Stopped ∷ []) (size_of es) (size_same es Stopped refl)));
+      goes = copies_go_on c (record c { entries = es ++ Stopped ∷ [] }) refl going.live (let grows = going.grows in omega (arith, laws.log_len es Stopped refl));
       landed = landed;
       durable = durable;
     }
@@ -123,7 +125,7 @@ copies_stopped dest c es going =
 
 -- The step that stops a copy is good, where the destination goes on like this, and the transcript showed
 -- the copy with this length.
-pub stop_good : (context : Context) (s d b d' b' : Volume) (c : Copying) (was : Did) (es : List Entry) (len : ℕ) (lines : List Line)
+pub stop_good : Laws → (context : Context) (s d b d' b' : Volume) (c : Copying) (was : Did) (es : List Entry) (len : ℕ) (lines : List Line)
     → IsSound context.source context.dest context.copied s d (Some c)
     → IsGoing d c es
     → len_of es ≡ len
@@ -131,7 +133,7 @@ pub stop_good : (context : Context) (s d b d' b' : Volume) (c : Copying) (was : 
     → length d'.files ≡ length d.files
     → list_any reports lines ≡ false
     → IsGood context (world_of s d b (Some c) was) (world_as s d' b' (record c { entries = es ++ Stopped ∷ [] }) did.Rested (seen_as c.number c.plan len true (list_any is_commit c.entries))) lines
-stop_good context s d b d' b' c was es len lines sound going lens dest files quiet =
+stop_good laws context s d b d' b' c was es len lines sound going lens dest files quiet =
     good_as
     context
     (world_of s d b (Some c) was)
@@ -142,8 +144,8 @@ stop_good context s d b d' b' c was es len lines sound going lens dest files qui
     did.Rested
     (seen_as c.number c.plan len true (list_any is_commit c.entries))
     lines
-    (stopped_marks c.number c.plan c.entries es len going.live going.still lens)
-    (calm_good context s d b s d' b' (Some c) (Some (record c { entries = es ++ Stopped ∷ [] })) was lines stopped_sound (λ file. goes_on (file_at s file)) dest (copies_stopped d c es going) quiet)
+    (stopped_marks c.number c.plan c.entries es len going.live going.still (laws.log_len es Stopped refl ∙ lens))
+    (calm_good context s d b s d' b' (Some c) (Some (record c { entries = es ++ Stopped ∷ [] })) was lines stopped_sound (λ file. goes_on (file_at s file)) dest (copies_stopped laws d c es going) quiet)
   where
     ended : has_ended (es ++ Stopped ∷ []) ≡ true
     ended = any_new is_end es Stopped refl
@@ -160,6 +162,6 @@ stop_good context s d b d' b' c was es len lines sound going lens dest files qui
           none = λ none. absurd (let never = sound.none none in cc);
           copy = record {
             there = let there = going.there in omega (arith, files);
-            entries = sound_stopped c.plan.consecutive es going.sound going.still;
+            entries = sound_stopped laws c.plan.consecutive es going.sound going.still;
           };
         }

@@ -14,6 +14,7 @@ use Rattle.run_machine.specs.declared.choice.Choice.{Choice}
 use Rattle.run_machine.specs.Machine.{Copying, choice_at, no_volume}
 use Rattle.run_machine.specs.History.{Watched, World, fresh_copy, unwatched, first_world, next, world_after, moment_of, history, lines_of, lines_at, MarksStable, HasLawfulEntries}
 use Rattle.run_machine.proofs.Bytes.{GoesOn, goes_on, goes_on_after}
+use Rattle.run_machine.proofs.Laws.{Laws}
 use Rattle.run_machine.proofs.Progress.{copies_of, copy_in, progress_in, progress, IsSoundCopy, IsSound, moment_laws, not_committed}
 use Rattle.run_machine.proofs.Sizing.{HasLen, IsUnderWay, IsGiven, next_given, committed_sized}
 use Rattle.run_machine.proofs.Sound.{len_at}
@@ -51,19 +52,19 @@ record IsReached (context : Context) (w : World) : Type 0 where
   copies : w.seen.copies ≡ copies_of w.state.copy
 
 -- the next event, or rest, is good
-next_good : (context : Context) (w : World) (choice : Choice) (o : Option Event)
+next_good : Laws → (context : Context) (w : World) (choice : Choice) (o : Option Event)
     → ((e : Event) → o ≡ Some e → admits context e ≡ true) → IsReached context w
     → IsGood (after_next context o) w (next w choice o) (lines_of w.state choice o)
-next_good context w choice None admitted reached =
+next_good laws context w choice None admitted reached =
     subst
     (λ (l : List Watched). IsGood context (with_copies w l) (next (with_copies w l) choice None) (lines_of w.state choice None))
     (sym reached.copies)
     (quiet_good context w.state.source w.state.dest w.seen.bare w.state.copy w.seen.did _ reached.sound refl)
-next_good context w choice (Some e) admitted reached =
+next_good laws context w choice (Some e) admitted reached =
     subst
     (λ (l : List Watched). IsGood (after_next context (Some e)) (with_copies w l) (next (with_copies w l) choice (Some e)) (lines_of w.state choice (Some e)))
     (sym reached.copies)
-    (happens_good context w.state.source w.state.dest w.seen.bare w.state.copy w.seen.did choice reached.sound e (admitted e refl))
+    (happens_good laws context w.state.source w.state.dest w.seen.bare w.state.copy w.seen.did choice reached.sound e (admitted e refl))
 
 reached_first : IsReached at_start first_world
 reached_first =
@@ -86,16 +87,16 @@ under_way_seen : (c : Option Copying) (plan : Plan) → IsUnderWay c plan → (0
 under_way_seen None plan under_way = absurd under_way
 under_way_seen (Some c) plan under_way = (omega arith, not_committed c.entries under_way.1)
 
-module _ (choices : List Choice) (events : List Event) (admitted : IsAdmitted at_start events) where
+module _ (laws : Laws) (choices : List Choice) (events : List Event) (admitted : IsAdmitted at_start events) where
   reached : (k : ℕ) → IsReached (context_after at_start events k) (world_after choices events k)
   reached zero = reached_first
   reached (suc k) =
-      let good = next_good (context_after at_start events k) (world_after choices events k) (choice_at choices k) (slice_get events k) (admitted_at at_start events admitted k) (reached k) in
+      let good = next_good laws (context_after at_start events k) (world_after choices events k) (choice_at choices k) (slice_get events k) (admitted_at at_start events admitted k) (reached k) in
       record { sound = good.sound; copies = good.copies }
 
   good_at : (k : ℕ) → IsGood (context_after at_start events (suc k)) (world_after choices events k) (world_after choices events (suc k)) (lines_at choices events k)
   good_at k =
-      next_good (context_after at_start events k) (world_after choices events k) (choice_at choices k) (slice_get events k) (admitted_at at_start events admitted k) (reached k)
+      next_good laws (context_after at_start events k) (world_after choices events k) (choice_at choices k) (slice_get events k) (admitted_at at_start events admitted k) (reached k)
 
   moments : (k : ℕ) → MomentLaws (history choices events k) (progress choices events k)
   moments k =
@@ -160,7 +161,7 @@ module _ (choices : List Choice) (events : List Event) (admitted : IsAdmitted at
   full_at : (k : ℕ) → IsFull (world_after choices events k).state.copy
   full_at zero = tt
   full_at (suc k) =
-      full_next k (world_after choices events (suc k)).state.copy (full_at k) (next_given (world_after choices events k) (choice_at choices k) (slice_get events k))
+      full_next k (world_after choices events (suc k)).state.copy (full_at k) (next_given laws (world_after choices events k) (choice_at choices k) (slice_get events k))
 
   completed_extent : (d : Volume) (c : Option Copying) (j : ℕ) → IfSome c (IsSoundCopy d) → IsFull c → (copy_in c j).completed ≡ true
       → HasExtent (history choices events) j (copy_in c j)

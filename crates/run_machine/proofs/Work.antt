@@ -4,6 +4,7 @@ use Rattle.std.specs.List.{list_any}
 use Rattle.std.proofs.lemmas.Bool.{cond_both, not_from_false, or_parts, or_from}
 use Rattle.copy_model.specs.Volume.{Volume, file_at}
 use Rattle.copy_model.specs.Job.{Entry, Sized, Landed, Committed, size_of, has_ended, is_end, chunk_len, unlanded}
+use Rattle.copy_model.specs.Marks.{len_of, is_stop, is_commit}
 use Rattle.copy_model.specs.Moment.{Did}
 use Rattle.copy_model.specs.Moment as did
 use Rattle.nfs_base.specs.declared.job.Stop.{Stop}
@@ -17,8 +18,9 @@ use Rattle.sched_text.specs.declared.line.Line.TheVariants as line
 use Rattle.run_machine.specs.declared.choice.Choice.{Choice}
 use Rattle.run_machine.specs.Machine.{Copying, Step, job_name, rests, stops, landing, landing_fails, committing, committing_fails, moves, sizes, sizing, works, works_at}
 use Rattle.run_machine.specs.History.{Seen, World, bare_commit, sees, watches}
-use Rattle.run_machine.proofs.Entries.{any_other, size_kept}
-use Rattle.run_machine.proofs.Progress.{world_of, len_of, is_stop, is_commit, IsWhole, IsSound}
+use Rattle.run_machine.proofs.Entries.{any_other}
+use Rattle.run_machine.proofs.Laws.{Laws}
+use Rattle.run_machine.proofs.Progress.{world_of, IsWhole, IsSound}
 use Rattle.run_machine.proofs.Sound.{len_at}
 use Rattle.run_machine.proofs.Steps.{dest_rests, reports, IsGood}
 use Rattle.run_machine.proofs.Outcomes.{on_moves, on_starts}
@@ -51,7 +53,7 @@ later_line (l ∷ before) lines x there =
     let within = later.1 in
     (suc later.0, omega arith, later.2)
 
-module _ (context : Context) (s d b : Volume) (c : Copying) (was : Did) (choice : Choice)
+module _ (laws : Laws) (context : Context) (s d b : Volume) (c : Copying) (was : Did) (choice : Choice)
     (sound : IsSound context.source context.dest context.copied s d (Some c)) (live : has_ended c.entries ≡ false) where
   abbrev w : World
   w = world_of s d b (Some c) was
@@ -83,15 +85,15 @@ module _ (context : Context) (s d b : Volume) (c : Copying) (was : Did) (choice 
 
     stops_good : (stop : Stop) → IsGoodAfter len before (stops w.state sized stop)
     stops_good stop =
-        stop_good context s d b d b c was es len _ sound going lens (dest_rests d b) refl (silent_before before _ silent refl)
+        stop_good laws context s d b d b c was es len _ sound going lens (dest_rests d b) refl (silent_before before _ silent refl)
 
     landing_fails_good : IsGoodAfter len before (landing_fails w.state sized)
     landing_fails_good =
-        stop_good context s d b _ b c was es len _ sound going lens (dest_breaks d b) refl (silent_before before _ silent refl)
+        stop_good laws context s d b _ b c was es len _ sound going lens (dest_breaks d b) refl (silent_before before _ silent refl)
 
     committing_fails_good : IsGoodAfter len before (committing_fails w.state sized)
     committing_fails_good =
-        stop_good context s d b _ _ c was es len _ sound going lens (dest_fails d b c.plan.dst_file whole.readable) refl (silent_before before _ silent refl)
+        stop_good laws context s d b _ _ c was es len _ sound going lens (dest_fails d b c.plan.dst_file whole.readable) refl (silent_before before _ silent refl)
 
     landing_lands_good : (total off : ℕ) → IsReady d c es total → unlanded es total ≡ Some off → s.broken ≡ false → IsGoodAfter len before (landing w.state sized total off)
     landing_lands_good total off ready first readable =
@@ -106,8 +108,8 @@ module _ (context : Context) (s d b : Volume) (c : Copying) (was : Did) (choice 
         (did.Landed 0 off (chunk_len total off))
         _
         _
-        (live_marks c.number c.plan c.entries after len live (any_other is_end es _ refl ∙ going.still) (len_at after (Some total) (size_kept es _ total ready.size) ∙ sym (len_at es (Some total) ready.size) ∙ lens))
-        (landing_good s d b c was es total off ready first readable context _ sound (silent_before before _ silent refl))
+        (live_marks c.number c.plan c.entries after len live (any_other is_end es _ refl ∙ going.still) (len_at after (Some total) (laws.log_sized es _ total ready.size) ∙ sym (len_at es (Some total) ready.size) ∙ lens))
+        (landing_good laws s d b c was es total off ready first readable context _ sound (silent_before before _ silent refl))
 
     committing_good : (total : ℕ) → IsReady d c es total → unlanded es total ≡ None → IsGoodAfter len before (committing w.state sized)
     committing_good total ready all =
@@ -122,8 +124,8 @@ module _ (context : Context) (s d b : Volume) (c : Copying) (was : Did) (choice 
         did.Rested
         _
         _
-        (committed_marks c.number c.plan c.entries es len _ live going.still (len_at after (Some total) (size_kept es Committed total ready.size) ∙ sym (len_at es (Some total) ready.size) ∙ lens))
-        (commit_good s d b c was es total ready all whole.readable whole.certain context _ sound (later_line before _ _ (1, omega arith, refl)))
+        (committed_marks c.number c.plan c.entries es len _ live going.still (len_at after (Some total) (laws.log_sized es Committed total ready.size) ∙ sym (len_at es (Some total) ready.size) ∙ lens))
+        (commit_good laws s d b c was es total ready all whole.readable whole.certain context _ sound (later_line before _ _ (1, omega arith, refl)))
 
     moves_good : (total : ℕ) (next : Option ℕ) → IsReady d c es total → unlanded es total ≡ next → IsGoodAfter len before (moves w.state choice sized total next)
     moves_good total next ready first =
@@ -152,7 +154,7 @@ module _ (context : Context) (s d b : Volume) (c : Copying) (was : Did) (choice 
 
   sizes_good : (size : Result ℕ Stop) → size_of c.entries ≡ None → IsGoodStep context event.Work w (sizes w.state choice c size)
   sizes_good (Ok total) unsized =
-      let ready = ready_unsized d c total sound.copy live unsized in
+      let ready = ready_unsized laws d c total sound.copy live unsized in
       let es = c.entries ++ Sized total ∷ [] in
       moves_good es total (line.Note (note.Sized (job_name w.state) total) ∷ []) (going_ready d c es total ready) (len_at es (Some total) ready.size) refl total (unlanded es total) ready refl
   sizes_good (Err stop) unsized = unsized_stops stop
@@ -163,15 +165,15 @@ module _ (context : Context) (s d b : Volume) (c : Copying) (was : Did) (choice 
       on_starts (IsGoodStep context event.Work w) w.state choice c (unsized_stops DiskFault) (λ readable. sizes_good (sizing c.plan (length (file_at s c.plan.src_file).now) d.capacity) unsized)
 
 -- the worker's step is good
-pub works_good : (context : Context) (s d b : Volume) (c : Option Copying) (was : Did) (choice : Choice)
+pub works_good : Laws → (context : Context) (s d b : Volume) (c : Option Copying) (was : Did) (choice : Choice)
     → IsSound context.source context.dest context.copied s d c
     → IsGoodStep context event.Work (world_of s d b c was) (works (world_of s d b c was).state choice c)
-works_good context s d b None was choice sound = quiet_good context s d b None was [] sound refl
-works_good context s d b (Some c) was choice sound =
+works_good laws context s d b None was choice sound = quiet_good context s d b None was [] sound refl
+works_good laws context s d b (Some c) was choice sound =
     cond_both
     (has_ended c.entries)
     (rests (world_of s d b (Some c) was).state)
     (works_at (world_of s d b (Some c) was).state choice c (size_of c.entries))
     (IsGoodStep context event.Work (world_of s d b (Some c) was))
     (λ ended. quiet_good context s d b (Some c) was [] sound refl)
-    (λ live. works_at_good context s d b c was choice sound live (size_of c.entries) refl)
+    (λ live. works_at_good laws context s d b c was choice sound live (size_of c.entries) refl)

@@ -15,5 +15,11 @@ pub fn every_run()
     ensures entries { (choices : List Choice) (events : List Event) → IsAdmitted at_start events
         → (k : ℕ) → HasLawfulEntries (world_after choices events k) }
 {
+    copy_model::first_chunks();
+    copy_model::logs_grow();
+    copy_model::log_marks();
+    copy_model::written_bytes();
+    copy_model::written_files();
+    copy_model::volume_effects();
     copy_model::lawful_runs();
 }

@@ -6,6 +6,6 @@ invariant_of-self c =
     let j = c.self.inside in
     record {
       progress = c.self.invariant.progress;
-      ended = whole j.plan j.len j.landed j.end c.args.self.now c.self.invariant c.self.view_is
+      ended = whole (record { only = c.first_chunks.ensures.only; all_landed = c.first_chunks.ensures.all_landed }) j.plan j.len j.landed j.end c.args.self.now c.self.invariant c.self.view_is
           c.requires.sized c.requires.running c.requires.landed;
     }

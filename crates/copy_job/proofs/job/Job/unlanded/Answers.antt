@@ -7,14 +7,14 @@ use Rattle.copy_job.proofs.job.Job.unlanded.Goals as goal
 pub returns-then-rest-eq0-clause-next : goal.returns-then-rest-eq0-clause-next
 returns-then-rest-eq0-clause-next c =
     let j = c.self.inside in
-    let next = next_at j.plan j.len j.landed j.end c.args.self.now c.unwrap.result c.self.invariant c.self.view_is c.unwrap.ensures
+    let next = next_at (record { only = c.first_chunks.ensures.only; all_landed = c.first_chunks.ensures.all_landed }) j.plan j.len j.landed j.end c.args.self.now c.unwrap.result c.self.invariant c.self.view_is c.unwrap.ensures
     c.requires.running in
     sym (next.0 (omega arith))
 
 pub returns-clause-next : goal.returns-clause-next
 returns-clause-next c =
     let j = c.self.inside in
-    let next = next_at j.plan j.len j.landed j.end c.args.self.now c.unwrap.result c.self.invariant c.self.view_is c.unwrap.ensures
+    let next = next_at (record { only = c.first_chunks.ensures.only; all_landed = c.first_chunks.ensures.all_landed }) j.plan j.len j.landed j.end c.args.self.now c.unwrap.result c.self.invariant c.self.view_is c.unwrap.ensures
     c.requires.running in
     let chunk : ℕ → Option Chunk = λ len. Some (record { off = j.landed; len = len }) in
     let len : c.min.result ≡ min chunk_size (c.unwrap.result - j.landed) = omega arith in
