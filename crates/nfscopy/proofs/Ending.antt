@@ -1,6 +1,6 @@
 -- How a run of the program ends, put together from what was read and what was put.
 use Rattle.std.proofs.Common.{◌≡◌, inl, inr, ℕ, ◌<◌, ◌≤◌, List, [], ◌++◌, length, Bool, true, false, nat_lt, refl, sym, ◌∙◌, ap, subst, arith}
-use Rattle.std.specs.Prelude.{Option, None, Some, Result, Ok, Err, IfSome, option_map, if◌then◌else◌}
+use Rattle.std.specs.Prelude.{◌⊎◌, Option, None, Some, Result, Ok, Err, IfSome, option_map, if◌then◌else◌}
 use Rattle.std.proofs.lemmas.Bool.{lt-ltb, le-ltb}
 use Rattle.std.specs.Io.KnownBytes.{Keeps, Appends, IsAtEnd}
 use Rattle.std.proofs.KnownBytes.{Appends-nil, Consumes-all, Keeps-trans}
@@ -8,6 +8,7 @@ use Rattle.outcome.specs.Causes.{Rose}
 use Rattle.streams.specs.Sink.{AppendsFront}
 use Rattle.streams.specs.Whole.{TakesAll}
 use Rattle.copy_model.specs.Promise.{IsKept, IsStopped}
+use Rattle.nfs_base.specs.declared.side.Side.{Side}
 use Rattle.nfs_base.specs.declared.side.Side.TheVariants.{Source, Dest}
 use Rattle.sched_text.specs.declared.event.Event.{Event}
 use Rattle.sched_text.specs.Admission.{at_start, IsAdmitted}
@@ -20,14 +21,14 @@ use Rattle.sched_run.specs.declared.fresh.Unmade.TheVariants.{DiskFailed, TooSma
 use Rattle.sched_run.specs.declared.system.Ran.TheVariants as ran
 use Rattle.sched_run.specs.Blame.{failed_calls, faults_in, size_in, Later}
 use Rattle.sched_run.specs.Fresh.{Small, first_small}
-use Rattle.sched_run.specs.Running.{Running}
+use Rattle.sched_run.specs.Running.{Running, disk_of}
 use Rattle.sched_run.specs.Run.{RanIs, RanHasCause, due_text, small_text}
 use Rattle.nfscopy.specs.declared.ends.RunEnd.{RunEnd}
 use Rattle.nfscopy.specs.declared.ends.RunEnd.TheVariants.{Done, Refused, ReadFault, WriteFault, NoMemory, DiskFault, NoVolume}
 use Rattle.nfscopy.specs.Input.{Input, most_bytes, parsed, asked, IfSchedule}
 use Rattle.nfscopy.specs.Notice.{too_much_text, bad_line_text, not_volume_text}
-use Rattle.nfscopy.specs.Outside.{Outside, DiskWords, SameDisks, DiskRose}
-use Rattle.nfscopy.specs.RunEnds.{Blamed, small_of, RunsWhole, PutsFront, RunEndIs, CarriesOut, Promises, RunEnds}
+use Rattle.nfscopy.specs.Outside.{Outside, DiskWords, SameDisks, DiskRose, disk_at}
+use Rattle.nfscopy.specs.RunEnds.{Blamed, small_of, PutsSmall, PutsUnreadable, RunsWhole, PutsFront, RunEndIs, CarriesOut, Promises, RunEnds}
 use Rattle.nfscopy.specs.Puts.{LastPut, LinePut, UnmadePut}
 
 -- what the law on runs says of every admitted schedule, whatever the disks do
@@ -115,31 +116,44 @@ module _ {D : Type 0} (w : DiskWords D) (before now : Outside D) (events : List 
         dest = moved (failed_calls r.choices Dest) _ _ _ _ dest now_dest r.dest;
       }
 
+  -- the disk that was as it was in the run is handed back so
+  still : (side : Side) → disk_of new side ≡ disk_of start side → disk_at now side ≡ disk_at before side
+  still Source same = now_source ∙ (same ∙ source)
+  still Dest same = now_dest ∙ (same ∙ dest)
+
   put_small : (need have : ℕ) (end : RunEnd) → (r : RanIs w.told w.faults w.size events start new before.taken middle (ran.Unmade (TooSmall need have)))
-      → LinePut middle now.taken count now.writes (small_text (record { need = need; have = have })) end → CarriesOut w before now (Some (Ok events)) end
+      → LinePut middle now.taken count now.writes (small_text need have) end → CarriesOut w before now (Some (Ok events)) end
   put_small need have end r (inl (inl all)) =
+      let short = r.puts in
       subst (λ (s : RunEnd). CarriesOut w before now (Some (Ok events)) s) (sym all.end_is)
       (record {
         choices = r.choices;
         blamed = λ other. blame (TooSmall need have) r;
-        is = record { puts = let small = r.puts in inl (record { first = record { need = need; have = have }; is = small_same ∙ small.0; puts = kept_appends before.taken middle now.taken _ small.1 all.puts }) };
+        is = record {
+          puts = inl (record {
+            first = record { side = short.side; need = need; have = have };
+            is = small_same ∙ short.is;
+            puts = kept_appends before.taken middle now.taken _ short.puts all.puts;
+            untouched = still short.side short.untouched;
+          });
+        };
       })
   put_small need have end r (inl (inr front)) =
-      let small = r.puts in
+      let short = r.puts in
       subst (λ (s : RunEnd). CarriesOut w before now (Some (Ok events)) s) (sym front.end_is)
       (record {
         choices = r.choices;
         blamed = λ other. blame (TooSmall need have) r;
         is = record {
           cause = rose_late before.writes count now.writes le front.rose;
-          puts = λ told. subst (λ (o : Option Small). AppendsFront before.taken now.taken (due_text o r.choices events)) (sym (small_same ∙ small.0))
-              (kept_front before.taken middle now.taken _ small.1 front.puts);
+          puts = λ told. subst (λ (o : Option Small). AppendsFront before.taken now.taken (due_text o r.choices events)) (sym (small_same ∙ short.is))
+              (kept_front before.taken middle now.taken _ short.puts front.puts);
         };
       })
   put_small need have end r (inr none) =
-      let small = r.puts in
+      let short = r.puts in
       subst (λ (s : RunEnd). CarriesOut w before now (Some (Ok events)) s) (sym none.end_is)
-      (schedule_starved w before now events (Keeps-trans before.taken middle now.taken small.1 none.keeps))
+      (schedule_starved w before now events (Keeps-trans before.taken middle now.taken short.puts none.keeps))
 
   put_unreadable : (block at : ℕ) (end : RunEnd) → (r : RanIs w.told w.faults w.size events start new before.taken middle (ran.Unmade (NotVolume block at)))
       → LinePut middle now.taken count now.writes (not_volume_text block at) end → CarriesOut w before now (Some (Ok events)) end
@@ -250,6 +264,18 @@ module _ {D : Type 0} (w : DiskWords D) (before now : Outside D) (choices : List
   ran_over (Ok events) ran = record { room = ran.room; puts = ran.puts; source = ran.source; dest = ran.dest }
   ran_over (Err line) ran = ran
 
+  disk_over : (side : Side) → disk_at (all_read now) side ≡ disk_at (unread before) side → disk_at now side ≡ disk_at before side
+  disk_over Source same = same
+  disk_over Dest same = same
+
+  none_over : (input : Input)
+      → IfSchedule (Some input) (λ events. PutsSmall (unread before) (all_read now) (small_of w (unread before) events) ⊎ PutsUnreadable w.told before.taken now.taken)
+      → IfSchedule (Some input) (λ events. PutsSmall before now (small_of w before events) ⊎ PutsUnreadable w.told before.taken now.taken)
+  none_over (Ok events) (inl small) =
+      inl (record { first = small.first; is = small.is; puts = small.puts; untouched = disk_over small.first.side small.untouched })
+  none_over (Ok events) (inr other) = inr other
+  none_over (Err line) never = never
+
   is_over : (input : Input) (end : RunEnd) → RunEndIs w (unread before) (all_read now) (Some input) choices end → RunEndIs w before now (Some input) choices end
   is_over input Done is = record { read = ended; ran = ran_over input is.ran }
   is_over input Refused is = record { puts = is.puts; disks = same_over is.disks }
@@ -257,7 +283,7 @@ module _ {D : Type 0} (w : DiskWords D) (before now : Outside D) (choices : List
   is_over input WriteFault is = record { cause = is.cause; puts = front_over input is.puts }
   is_over input NoMemory is = front_over input is
   is_over input DiskFault is = record { cause = is.cause; puts = is.puts; schedule = is.schedule }
-  is_over input NoVolume is = record { puts = is.puts }
+  is_over input NoVolume is = record { puts = none_over input is.puts }
 
 -- the input was read, and its schedule was carried out or refused
 pub text_ends : {D : Type 0} → KeepsAll → (w : DiskWords D) (before now : Outside D) (end : RunEnd) (text lent : List ℕ) → lent ≡ text

@@ -1,6 +1,8 @@
 -- What is known of the outside at a moment, and the words in which disks of a type speak of themselves.
 use Rattle.std.specs.Prelude.{◌≡◌, ◌⊎◌, ℕ, Option, None, List}
 use Rattle.outcome.specs.Causes.{Rose}
+use Rattle.nfs_base.specs.declared.side.Side.{Side}
+use Rattle.nfs_base.specs.declared.side.Side.TheVariants.{Source, Dest}
 use Rattle.disk_model.specs.Elapsed.{Timeline}
 use Rattle.sched_run.specs.Blame.{faults_in}
 
@@ -36,6 +38,11 @@ disk_words told faults size timeline = record { told = told; faults = faults; si
 pub record SameDisks {D : Type 0} (before now : Outside D) : Type 0 where
   pub source : now.source ≡ before.source
   pub dest : now.dest ≡ before.dest
+
+-- a server's disk
+abbrev pub disk_at : {D : Type 0} → Outside D → Side → Option D
+disk_at o Source = o.source
+disk_at o Dest = o.dest
 
 -- a disk's count of faults rose
 abbrev pub DiskRose : {D : Type 0} → DiskWords D → Outside D → Outside D → Type 0

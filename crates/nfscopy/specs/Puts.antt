@@ -36,5 +36,5 @@ LinePut old new before now line result = LastPut old new before now line NoVolum
 -- why a volume wasn't made
 abbrev pub UnmadePut : Option (List ℕ) → Option (List ℕ) → (before now : ℕ) → Unmade → RunEnd → Type 0
 UnmadePut old new before now DiskFailed result = NonePut old new DiskFault result
-UnmadePut old new before now (TooSmall need have) result = LinePut old new before now (small_text (record { need = need; have = have })) result
+UnmadePut old new before now (TooSmall need have) result = LinePut old new before now (small_text need have) result
 UnmadePut old new before now (NotVolume block at) result = LinePut old new before now (not_volume_text block at) result

@@ -17,7 +17,7 @@ use Rattle.nfscopy.specs.declared.ends.RunEnd.{RunEnd}
 use Rattle.nfscopy.specs.declared.ends.RunEnd.TheVariants.{Done, Refused, ReadFault, WriteFault, NoMemory, DiskFault, NoVolume}
 use Rattle.nfscopy.specs.Input.{Input, asked, IfSchedule, IfRefused}
 use Rattle.nfscopy.specs.Notice.{not_volume_text}
-use Rattle.nfscopy.specs.Outside.{Outside, DiskWords, SameDisks, DiskRose}
+use Rattle.nfscopy.specs.Outside.{Outside, DiskWords, SameDisks, DiskRose, disk_at}
 
 -- the first volume of a schedule for which its disk is too small
 abbrev pub small_of : {D : Type 0} → DiskWords D → Outside D → List Event → Option Small
@@ -31,11 +31,12 @@ pub record RunsWhole {D : Type 0} (w : DiskWords D) (before now : Outside D) (ch
   pub source : w.told → DiskHolds w.timeline w.size SOURCE_TAG (last_state choices events).source now.source
   pub dest : w.told → DiskHolds w.timeline w.size DEST_TAG (last_state choices events).dest now.dest
 
--- a disk is too small: that one line is put
-pub record PutsSmall (small : Option Small) (taken now : Option (List ℕ)) : Type 0 where
+-- a disk is too small: it is handed back as it was, and that one line is put
+pub record PutsSmall {D : Type 0} (before now : Outside D) (small : Option Small) : Type 0 where
   pub first : Small
   pub is : small ≡ Some first
-  pub puts : Appends taken now (small_text first)
+  pub puts : Appends before.taken now.taken (small_text first.need first.have)
+  pub untouched : disk_at now first.side ≡ disk_at before first.side
 
 -- a disk that doesn't tell what it holds didn't give back what was written: that one line is put
 pub record PutsUnreadable (told : Type 0) (taken now : Option (List ℕ)) : Type 0 where
@@ -78,9 +79,10 @@ pub record RunDiskFault {D : Type 0} (w : DiskWords D) (before now : Outside D) 
   pub puts : Keeps before.taken now.taken
   pub schedule : IfSchedule input (λ events. Unit {0})
 
--- status 7: a disk is too small for its volume, or didn't give back what was written; that one line was put
+-- status 7: a disk is too small for its volume, and is as it was, or one didn't give back what was written; that
+-- one line was put
 pub record RunNoVolume {D : Type 0} (w : DiskWords D) (before now : Outside D) (input : Option Input) : Type 0 where
-  pub puts : IfSchedule input (λ events. PutsSmall (small_of w before events) before.taken now.taken ⊎ PutsUnreadable w.told before.taken now.taken)
+  pub puts : IfSchedule input (λ events. PutsSmall before now (small_of w before events) ⊎ PutsUnreadable w.told before.taken now.taken)
 
 -- what an end says; want of memory, which is status 5, has no cause
 abbrev pub RunEndIs : {D : Type 0} → DiskWords D → Outside D → Outside D → Option Input → List Choice → RunEnd → Type 0

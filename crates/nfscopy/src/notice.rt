@@ -30,7 +30,7 @@ pub fn bad_line(alloc: Global, bad: BadLine) -> Mem<String>
 
 /// The line that is put where a disk has too few blocks.
 pub fn small_line(alloc: Global, need: u64, have: u64) -> Mem<String>
-    ensures { IfOk result (λ text. string_bytes text ≡ small_text (record { need = need; have = have })) }
+    ensures { IfOk result (λ text. string_bytes text ≡ small_text need have) }
 {
     Ok(format!(in alloc; "too small {need} {have}\n")?)
 }

@@ -1,5 +1,5 @@
 -- The disks over several steps: their counts of faults add up.
-use Rattle.std.proofs.Common.{◌≡◌, ℕ, ◌+◌, Option, List, [], ◌∷◌, ◌++◌, refl, sym, ◌∙◌, subst, arith}
+use Rattle.std.proofs.Common.{◌≡◌, ℕ, ◌+◌, Option, List, [], ◌∷◌, ◌++◌, refl, sym, ◌∙◌, subst, arith, add-zero}
 use Rattle.outcome.specs.Causes.{RoseBy}
 use Rattle.nfs_base.specs.declared.side.Side.{Side}
 use Rattle.run_machine.specs.declared.choice.Choice.{Choice}
@@ -19,6 +19,12 @@ later_join faults size n m a b c first second =
       rose = rose_sum n m (faults_in faults a) (faults_in faults b) (faults_in faults c) first.rose second.rose;
       as_large = second.as_large ∙ first.as_large;
     }
+
+-- with a step in which no call failed
+pub later_rest : {D : Type 0} (faults size : D → ℕ) (n : ℕ) (a b c : Option D) → Later faults size n a b → Later faults size 0 b c
+    → Later faults size n a c
+later_rest faults size n a b c first second =
+    subst (λ (m : ℕ). Later faults size m a c) (add-zero n) (later_join faults size n 0 a b c first second)
 
 failed_more : (choices : List Choice) (choice : Choice) (side : Side)
     → failed_calls (choices ++ choice ∷ []) side ≡ failed_calls choices side + failed choice side

@@ -6,3 +6,4 @@ pub mod Making
 pub mod Later
 pub mod Ready
 pub mod Runs
+pub mod Cuts

@@ -1,29 +1,32 @@
 -- A run in its middle: what was put, with the text of what is still to come, is the text of the whole.
-use Rattle.std.proofs.Common.{◌≡◌, inl, inr, ℕ, ◌+◌, ◌<◌, ◌≤◌, Bool, true, false, Option, None, List, [], ◌∷◌, ◌++◌, length, drop, get_or, suc, sym, ◌∙◌, ap, subst, refl, append_assoc, append-nil, add-one}
+use Rattle.std.proofs.Common.{◌≡◌, inl, inr, ℕ, ◌+◌, ◌<◌, ◌≤◌, Bool, true, false, Option, None, Some, List, [], ◌∷◌, ◌++◌, length, drop, get_or, suc, sym, ◌∙◌, ap, subst, refl, append_assoc, append-nil, add-one}
 use Rattle.std.proofs.Math.Seq.{drop-cons}
 use Rattle.std.proofs.lemmas.Grind.{flat_map-append}
 use Rattle.std.specs.Option.{option_or}
 use Rattle.std.specs.Prelude.{Result, Ok, Err, OnErr, ◌⊎◌}
 use Rattle.std.proofs.Math.ListN.{drop_of_length-le}
-use Rattle.std.specs.Io.KnownBytes.{Appends}
+use Rattle.std.specs.Io.KnownBytes.{Keeps, Appends}
 use Rattle.std.proofs.KnownBytes.{Appends-trans, Appends-nil}
 use Rattle.streams.specs.Sink.{AppendsFront}
 use Rattle.streams.specs.FrontLaws.{front_all, front_wider, front_more}
+use Rattle.nfs_base.specs.declared.side.Side.{Side}
 use Rattle.nfs_base.specs.declared.side.Side.TheVariants.{Source, Dest}
 use Rattle.sched_text.specs.declared.context.Context.{Context}
 use Rattle.sched_text.specs.declared.event.Event.{Event}
 use Rattle.sched_text.specs.declared.line.Line.TheVariants.{End}
-use Rattle.sched_text.specs.Admission.{is_ready, IsAdmitted}
+use Rattle.sched_text.specs.Admission.{files_of, is_ready, IsAdmitted}
 use Rattle.sched_text.specs.LineText.{line_text, lines_text}
 use Rattle.run_machine.specs.declared.choice.Choice.{Choice}
 use Rattle.run_machine.specs.Machine.{State, happens, choice_at, lines_from}
+use Rattle.sched_run.specs.declared.fresh.Unmade.{Unmade}
+use Rattle.sched_run.specs.declared.fresh.Unmade.TheVariants.{DiskFailed, TooSmall, NotVolume}
 use Rattle.sched_run.specs.declared.system.Ran.TheVariants as ran
 use Rattle.sched_run.specs.Blame.{failed_calls, size_in, Later}
 use Rattle.sched_run.specs.Fresh.{Small, event_small, first_small}
-use Rattle.sched_run.specs.Running.{Running, HasDisks, IsCarriedOut}
-use Rattle.sched_run.specs.Run.{run_text, state_from, last_state, due_text, RanIs, RanOut}
-use Rattle.sched_run.proofs.Later.{later_same, later_more}
-use Rattle.sched_run.proofs.Ready.{ready_after, ready_none}
+use Rattle.sched_run.specs.Running.{Running, HasDisks, IsCarriedOut, UnmadeFor, IsRefused, disk_of}
+use Rattle.sched_run.specs.Run.{run_text, state_from, last_state, due_text, RanPuts, RanIs, RanOut}
+use Rattle.sched_run.proofs.Later.{later_same, later_rest, later_more}
+use Rattle.sched_run.proofs.Ready.{ready_after, ready_none, source_before, dest_before, small_waits}
 
 -- the text of what is still to come
 abbrev rest_text : State → List Choice → List Event → List ℕ
@@ -46,6 +49,8 @@ pub record HasRun {D : Type 0} (told : Type 0) (faults size : D → ℕ) (events
   pub source : Later faults size (failed_calls choices Source) start.source now.source
   pub dest : Later faults size (failed_calls choices Dest) start.dest now.dest
   pub small : small_in size start events ≡ small_in size start rest
+  pub source_waits : now.context.source ≡ None → now.source ≡ start.source
+  pub dest_waits : now.context.dest ≡ None → now.dest ≡ start.dest
   pub quiet : is_ready now.context ≡ false → Appends taken now_taken []
   pub puts : told → Fronted taken now_taken events choices now.state rest
 
@@ -57,6 +62,8 @@ begun told faults size events start taken at_boot =
       source = later_same faults size start.source;
       dest = later_same faults size start.dest;
       small = refl;
+      source_waits = λ none. refl;
+      dest_waits = λ none. refl;
       quiet = λ early. Appends-nil taken;
       puts = λ t. record {
         front = [];
@@ -95,15 +102,20 @@ next_fronted start now out events choices choice s new e rest text was is text_i
           ∙ (was.last (choice ∷ later) ∙ ap (λ (c : List Choice). last_state c events) (one_more choices choice later));
     }
 
+-- the disks are as large as they were
+small_at : {D : Type 0} (size : D → ℕ) (start old : Running D) (e : Event)
+    → size_in size old.source ≡ size_in size start.source → size_in size old.dest ≡ size_in size start.dest
+    → event_small (size_in size start.source) (size_in size start.dest) e ≡ event_small (size_in size old.source) (size_in size old.dest) e
+small_at size start old e source dest =
+    ap (λ (n : ℕ). event_small n (size_in size start.dest) e) (sym source)
+    ∙ ap (λ (n : ℕ). event_small (size_in size old.source) n e) (sym dest)
+
 -- an event for which the disks have room moves on to the rest
 small_next : {D : Type 0} (size : D → ℕ) (start old : Running D) (e : Event) (rest : List Event)
     → size_in size old.source ≡ size_in size start.source → size_in size old.dest ≡ size_in size start.dest
     → event_small (size_in size old.source) (size_in size old.dest) e ≡ None → small_in size start (e ∷ rest) ≡ small_in size start rest
 small_next size start old e rest source dest fits =
-    let fits_at : event_small (size_in size start.source) (size_in size start.dest) e ≡ None =
-    ap (λ (n : ℕ). event_small n (size_in size start.dest) e) (sym source)
-    ∙ (ap (λ (n : ℕ). event_small (size_in size old.source) n e) (sym dest) ∙ fits) in
-    ap (λ (o : Option Small). option_or o (small_in size start rest)) fits_at
+    ap (λ (o : Option Small). option_or o (small_in size start rest)) (small_at size start old e source dest ∙ fits)
 
 pub went : {D : Type 0} (told : Type 0) (faults size : D → ℕ) (events : List Event) (start old new : Running D) (taken now out : Option (List ℕ))
     (e : Event) (rest : List Event) (choice : Choice) (text : List ℕ)
@@ -118,6 +130,10 @@ went told faults size events start old new taken now out e rest choice text was 
       source = later_more faults size was.choices choice Source _ _ _ at_source borne.source;
       dest = later_more faults size was.choices choice Dest _ _ _ at_dest borne.dest;
       small = was.small ∙ small_next size start old e rest at_source.as_large at_dest.as_large borne.fits;
+      source_waits = λ none.
+          borne.source_waits none ∙ was.source_waits (source_before old.context e (sym (ap (λ (c : Context). c.source) borne.context) ∙ none));
+      dest_waits = λ none.
+          borne.dest_waits none ∙ was.dest_waits (dest_before old.context e (sym (ap (λ (c : Context). c.dest) borne.context) ∙ none));
       quiet = λ early.
           let before = ready_after old.context e (subst (λ (c : Context). is_ready c ≡ false) borne.context early) in
           Appends-trans _ _ _ [] [] (was.quiet before) (subst (λ (t : List ℕ). Appends now out t) (step.quiet before) put);
@@ -205,6 +221,53 @@ failed_put told faults size events start old new taken now out e rest choice tex
     due t (inr early) =
         front_nothing taken out _
         (front_more taken now out [] [] early.1 (subst (λ (t : List ℕ). AppendsFront now out t) (step.quiet early.0) put))
+
+-- the disk of a volume that isn't there yet is as it was handed in
+waits_at : {D : Type 0} (told : Type 0) (faults size : D → ℕ) (events : List Event) (start now : Running D) (taken now_taken : Option (List ℕ))
+    (rest : List Event) → HasRun told faults size events start now taken now_taken rest
+    → (side : Side) → files_of now.context side ≡ None → disk_of now side ≡ disk_of start side
+waits_at told faults size events start now taken now_taken rest was Source none = was.source_waits none
+waits_at told faults size events start now taken now_taken rest was Dest none = was.dest_waits none
+
+-- nothing was put, since not both volumes were there
+kept_early : (a b : Option (List ℕ)) → Appends a b [] → Keeps a b
+kept_early None b put = tt
+kept_early (Some x) None put = put
+kept_early (Some x) (Some y) put = put ∙ append-nil x
+
+-- the event's volume wasn't made, and the run is over
+pub unmade : {D : Type 0} (told : Type 0) (faults size : D → ℕ) (events : List Event) (start old new : Running D) (taken now : Option (List ℕ))
+    (e : Event) (rest : List Event) (cause : Unmade) → HasRun told faults size events start old taken now (e ∷ rest)
+    → IsAdmitted old.context (e ∷ rest) → IsRefused told faults size old new e cause
+    → RanIs told faults size events start new taken now (ran.Unmade cause)
+unmade {D = D} told faults size events start old new taken now e rest cause was admitted refused =
+    record {
+      choices = was.choices;
+      source = later_rest faults size (failed_calls was.choices Source) _ _ _ was.source refused.source;
+      dest = later_rest faults size (failed_calls was.choices Dest) _ _ _ was.dest refused.dest;
+      puts = puts cause refused.why;
+      last = λ t whole. absurd (cc);
+    }
+  where
+    keeps : Keeps taken now
+    keeps = kept_early taken now (was.quiet refused.early)
+
+    puts : (cause : Unmade) → UnmadeFor told faults size old new e cause
+        → RanPuts told (small_in size start events) was.choices events start new taken now (ran.Unmade cause)
+    puts DiskFailed why = keeps
+    puts (TooSmall need have) why =
+        let at_source = was.source in
+        let at_dest = was.dest in
+        record {
+          side = why.side;
+          is = was.small ∙ ap (λ (o : Option Small). option_or o (small_in size start rest))
+              (small_at size start old e at_source.as_large at_dest.as_large ∙ why.small);
+          puts = keeps;
+          untouched = ap (λ (r : Running D). disk_of r why.side) why.untouched
+              ∙ waits_at told faults size events start old taken now (e ∷ rest) was why.side
+              (small_waits old.context e _ _ _ admitted.0 why.small);
+        }
+    puts (NotVolume block at) why = (why, keeps)
 
 -- the last line failed
 pub failed_end : {D : Type 0} (told : Type 0) (faults size : D → ℕ) (events : List Event) (start now : Running D) (taken now_taken out : Option (List ℕ))

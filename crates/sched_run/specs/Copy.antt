@@ -1,12 +1,13 @@
 -- The runner's copy and the machine's: the job at the destination, with what the client and the source
 -- know of it.
-use Rattle.std.specs.Prelude.{◌≡◌, ℕ, ◌+◌, ◌<◌, ◌≤◌, None, Some, [], length}
+use Rattle.std.specs.Prelude.{◌≡◌, ◌⊎◌, ℕ, ◌+◌, ◌<◌, ◌≤◌, false, None, Some, [], length}
 use Rattle.copy_model.specs.Volume.{Volume}
 use Rattle.copy_model.specs.Job.{Plan, size_of}
 use Rattle.copy_job.specs.declared.plan.Plan.{Plan as JobPlan}
 use Rattle.nfs_base.specs.declared.copy_spec.CopySpec.{CopySpec}
 use Rattle.sched_run.specs.declared.copying.Copying.{Copying}
-use Rattle.run_machine.specs.Machine.{State}
+use Rattle.run_machine.specs.declared.choice.Choice.{Choice}
+use Rattle.run_machine.specs.Machine.{State, Step}
 use Rattle.run_machine.specs.Machine as machine
 
 -- the plan of a copy: the job's, with the file that it reads
@@ -61,3 +62,14 @@ pub record StillWorks (source now_source dest now_dest : Volume) (c : Copying) :
   pub dest_files : length now_dest.files ≡ length dest.files
   pub source_written : now_source.writes ≡ source.writes
   pub dest_written : now_dest.writes ≤ dest.writes + 1
+
+-- Memory ran out in a step of a copy: the source's volume is as it was, and the destination's is as it was or as
+-- the step leaves it where the disks did this.
+pub record IsCut (step : Choice → Step) (source now_source dest now_dest : Volume) : Type 0 where
+  pub source_is : now_source ≡ source
+  pub choice : Choice
+  pub dest_is : (now_dest ≡ dest) ⊎ (now_dest ≡ (step choice).state.dest)
+
+-- the same of the destination's volume alone, where the call that may fail leaves it so
+abbrev pub IsCutAt : Volume → Volume → Volume → Type 0
+IsCutAt failed dest now_dest = (now_dest ≡ dest) ⊎ ((dest.broken ≡ false) × (now_dest ≡ failed))

@@ -1,5 +1,5 @@
 -- How a server's volume is made, and why it can't be. Own definitions.
-use Rattle.std.specs.Prelude.{◌≡◌, ℕ, ◌+◌, ◌*◌, not, ◌==◌, nat_lt, Option, None, Some, List, [], ◌∷◌, length, if◌then◌else◌}
+use Rattle.std.specs.Prelude.{◌≡◌, ℕ, ◌+◌, ◌*◌, ◌<◌, not, ◌==◌, nat_lt, Option, None, Some, List, [], ◌∷◌, length, if◌then◌else◌}
 use Rattle.std.specs.Option.{option_or}
 use Rattle.outcome.specs.Causes.{Rose}
 use Rattle.copy_model.specs.Volume.{Volume}
@@ -24,15 +24,16 @@ abbrev pub unopened : OpenFault → Unmade
 unopened opening.DiskFailed = DiskFailed
 unopened (opening.NotVolume block at) = NotVolume block at
 
--- A disk is too small for a volume: so many blocks are needed, and so many are there.
+-- A server's disk is too small for its volume: so many blocks are needed, and so many are there.
 pub record Small : Type 0 where
+  pub side : Side
   pub need : ℕ
   pub have : ℕ
 
--- a volume of so many files of so many blocks, on a disk of this size
-abbrev pub small_for : (size files blocks : ℕ) → Option Small
-small_for size files blocks =
-    if nat_lt size (blocks_of files blocks) then Some (record { need = blocks_of files blocks; have = size }) else None
+-- a server's volume of so many files of so many blocks, on a disk of this size
+abbrev pub small_for : Side → (size files blocks : ℕ) → Option Small
+small_for side size files blocks =
+    if nat_lt size (blocks_of files blocks) then Some (record { side = side; need = blocks_of files blocks; have = size }) else None
 
 -- the size of a server's disk
 abbrev pub size_at : (source dest : ℕ) → Side → ℕ
@@ -41,7 +42,7 @@ size_at source dest Dest = dest
 
 -- whether a disk is too small for what an event asks
 abbrev pub event_small : (source dest : ℕ) → Event → Option Small
-event_small source dest (event.Volume side files blocks) = small_for (size_at source dest side) files blocks
+event_small source dest (event.Volume side files blocks) = small_for side (size_at source dest side) files blocks
 event_small source dest (event.Write file off bytes) = None
 event_small source dest (event.Copy number spec) = None
 event_small source dest event.Work = None
@@ -64,8 +65,16 @@ pub record IsMade (files blocks : ℕ) (v : Volume) : Type 0 where
   pub capacity : v.capacity ≡ blocks * 4096
   pub unwritten : v.writes ≡ 0
 
--- Why no volume was made on a disk of this size. A disk that tells what it holds gives back what was written.
-abbrev pub IsUnmade : (told : Type 0) → (size files blocks faults now : ℕ) → Unmade → Type 0
-IsUnmade told size files blocks faults now DiskFailed = Rose faults now
-IsUnmade told size files blocks faults now (TooSmall need have) = small_for size files blocks ≡ Some (record { need = need; have = have })
-IsUnmade told size files blocks faults now (NotVolume block at) = told → ⊥
+-- What has a disk that is too small for a volume of so many files of so many blocks is as it was.
+pub record IsShort {X : Type 0} (size : X → ℕ) (files blocks need have : ℕ) (old new : X) : Type 0 where
+  pub need_is : need ≡ blocks_of files blocks
+  pub have_is : have ≡ size old
+  pub short : have < need
+  pub untouched : new ≡ old
+
+-- Why no volume was made on the disk that something has. A disk that tells what it holds gives back what was
+-- written.
+abbrev pub IsUnmade : {X : Type 0} → (told : Type 0) → (faults size : X → ℕ) → (files blocks : ℕ) → X → X → Unmade → Type 0
+IsUnmade told faults size files blocks old new DiskFailed = Rose (faults old) (faults new)
+IsUnmade told faults size files blocks old new (TooSmall need have) = IsShort size files blocks need have old new
+IsUnmade told faults size files blocks old new (NotVolume block at) = told → ⊥

@@ -1,12 +1,13 @@
 -- What making a server's volume leaves. Own definitions.
 use Rattle.std.specs.Prelude.{◌≡◌, ℕ, ◌*◌, ◌≤◌, Option, None, Some, Result, Ok, Err}
 use Rattle.copy_model.specs.Volume.{formatted}
+use Rattle.block_file.specs.Layout.{blocks_of}
 use Rattle.block_file.specs.Opened.{Opened}
 use Rattle.sched_run.specs.declared.fresh.Unmade.{Unmade}
 use Rattle.sched_run.specs.declared.server.Server.{Server}
 use Rattle.sched_run.specs.declared.server.Server.TheVariants as server
 use Rattle.sched_run.specs.Blame.{Later, faults_in, size_in}
-use Rattle.sched_run.specs.Fresh.{IsMade, IsUnmade, small_for}
+use Rattle.sched_run.specs.Fresh.{IsMade, IsUnmade}
 use Rattle.sched_run.specs.System.{volume_in, disk_in, HasTag}
 
 -- the server of a disk
@@ -31,13 +32,20 @@ pub record Made {D : Type 0} (told : Type 0) (faults size : D → ℕ) (files bl
   pub made : HasMade files blocks new
   pub tag_is : HasTag tag new
   pub volume : told → volume_in new ≡ formatted files (blocks * 4096)
-  pub fits : small_for (size_in size (disk_in old)) files blocks ≡ None
+  pub fits : blocks_of files blocks ≤ size_in size (disk_in old)
   pub later : Later faults size 0 (disk_in old) (disk_in new)
+
+-- the count of faults of a server's disk, and how many blocks it has
+abbrev pub server_faults : {D : Type 0} → (D → ℕ) → Server D → ℕ
+server_faults faults s = faults_in faults (disk_in s)
+
+abbrev pub server_size : {D : Type 0} → (D → ℕ) → Server D → ℕ
+server_size size s = size_in size (disk_in s)
 
 -- No volume was made, and the disk is there.
 pub record Unmakes {D : Type 0} (told : Type 0) (faults size : D → ℕ) (files blocks : ℕ) (old new : Server D) (cause : Unmade) : Type 0 where
   pub disk : HasDisk new
-  pub why : IsUnmade told (size_in size (disk_in old)) files blocks (faults_in faults (disk_in old)) (faults_in faults (disk_in new)) cause
+  pub why : IsUnmade told (server_faults faults) (server_size size) files blocks old new cause
   pub later : Later faults size 0 (disk_in old) (disk_in new)
 
 -- by the answer
@@ -50,11 +58,11 @@ pub record VolumeMade {D : Type 0} (told : Type 0) (faults size : D → ℕ) (fi
   pub made : IsMade files blocks v.volume
   pub tag_is : v.tag ≡ tag
   pub volume : told → v.volume ≡ formatted files (blocks * 4096)
-  pub fits : small_for (size disk) files blocks ≡ None
+  pub fits : blocks_of files blocks ≤ size disk
   pub later : faults disk ≤ faults v.disk
   pub as_large : size v.disk ≡ size disk
 
 pub record VolumeUnmade {D : Type 0} (told : Type 0) (faults size : D → ℕ) (files blocks : ℕ) (disk now : D) (cause : Unmade) : Type 0 where
-  pub why : IsUnmade told (size disk) files blocks (faults disk) (faults now) cause
+  pub why : IsUnmade told faults size files blocks disk now cause
   pub later : faults disk ≤ faults now
   pub as_large : size now ≡ size disk

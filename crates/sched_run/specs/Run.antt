@@ -3,6 +3,7 @@ use Rattle.std.specs.Prelude.{◌≡◌, ℕ, ◌<◌, Option, None, Some, IfSom
 use Rattle.std.specs.Io.KnownBytes.{Keeps, Appends}
 use Rattle.outcome.specs.Causes.{Rose}
 use Rattle.copy_model.specs.Volume.{Volume}
+use Rattle.nfs_base.specs.declared.side.Side.{Side}
 use Rattle.nfs_base.specs.declared.side.Side.TheVariants.{Source, Dest}
 use Rattle.disk_model.specs.Disk.{Image, MayLeave}
 use Rattle.disk_model.specs.Elapsed.{Timeline, present}
@@ -17,7 +18,7 @@ use Rattle.sched_run.specs.declared.system.Ran.{Ran}
 use Rattle.sched_run.specs.declared.system.Ran.TheVariants.{Whole, WriteFault, Unmade}
 use Rattle.sched_run.specs.Blame.{failed_calls, faults_in, size_in, Later}
 use Rattle.sched_run.specs.Fresh.{Small, first_small}
-use Rattle.sched_run.specs.Running.{Running}
+use Rattle.sched_run.specs.Running.{Running, disk_of}
 
 -- the text of a whole run
 abbrev pub run_text : List Choice → List Event → List ℕ
@@ -33,22 +34,29 @@ abbrev pub last_state : List Choice → List Event → State
 last_state choices events = state_from at_boot choices events
 
 -- the line of a disk that is too small
-abbrev pub small_text : Small → List ℕ
-small_text small = codes "too small " ++ decimal small.need ++ codes " " ++ decimal small.have ++ 10 ∷ []
+abbrev pub small_text : (need have : ℕ) → List ℕ
+small_text need have = codes "too small " ++ decimal need ++ codes " " ++ decimal have ++ 10 ∷ []
 
 -- The bytes that are due for a schedule: its transcript, or the one line of the first disk that is too small.
 abbrev pub due_text : Option Small → List Choice → List Event → List ℕ
 due_text None choices events = run_text choices events
-due_text (Some small) choices events = small_text small
+due_text (Some small) choices events = small_text small.need small.have
+
+-- A disk is too small: it is as it was handed in, and nothing was put.
+pub record RanShort {D : Type 0} (small : Option Small) (old new : Running D) (taken now_taken : Option (List ℕ)) (need have : ℕ) : Type 0 where
+  pub side : Side
+  pub is : small ≡ Some (record { side = side; need = need; have = have })
+  pub puts : Keeps taken now_taken
+  pub untouched : disk_of new side ≡ disk_of old side
 
 -- What a run has put, by its answer. A whole run has put all of its text, one that met a write fault a front
 -- of what is due, and one whose volume wasn't made nothing.
-abbrev pub RanPuts : (told : Type 0) → Option Small → List Choice → List Event → Option (List ℕ) → Option (List ℕ) → Ran → Type 0
-RanPuts told small choices events old new Whole = (small ≡ None) × (told → Appends old new (run_text choices events))
-RanPuts told small choices events old new WriteFault = told → AppendsFront old new (due_text small choices events)
-RanPuts told small choices events old new (Unmade DiskFailed) = Keeps old new
-RanPuts told small choices events old new (Unmade (TooSmall need have)) = (small ≡ Some (record { need = need; have = have })) × Keeps old new
-RanPuts told small choices events old new (Unmade (NotVolume block at)) = (told → ⊥) × Keeps old new
+abbrev pub RanPuts : {D : Type 0} → (told : Type 0) → Option Small → List Choice → List Event → Running D → Running D → Option (List ℕ) → Option (List ℕ) → Ran → Type 0
+RanPuts told small choices events old new taken now_taken Whole = (small ≡ None) × (told → Appends taken now_taken (run_text choices events))
+RanPuts told small choices events old new taken now_taken WriteFault = told → AppendsFront taken now_taken (due_text small choices events)
+RanPuts told small choices events old new taken now_taken (Unmade DiskFailed) = Keeps taken now_taken
+RanPuts told small choices events old new taken now_taken (Unmade (TooSmall need have)) = RanShort small old new taken now_taken need have
+RanPuts told small choices events old new taken now_taken (Unmade (NotVolume block at)) = (told → ⊥) × Keeps taken now_taken
 
 -- A write fault comes only where the sink's count rose, and a failure to make a volume only where a disk's did.
 abbrev pub RanHasCause : {D : Type 0} → (faults : D → ℕ) → Running D → Running D → (before now : ℕ) → Ran → Type 0
@@ -65,7 +73,7 @@ pub record RanIs {D : Type 0} (told : Type 0) (faults size : D → ℕ) (events 
   pub choices : List Choice
   pub source : Later faults size (failed_calls choices Source) old.source new.source
   pub dest : Later faults size (failed_calls choices Dest) old.dest new.dest
-  pub puts : RanPuts told (first_small (size_in size old.source) (size_in size old.dest) events) choices events taken now_taken ran
+  pub puts : RanPuts told (first_small (size_in size old.source) (size_in size old.dest) events) choices events old new taken now_taken ran
   pub last : told → ran ≡ Whole → new.state ≡ last_state choices events
 
 -- Memory ran out in a run: a front of what is due was put.

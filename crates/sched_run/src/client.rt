@@ -115,7 +115,7 @@ pub fn progress(number: u8, copy: &Option<Copying>) -> Note
     }
 }
 
-/// Bytes of a file as they are now, as a line, or nothing where they can't be read.
+/// Bytes of a file as they are now, as a line, or nothing where they can't be read. Want of memory changes nothing.
 pub fn peek<D: Disk>(
     alloc: Global,
     side: Side,
@@ -126,7 +126,6 @@ pub fn peek<D: Disk>(
 ) -> Mem<Turn>
     requires no_root { 1 ≤ file }
     requires there { file < length volume.old.volume.files }
-    requires short { len ≤ 64 }
     ensures volume { D.Told → volume.new.volume ≡ volume.old.volume }
     ensures lines { D.Told → IfOk result (λ turn. turn.lines.items ≡ peek_lines volume.old.volume turn.choice side file off len) }
     ensures blamed { IfOk result (λ turn. PeekBlamed side turn.choice (D.faults volume.old.disk) (D.faults volume.new.disk)) }
@@ -134,25 +133,29 @@ pub fn peek<D: Disk>(
     ensures written { volume.new.volume.writes ≡ volume.old.volume.writes }
     ensures size { D.size volume.new.disk ≡ D.size volume.old.disk }
     ensures tag { volume.new.tag ≡ volume.old.tag }
+    ensures err { OnErr result (volume.new ≡ volume.old) }
 {
-    let mut room = [0; 64];
-    let shown = &mut room[..len as usize];
-    match volume.read(file, off, shown) {
+    let mut shown = vec![in alloc; 0; len as usize]?;
+    let mut lines = Vec::with_capacity(alloc, 1)?;
+    match volume.read(file, off, &mut shown) {
         Ok(()) => {
-            let bytes = Octets::from_slice(alloc, shown)?;
-            let mut turn = Turn::rest(alloc);
-            turn.lines.push(Line::Bytes {
+            let bytes = Octets::from_vec(shown);
+            lines.push_reserved(Line::Bytes {
                 side,
                 file,
                 off,
                 bytes,
-            })?;
-            Ok(turn)
+            });
+            let choice = Choice::Went;
+            Ok(Turn { choice, lines })
         }
-        Err(ReadFault::Broken) => Ok(Turn::rest(alloc)),
-        Err(ReadFault::DiskFailed) => Ok(Turn {
-            choice: Choice::FailedAt(side),
-            lines: Vec::new(alloc),
-        }),
+        Err(ReadFault::Broken) => {
+            let choice = Choice::Went;
+            Ok(Turn { choice, lines })
+        }
+        Err(ReadFault::DiskFailed) => {
+            let choice = Choice::FailedAt(side);
+            Ok(Turn { choice, lines })
+        }
     }
 }

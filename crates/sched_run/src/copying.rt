@@ -1,10 +1,10 @@
-ghost use Rattle.std.specs.Prelude.{◌≡◌, ℕ, ◌+◌, ◌-◌, ◌<◌, ◌≤◌, ◌^◌, IfOk, Some, None, false, length, [], ◌∷◌};
-ghost use Rattle.copy_model.specs.Volume.{Volume as Files, file_at};
+ghost use Rattle.std.specs.Prelude.{◌≡◌, ℕ, ◌+◌, ◌-◌, ◌<◌, ◌≤◌, ◌^◌, IfOk, OnErr, Some, None, false, length, [], ◌∷◌};
+ghost use Rattle.copy_model.specs.Volume.{Volume as Files, file_at, fail_write};
 ghost use Rattle.copy_model.specs.Job.{size_of, has_ended, unlanded};
 ghost use Rattle.copy_job.specs.Log.{next_chunk, IsInside};
 ghost use Rattle.run_machine.specs.Machine as machine;
 ghost use Rattle.sched_run.specs.Blame.{Blamed};
-ghost use Rattle.sched_run.specs.Copy.{copying_of, state_of, whole_plan, new_copying, CanWork, StillWorks};
+ghost use Rattle.sched_run.specs.Copy.{copying_of, state_of, whole_plan, new_copying, CanWork, StillWorks, IsCut, IsCutAt};
 ghost use Rattle.sched_run.specs.Running.{IsStep};
 
 use crate::turn::Turn;
@@ -112,6 +112,9 @@ impl Copying {
         ensures source_tag { source.new.tag ≡ source.old.tag }
         ensures dest_tag { dest.new.tag ≡ dest.old.tag }
         ensures blamed { IfOk result (λ turn. Blamed turn.choice (D.faults source.old.disk) (D.faults source.new.disk) (D.faults dest.old.disk) (D.faults dest.new.disk)) }
+        ensures cut { D.Told → OnErr result (IsCut (λ choice. machine.works (state_of source.old.volume dest.old.volume self.old) choice (Some (copying_of self.old))) source.old.volume source.new.volume dest.old.volume dest.new.volume) }
+        ensures source_later { D.faults source.old.disk ≤ D.faults source.new.disk }
+        ensures dest_later { D.faults dest.old.disk ≤ D.faults dest.new.disk }
     {
         if self.job.is_ended() {
             return Ok(Turn::rest(alloc));
@@ -143,6 +146,9 @@ impl Copying {
         ensures source_tag { source.new.tag ≡ source.old.tag }
         ensures dest_tag { dest.new.tag ≡ dest.old.tag }
         ensures blamed { IfOk result (λ turn. Blamed turn.choice (D.faults source.old.disk) (D.faults source.new.disk) (D.faults dest.old.disk) (D.faults dest.new.disk)) }
+        ensures cut { D.Told → OnErr result (IsCut (λ choice. machine.starts (state_of source.old.volume dest.old.volume self.old) choice (copying_of self.old)) source.old.volume source.new.volume dest.old.volume dest.new.volume) }
+        ensures source_later { D.faults source.old.disk ≤ D.faults source.new.disk }
+        ensures dest_later { D.faults dest.old.disk ≤ D.faults dest.new.disk }
     {
         if source.is_broken() {
             return self.stop(alloc, dest, Choice::Went, Stop::DiskFault);
@@ -179,6 +185,9 @@ impl Copying {
         ensures source_tag { source.new.tag ≡ source.old.tag }
         ensures dest_tag { dest.new.tag ≡ dest.old.tag }
         ensures blamed { IfOk result (λ turn. Blamed turn.choice (D.faults source.old.disk) (D.faults source.new.disk) (D.faults dest.old.disk) (D.faults dest.new.disk)) }
+        ensures cut { D.Told → OnErr result (IsCut (λ choice. machine.moves_sized (state_of source.old.volume dest.old.volume self.old) choice (copying_of self.old) len) source.old.volume source.new.volume dest.old.volume dest.new.volume) }
+        ensures source_later { D.faults source.old.disk ≤ D.faults source.new.disk }
+        ensures dest_later { D.faults dest.old.disk ≤ D.faults dest.new.disk }
     {
         let sized = Note::Sized {
             job: job_name(dest),
@@ -216,6 +225,9 @@ impl Copying {
         ensures source_tag { source.new.tag ≡ source.old.tag }
         ensures dest_tag { dest.new.tag ≡ dest.old.tag }
         ensures blamed { IfOk result (λ turn. Blamed turn.choice (D.faults source.old.disk) (D.faults source.new.disk) (D.faults dest.old.disk) (D.faults dest.new.disk)) }
+        ensures cut { D.Told → OnErr result (IsCut (λ choice. machine.moves (state_of source.old.volume dest.old.volume self.old) choice (copying_of self.old) total (unlanded self.old.job.entries total)) source.old.volume source.new.volume dest.old.volume dest.new.volume) }
+        ensures source_later { D.faults source.old.disk ≤ D.faults source.new.disk }
+        ensures dest_later { D.faults dest.old.disk ≤ D.faults dest.new.disk }
     {
         match self.job.unlanded() {
             Some(chunk) => self.fetch(alloc, source, dest, chunk, total),
@@ -248,6 +260,9 @@ impl Copying {
         ensures source_tag { source.new.tag ≡ source.old.tag }
         ensures dest_tag { dest.new.tag ≡ dest.old.tag }
         ensures blamed { IfOk result (λ turn. Blamed turn.choice (D.faults source.old.disk) (D.faults source.new.disk) (D.faults dest.old.disk) (D.faults dest.new.disk)) }
+        ensures cut { D.Told → OnErr result (IsCut (λ choice. machine.moves (state_of source.old.volume dest.old.volume self.old) choice (copying_of self.old) total (Some chunk.off)) source.old.volume source.new.volume dest.old.volume dest.new.volume) }
+        ensures source_later { D.faults source.old.disk ≤ D.faults source.new.disk }
+        ensures dest_later { D.faults dest.old.disk ≤ D.faults dest.new.disk }
     {
         let plan = self.job.plan();
         let mut piece = vec![in alloc; 0; chunk.len as usize]?;
@@ -290,6 +305,8 @@ impl Copying {
         ensures size { D.size dest.new.disk ≡ D.size dest.old.disk }
         ensures tag { dest.new.tag ≡ dest.old.tag }
         ensures blamed { IfOk result (λ turn. (n : ℕ) → Blamed turn.choice n n (D.faults dest.old.disk) (D.faults dest.new.disk)) }
+        ensures cut { D.Told → OnErr result (IsCutAt (fail_write dest.old.volume) dest.old.volume dest.new.volume) }
+        ensures later { D.faults dest.old.disk ≤ D.faults dest.new.disk }
     {
         let plan = self.job.plan();
         let landed = Note::Landed {
@@ -331,6 +348,9 @@ impl Copying {
         ensures source_tag { source.new.tag ≡ source.old.tag }
         ensures dest_tag { dest.new.tag ≡ dest.old.tag }
         ensures blamed { IfOk result (λ turn. Blamed turn.choice (D.faults source.old.disk) (D.faults source.new.disk) (D.faults dest.old.disk) (D.faults dest.new.disk)) }
+        ensures cut { D.Told → OnErr result (IsCut (λ choice. machine.moves (state_of source.old.volume dest.old.volume self.old) choice (copying_of self.old) total None) source.old.volume source.new.volume dest.old.volume dest.new.volume) }
+        ensures source_later { D.faults source.old.disk ≤ D.faults source.new.disk }
+        ensures dest_later { D.faults dest.old.disk ≤ D.faults dest.new.disk }
     {
         let committed = Note::Committed {
             job: job_name(dest),

@@ -67,7 +67,7 @@ impl<D: Disk + Drop> System<D> {
     ghost use Rattle.std.specs.Prelude.{◌≡◌, ◌*◌, ◌≤◌, IfOk, IsTrue, OnErr, Some};
     ghost use Rattle.std.specs.String.{string_bytes};
     ghost use Rattle.sched_text.specs.Admission.{admits, after};
-    ghost use Rattle.sched_run.specs.Running.{at_rest, HasDisks, IsDone, StepIs};
+    ghost use Rattle.sched_run.specs.Running.{at_rest, HasDisks, IsDone, IsCutOff, StepIs};
     ghost use Rattle.sched_run.specs.Run.{DiskHolds};
     ghost use Rattle.sched_run.specs.declared.server.TheConstants.{SOURCE_TAG, DEST_TAG};
 
@@ -102,12 +102,14 @@ impl<D: Disk + Drop> System<D> {
         }
     }
 
-    /// Carries out one event, and gives the text of its lines. After want of memory, or where a volume
-    /// could not be made, the run is over: what the event did so far stands.
+    /// Carries out one event, and gives the text of its lines. Where a volume could not be made the run is
+    /// over, and so it is after want of memory: each volume is then as it was or as the event leaves it, and
+    /// a disk is gone only where its volume was being made.
     pub fn step(&mut self, alloc: Global, event: &Event) -> Mem<Stepped>
         requires admitted { IsTrue (admits self.old.context event.now) }
         requires disks { HasDisks self.old }
-        ensures { IfOk result (λ stepped. StepIs D.Told D.faults D.size self.old self.new event.now stepped) }
+        ensures ok { IfOk result (λ stepped. StepIs D.Told D.faults D.size self.old self.new event.now stepped) }
+        ensures err { OnErr result (IsCutOff D.Told D.faults D.size self.old self.new event.now) }
     {
         let next = self.context.after(event);
         let turn = match event {
@@ -145,7 +147,8 @@ impl<D: Disk + Drop> System<D> {
         requires admitted { IsTrue (admits self.old.context (Event.Volume side files blocks)) }
         requires next_is { next ≡ after self.old.context (Event.Volume side files blocks) }
         requires disks { HasDisks self.old }
-        ensures { IfOk result (λ stepped. StepIs D.Told D.faults D.size self.old self.new (Event.Volume side files blocks) stepped) }
+        ensures ok { IfOk result (λ stepped. StepIs D.Told D.faults D.size self.old self.new (Event.Volume side files blocks) stepped) }
+        ensures err { OnErr result (IsCutOff D.Told D.faults D.size self.old self.new (Event.Volume side files blocks)) }
     {
         let made = match side {
             Side::Source => self.source.make(alloc, files, blocks, SOURCE_TAG)?,
@@ -175,7 +178,8 @@ impl<D: Disk + Drop> System<D> {
         requires admitted { IsTrue (admits self.old.context (Event.Write file off bytes.now)) }
         requires next_is { next ≡ after self.old.context (Event.Write file off bytes.now) }
         requires disks { HasDisks self.old }
-        ensures { IfOk result (λ turn. IsDone D.Told D.faults D.size self.old self.new (Event.Write file off bytes.now) turn.choice turn.lines.items) }
+        ensures ok { IfOk result (λ turn. IsDone D.Told D.faults D.size self.old self.new (Event.Write file off bytes.now) turn.choice turn.lines.items) }
+        ensures err { OnErr result (self.new ≡ self.old) }
     {
         let Server::Volume(source) = &mut self.source else {
             unreachable!()
@@ -190,7 +194,8 @@ impl<D: Disk + Drop> System<D> {
         requires admitted { IsTrue (admits self.old.context (Event.Copy copy spec)) }
         requires next_is { next ≡ after self.old.context (Event.Copy copy spec) }
         requires disks { HasDisks self.old }
-        ensures { IfOk result (λ turn. IsDone D.Told D.faults D.size self.old self.new (Event.Copy copy spec) turn.choice turn.lines.items) }
+        ensures ok { IfOk result (λ turn. IsDone D.Told D.faults D.size self.old self.new (Event.Copy copy spec) turn.choice turn.lines.items) }
+        ensures err { OnErr result (self.new ≡ self.old) }
     {
         let Server::Volume(dest) = &self.dest else {
             unreachable!()
@@ -221,7 +226,8 @@ impl<D: Disk + Drop> System<D> {
         requires admitted { IsTrue (admits self.old.context (Event.Work)) }
         requires next_is { next ≡ after self.old.context (Event.Work) }
         requires disks { HasDisks self.old }
-        ensures { IfOk result (λ turn. IsDone D.Told D.faults D.size self.old self.new (Event.Work) turn.choice turn.lines.items) }
+        ensures ok { IfOk result (λ turn. IsDone D.Told D.faults D.size self.old self.new (Event.Work) turn.choice turn.lines.items) }
+        ensures err { OnErr result (IsCutOff D.Told D.faults D.size self.old self.new (Event.Work)) }
     {
         self.context = next;
         match (&mut self.source, &mut self.dest, &mut self.copy) {
@@ -237,7 +243,8 @@ impl<D: Disk + Drop> System<D> {
         requires admitted { IsTrue (admits self.old.context (Event.Status copy)) }
         requires next_is { next ≡ after self.old.context (Event.Status copy) }
         requires disks { HasDisks self.old }
-        ensures { IfOk result (λ turn. IsDone D.Told D.faults D.size self.old self.new (Event.Status copy) turn.choice turn.lines.items) }
+        ensures ok { IfOk result (λ turn. IsDone D.Told D.faults D.size self.old self.new (Event.Status copy) turn.choice turn.lines.items) }
+        ensures err { OnErr result (self.new ≡ self.old) }
     {
         let turn = Turn::one(alloc, progress(copy, &self.copy))?;
         self.context = next;
@@ -257,7 +264,8 @@ impl<D: Disk + Drop> System<D> {
         requires admitted { IsTrue (admits self.old.context (Event.Peek side file off len)) }
         requires next_is { next ≡ after self.old.context (Event.Peek side file off len) }
         requires disks { HasDisks self.old }
-        ensures { IfOk result (λ turn. IsDone D.Told D.faults D.size self.old self.new (Event.Peek side file off len) turn.choice turn.lines.items) }
+        ensures ok { IfOk result (λ turn. IsDone D.Told D.faults D.size self.old self.new (Event.Peek side file off len) turn.choice turn.lines.items) }
+        ensures err { OnErr result (self.new ≡ self.old) }
     {
         match side {
             Side::Source => {

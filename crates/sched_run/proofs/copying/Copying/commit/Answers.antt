@@ -7,6 +7,7 @@ use Rattle.block_file.specs.Opened.{Opened}
 use Rattle.run_machine.specs.declared.choice.Choice.TheVariants.{Went, FailedAt}
 use Rattle.run_machine.specs.Machine.{moves, Step}
 use Rattle.sched_run.specs.Copy.{copying_of, state_of}
+use Rattle.sched_run.proofs.Cuts.{on_cut, cut_before, committing_cut}
 use Rattle.sched_run.proofs.Stops.{stopped_in, uncommitted_broken, uncommitted_failed}
 use Rattle.sched_run.proofs.Works.{can_more, can_still, same_volume}
 use Rattle.sched_run.proofs.copying.Copying.commit.Goals as goal
@@ -45,3 +46,15 @@ returns-clause-still g c =
       source_written = refl;
       dest_written = omega (arith, c.commit.ensures.writes);
     }
+
+pub returns-in-Err-Broken-clause-cut : goal.returns-in-Err-Broken-clause-cut
+returns-in-Err-Broken-clause-cut g c = λ told.
+    let kept : c.commit.new.self ≡ c.args.dest.now = search rules in
+    on_cut _ _ (cut_before _ _ _ _ _ refl (ap (λ (v : Opened g.row.D.Denot). v.volume) kept))
+
+pub returns-in-Err-DiskFailed-clause-cut : goal.returns-in-Err-DiskFailed-clause-cut
+returns-in-Err-DiskFailed-clause-cut g c = λ told.
+    let s = state_of c.args.source.now.volume c.args.dest.now.volume c.args.self.now in
+    let whole : c.args.dest.now.volume.broken ≡ false = search rules in
+    let failed : c.commit.new.self.volume ≡ fail_commit c.args.dest.now.volume c.args.self.now.job.plan.file = search rules in
+    on_cut _ _ (committing_cut s (copying_of c.args.self.now) c.args.total c.commit.new.self.volume whole failed)

@@ -1,4 +1,4 @@
-use Rattle.std.proofs.Common.{◌≡◌, true, false, rules, refl, ap, length, ◌==◌}
+use Rattle.std.proofs.Common.{◌≡◌, true, false, rules, refl, ap, inl, inr, length, ◌==◌}
 use Rattle.copy_model.specs.Volume.{fail_write}
 use Rattle.copy_model.specs.Job.{Landed}
 use Rattle.nfs_base.specs.declared.side.Side.TheVariants.{Dest}
@@ -8,6 +8,7 @@ use Rattle.run_machine.specs.declared.choice.Choice.TheVariants.{Went, FailedAt}
 use Rattle.run_machine.specs.Machine.{lands, Step}
 use Rattle.sched_run.specs.Copy.{copying_of, state_of}
 use Rattle.sched_run.proofs.Stops.{stopped_in, unlanded_broken, unlanded_failed}
+use Rattle.sched_run.proofs.Cuts.{on_cut}
 use Rattle.sched_run.proofs.Works.{can_more, can_still, same_volume, once}
 use Rattle.sched_run.proofs.copying.Copying.land.Goals as goal
 
@@ -20,6 +21,13 @@ returns-in-Err-DiskFailed-clause-step g c = λ told source bytes.
     stopped_in _ (FailedAt Dest) DiskFault (λ x. lands (state_of source dest c.args.self.now) x (copying_of c.args.self.now) c.args.total c.args.chunk.off)
     source source c.write.new.self.volume (fail_write dest) c.args.self.now c.stop.new.self
     refl failed c.stop.ensures.choice c.stop.ensures.step (ap (λ (x : Step). x.state) same) (ap (λ (x : Step). x.lines) same)
+
+pub returns-in-Err-DiskFailed-clause-cut : goal.returns-in-Err-DiskFailed-clause-cut
+returns-in-Err-DiskFailed-clause-cut g c = λ told.
+    let dest = c.args.dest.now.volume in
+    let whole : dest.broken ≡ false = search rules in
+    let failed : c.write.new.self.volume ≡ fail_write dest = search rules in
+    on_cut _ _ (inr (whole, failed))
 
 pub returns-in-Err : goal.returns-in-Err
 returns-in-Err g c =
@@ -38,6 +46,10 @@ returns-in-Err g c =
       size = search rules;
       tag = search rules;
       blamed = search rules;
+      cut = λ told.
+          let kept : c.write.new.self ≡ c.args.dest.now = search rules in
+          on_cut _ _ (inl (ap (λ (v : Opened g.row.D.Denot). v.volume) kept));
+      later = search rules;
     }
 
 pub returns-clause-still : goal.returns-clause-still

@@ -7,8 +7,8 @@ use Rattle.sched_run.specs.System.{volume_in}
 use Rattle.sched_run.proofs.Clients.{client_step}
 use Rattle.sched_run.proofs.system.System.write.Goals as goal
 
-pub returns : goal.returns
-returns g c = record {
+pub returns-clause-ok : goal.returns-clause-ok
+returns-clause-ok g c = record {
   borne = search rules;
   quiet = search rules;
   step = λ told.
