@@ -1,8 +1,8 @@
 ghost use Rattle.std.specs.Prelude.{◌+◌, None, Some};
 ghost use Rattle.outcome.specs.Plan.{planned_faults};
 
+use outcome::Mem;
 use std::alloc::Global;
-use std::test::Fail;
 use streams::{MemSink, MemSource, Put, Sink, Source, Stream, Take};
 
 // A link in memory that gives at most so many bytes at a time.
@@ -16,12 +16,11 @@ pub struct CutLink {
 // A link that gives these bytes, and whose calls with these numbers fail.
 pub fn cut_link(
     alloc: Global,
-    bytes: &[u8],
+    bytes: Vec<u8>,
     most: usize,
     read_fails: u64,
     write_fails: u64,
-) -> Result<CutLink, Fail> {
-    let bytes = Vec::from_slice(alloc, bytes)?;
+) -> Mem<CutLink> {
     Ok(CutLink {
         source: MemSource::new(bytes, vec![in alloc; read_fails]?),
         sink: MemSink::new(alloc, vec![in alloc; write_fails]?),

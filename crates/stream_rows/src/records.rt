@@ -1,103 +1,81 @@
-use rpc_msg::{Fed, RecordFeed, mark};
-use std::alloc::{AllocError, Global};
-use std::process::Abort;
-use std::test::Fail;
+//! Records that are put together from pieces.
 
-// A record of 40 bytes in fragments of 1, 0 and 39 bytes.
-fn in_fragments(alloc: Global) -> Result<Vec<u8>, AllocError> {
-    let mut bytes = Vec::from_slice(alloc, &[0, 0, 0, 1, 1])?;
-    bytes.extend_from_slice(&[0, 0, 0, 0])?;
-    bytes.extend_from_slice(&[0x80, 0, 0, 39])?;
-    bytes.extend_from_slice(&[7; 39])?;
-    Ok(bytes)
+use outcome::Mem;
+use rpc_msg::{Fed, RecordFeed, mark};
+use std::alloc::Global;
+use std::fmt::Write;
+
+/// A record: its bytes where they are few, and else how many there are.
+pub fn record_text(alloc: Global, record: &[u8]) -> Mem<String> {
+    if record.len() > 64 {
+        return Ok(format!(in alloc; "[{} bytes]", record.len())?);
+    }
+    let mut text = format!(in alloc; "[")?;
+    for byte in record {
+        write!(text, "{byte:02x}")?;
+    }
+    text.push(']')?;
+    Ok(text)
 }
 
-// Gives a feed all of a piece, and adds the records that end in it.
-fn feed_all(
-    alloc: Global,
-    feed: &mut RecordFeed,
-    bytes: &[u8],
-    records: &mut Vec<Vec<u8>>,
-) -> Result<Fed, AllocError> {
+/// What a feed answers to bytes in pieces of a size, `feed SIZE BYTES`: each answer that is another one than the one
+/// before, with the record where one ended, and the number of answers.
+pub fn feed(alloc: Global, size: u32, bytes: &[u8]) -> Mem<String> {
+    let mut feed = RecordFeed::new(alloc)?;
+    let mut text = String::new(alloc);
+    let mut last = (0, Fed::Whole);
+    let mut times = 0u32;
+    for piece in bytes.chunks((size as usize).max(1)) {
+        let told = feed.feed(piece);
+        times = times.saturating_add(1);
+        if told != last || told.1 == Fed::Whole {
+            write!(text, "{} {:?}; ", told.0, told.1)?;
+            last = told;
+        }
+        if told.1 == Fed::Whole {
+            write!(text, "{}; ", record_text(alloc, feed.record())?)?;
+        }
+    }
+    let none = feed.feed(&[]);
+    write!(text, "{times} pieces, then {} {:?}", none.0, none.1)?;
+    Ok(text)
+}
+
+/// Gives a feed all of a piece, and tells the records that end in it.
+fn feed_all(alloc: Global, feed: &mut RecordFeed, bytes: &[u8], text: &mut String) -> Mem<Fed> {
     let mut piece = bytes;
     for _ in 0..=bytes.len() {
         let (count, fed) = feed.feed(piece);
         if fed != Fed::Whole {
             return Ok(fed);
         }
-        records.push(Vec::from_slice(alloc, feed.record())?)?;
+        text.push_str(record_text(alloc, feed.record())?.as_str())?;
         piece = &piece[count..];
     }
     Ok(Fed::Whole)
 }
 
-fn check_cut(rt: &impl Abort, alloc: Global, bytes: &[u8], cut: usize) -> Result<(), Fail> {
-    let mut feed = RecordFeed::new(alloc)?;
-    let mut records = Vec::new(alloc);
-    if cut <= bytes.len() {
+/// The records of bytes in two pieces, at every cut: each answer that is another one than the one before, with the
+/// cut.
+pub fn cuts(alloc: Global, bytes: &[u8]) -> Mem<String> {
+    let mut text = String::new(alloc);
+    let mut last = String::new(alloc);
+    for cut in 0..=bytes.len() {
         let (first, second) = bytes.split_at(cut);
-        feed_all(alloc, &mut feed, first, &mut records)?;
-        let fed = feed_all(alloc, &mut feed, second, &mut records)?;
-        assert_eq!(rt; fed, Fed::Need);
+        let mut feed = RecordFeed::new(alloc)?;
+        let mut told = String::new(alloc);
+        feed_all(alloc, &mut feed, first, &mut told)?;
+        let fed = feed_all(alloc, &mut feed, second, &mut told)?;
+        write!(told, " {fed:?}")?;
+        if told.as_str() != last.as_str() {
+            write!(text, "{cut}: {told}; ")?;
+            last = told;
+        }
     }
-    assert_eq!(rt; records.len(), 1);
-    for record in &records {
-        assert_eq!(rt; record.len(), 40);
-        assert_eq!(rt; &record[..1], [1].as_slice());
-        assert_eq!(rt; &record[1..], [7; 39].as_slice());
-    }
-    Ok(())
+    Ok(text)
 }
 
-#[test]
-fn fragments_give_one_record_in_every_cut(rt: HostRuntime) -> Result<(), Fail> {
-    let alloc = rt.alloc();
-    let bytes = in_fragments(alloc)?;
-    for cut in 0..=52 {
-        check_cut(&rt, alloc, bytes.as_slice(), cut)?;
-    }
-    Ok(())
-}
-
-#[test]
-fn a_record_of_the_limit_is_not_too_large(rt: HostRuntime) -> Result<(), Fail> {
-    let alloc = rt.alloc();
-    let mut feed = RecordFeed::new(alloc)?;
-    assert_eq!(rt; feed.feed(&[0x80, 0x01, 0x20, 0x00]), (4, Fed::Need));
-    assert_eq!(rt; feed.feed(&[]), (0, Fed::Need));
-    let room = vec![in alloc; 5; 73_728]?;
-    assert_eq!(rt; feed.feed(room.as_slice()), (73_728, Fed::Whole));
-    assert_eq!(rt; feed.record(), room.as_slice());
-    Ok(())
-}
-
-#[test]
-fn a_record_past_the_limit_is_too_large(rt: HostRuntime) -> Result<(), Fail> {
-    let mut feed = RecordFeed::new(rt.alloc())?;
-    let large = Fed::TooLarge { len: 73_729 };
-    assert_eq!(rt; feed.feed(&[0x80, 0x01, 0x20, 0x01, 9]), (4, large));
-    assert_eq!(rt; feed.feed(&[9, 9]), (0, large));
-    let mut feed = RecordFeed::new(rt.alloc())?;
-    assert_eq!(rt;
-        feed.feed(&[0, 0, 0, 1, 9, 0x80, 0x01, 0x20, 0x00]),
-        (9, large)
-    );
-    Ok(())
-}
-
-#[test]
-fn empty_fragments_by_the_thousand(rt: HostRuntime) -> Result<(), Fail> {
-    let mut feed = RecordFeed::new(rt.alloc())?;
-    for _ in 0..4_000 {
-        assert_eq!(rt; feed.feed(&[0, 0, 0, 0]), (4, Fed::Need));
-    }
-    assert_eq!(rt; feed.feed(&[0x80, 0, 0, 0, 1]), (4, Fed::Whole));
-    assert_eq!(rt; feed.record(), [].as_slice());
-    Ok(())
-}
-
-#[test]
-fn a_mark_is_the_header_of_a_record(rt: HostRuntime) {
-    assert_eq!(rt; mark(40), [0x80, 0, 0, 40]);
-    assert_eq!(rt; mark(73_728), [0x80, 0x01, 0x20, 0x00]);
+/// The header of a record of so many bytes in one fragment.
+pub fn mark_of(alloc: Global, len: u32) -> Mem<String> {
+    record_text(alloc, &mark(len))
 }
