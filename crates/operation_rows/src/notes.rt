@@ -1,123 +1,89 @@
-//! The words of notes, as they stand in a transcript.
+//! Notes, as they stand in a transcript.
 
 use nfs_base::{Cause, JobName, Note, PrivCause, Side, Status, Stop};
-use std::test::Fail;
+use std::io;
 
-#[test]
-fn notes(rt: HostRuntime) -> Result<(), Fail> {
-    let job = JobName {
-        boot: 3,
-        number: 12,
-    };
-    for (note, text) in [
-        (
-            Note::Accepted {
-                job,
-                file: 1,
-                to: 2,
-                count: 10,
-            },
-            "accepted 3.12 1 2 10",
-        ),
-        (
-            Note::Accepted {
-                job,
-                file: 1,
-                to: 2,
-                count: 0,
-            },
-            "accepted 3.12 1 2 end",
-        ),
-        (Note::Sized { job, len: 7 }, "sized 3.12 7"),
-        (
-            Note::Landed {
-                job,
-                off: 65536,
-                len: 5,
-            },
-            "landed 3.12 65536 5",
-        ),
-        (Note::Committed { job }, "committed 3.12"),
-        (
-            Note::Written {
-                side: Side::Source,
-                file: 1,
-                count: 10,
-            },
-            "written s 1 10",
-        ),
-        (
-            Note::Refused {
-                side: Side::Dest,
-                file: 2,
-                status: Status::FBIG,
-            },
-            "refused d 2 27",
-        ),
-        (Note::Copied { copy: 1, count: 9 }, "copied 1 9"),
-        (Note::Stable { copy: 1 }, "stable 1"),
-        (
-            Note::Failed {
-                copy: 2,
-                status: Status::INVAL,
-            },
-            "failed 2 22",
-        ),
-        (Note::Idle { copy: 15 }, "idle 15"),
+const JOB: JobName = JobName {
+    boot: 3,
+    number: 12,
+};
+
+/// Prints a note of each kind.
+pub fn print(rt: &HostRuntime) -> io::Result<()> {
+    print_landings(rt)?;
+    print_copies(rt)?;
+    print_stops(rt)?;
+    print_refusals(rt)
+}
+
+fn accepted(count: u64) -> Note {
+    Note::Accepted {
+        job: JOB,
+        file: 1,
+        to: 2,
+        count,
+    }
+}
+
+fn print_landings(rt: &HostRuntime) -> io::Result<()> {
+    println!(rt; "{}", accepted(10))?;
+    println!(rt; "{}", accepted(0))?;
+    println!(rt; "{}", Note::Sized { job: JOB, len: 7 })?;
+    let (off, len) = (65536, 5);
+    println!(rt; "{}", Note::Landed { job: JOB, off, len })?;
+    println!(rt; "{}", Note::Committed { job: JOB })
+}
+
+fn print_copies(rt: &HostRuntime) -> io::Result<()> {
+    let (side, file, count) = (Side::Source, 1, 10);
+    println!(rt; "{}", Note::Written { side, file, count })?;
+    let (side, file, status) = (Side::Dest, 2, Status::FBIG);
+    println!(rt; "{}", Note::Refused { side, file, status })?;
+    println!(rt; "{}", Note::Copied { copy: 1, count: 9 })?;
+    println!(rt; "{}", Note::Stable { copy: 1 })?;
+    let (copy, status) = (2, Status::INVAL);
+    println!(rt; "{}", Note::Failed { copy, status })?;
+    println!(rt; "{}", Note::Idle { copy: 15 })
+}
+
+fn print_stops(rt: &HostRuntime) -> io::Result<()> {
+    for cause in [
+        Stop::Cancelled,
+        Stop::LeaseExpired,
+        Stop::ClientGone,
+        Stop::SourceRefused(Status::PARTNER_NO_AUTH),
+        Stop::SourceFailed(5),
+        Stop::PastEnd,
+        Stop::NoRoom,
+        Stop::DiskFault,
+        Stop::LinkFault,
+        Stop::Worn,
     ] {
-        let line = note.to_string(rt.alloc())?;
-        assert_eq!(rt; line.as_str(), text);
+        println!(rt; "{}", Note::Stopped { job: JOB, cause })?;
     }
     Ok(())
 }
 
-#[test]
-fn stops(rt: HostRuntime) -> Result<(), Fail> {
-    let job = JobName { boot: 1, number: 2 };
-    for (cause, text) in [
-        (Stop::Cancelled, "stopped 1.2 cancelled"),
-        (Stop::LeaseExpired, "stopped 1.2 lease"),
-        (Stop::ClientGone, "stopped 1.2 gone"),
-        (
-            Stop::SourceRefused(Status::PARTNER_NO_AUTH),
-            "stopped 1.2 refused 10089",
-        ),
-        (Stop::SourceFailed(5), "stopped 1.2 sourcefault 5"),
-        (Stop::PastEnd, "stopped 1.2 pastend"),
-        (Stop::NoRoom, "stopped 1.2 noroom"),
-        (Stop::DiskFault, "stopped 1.2 disk"),
-        (Stop::LinkFault, "stopped 1.2 link"),
-        (Stop::Worn, "stopped 1.2 worn"),
+fn print_refusals(rt: &HostRuntime) -> io::Result<()> {
+    for cause in [
+        Cause::NoPrivilege,
+        Cause::Stale,
+        Cause::Unknown,
+        Cause::Expired,
+        Cause::WrongFile,
+        Cause::WrongDestination,
+        Cause::WrongUser,
+        Cause::Unconfirmed,
     ] {
-        let line = Note::Stopped { job, cause }.to_string(rt.alloc())?;
-        assert_eq!(rt; line.as_str(), text);
+        println!(rt; "{}", Note::Permit { cause })?;
     }
-    Ok(())
-}
-
-#[test]
-fn refusals(rt: HostRuntime) -> Result<(), Fail> {
-    for (cause, text) in [
-        (Cause::NoPrivilege, "permit noprivilege"),
-        (Cause::Stale, "permit stale"),
-        (Cause::Unknown, "permit unknown"),
-        (Cause::Expired, "permit expired"),
-        (Cause::WrongFile, "permit wrongfile"),
-        (Cause::WrongDestination, "permit wrongdestination"),
-        (Cause::WrongUser, "permit wronguser"),
-        (Cause::Unconfirmed, "permit unconfirmed"),
+    for cause in [
+        PrivCause::Unknown,
+        PrivCause::NoMatch,
+        PrivCause::WrongUser,
+        PrivCause::WrongPeer,
     ] {
-        let line = Note::Permit { cause }.to_string(rt.alloc())?;
-        assert_eq!(rt; line.as_str(), text);
-    }
-    for (cause, text) in [
-        (PrivCause::Unknown, "privilege unknown"),
-        (PrivCause::NoMatch, "privilege nomatch"),
-        (PrivCause::WrongUser, "privilege wronguser"),
-        (PrivCause::WrongPeer, "privilege wrongpeer"),
-    ] {
-        let line = Note::Privilege { cause }.to_string(rt.alloc())?;
-        assert_eq!(rt; line.as_str(), text);
+        println!(rt; "{}", Note::Privilege { cause })?;
     }
     Ok(())
 }
