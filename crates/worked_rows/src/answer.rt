@@ -2,17 +2,17 @@ use disk_model::MemoryDisk;
 use outcome::Mem;
 use sched_run::Disks;
 use std::alloc::Global;
+#[cfg(test)]
 use std::process::Abort;
 use streams::{MemSink, MemSource};
 
-/// The two lines before all others: a file of one block on each side.
-pub const VOLUMES: &str = "volume s 1 1\nvolume d 1 1\n";
-
 /// A schedule of one copy of ten bytes.
+#[cfg(test)]
 pub const FIRST_COPY: &str =
     "# One copy of ten bytes: written at the source, landed and committed at the destination, shown there.\nvolume s 1 1\nvolume d 1 1\nwrite s 1 0 30313233343536373839\ncopy 1 1 0 1 0 10 c\nwork 1\nstatus 1\nwork 1\npeek d 1 0 10\n";
 
 /// What is put for it.
+#[cfg(test)]
 pub const FIRST_COPY_PUT: &str =
     "written s 1 10\naccepted 1.1 1 0 10\nsized 1.1 10\nlanded 1.1 0 10\ncopied 1 10\ncommitted 1.1\nstable 1\nbytes d 1 0 30313233343536373839\nend 0\n";
 
@@ -33,6 +33,7 @@ pub struct Answer {
     pub dest_calls: Option<u64>,
 }
 
+#[cfg(test)]
 impl Answer {
     /// Asserts that the call ended with this status, and put this text and no other.
     pub fn check(&self, rt: &impl Abort, name: &str, status: u8, put: &str) {
@@ -65,6 +66,7 @@ pub const GOOD_DISK: DiskPlan = DiskPlan {
 };
 
 /// Runs the program with these words over this input.
+#[cfg(test)]
 pub fn ask(alloc: Global, words: &[&str], text: Vec<u8>, faults: Faults) -> Mem<Answer> {
     ask_disks(alloc, words, text, faults, GOOD_DISK, GOOD_DISK)
 }
@@ -114,13 +116,4 @@ fn calls(disk: &Option<MemoryDisk>) -> Option<u64> {
         .reads
         .checked_add(counts.writes)?
         .checked_add(counts.syncs)
-}
-
-/// Runs the schedule that has these pieces, one after the other.
-pub fn run(alloc: Global, pieces: &[&str]) -> Mem<Answer> {
-    let mut text = Vec::new(alloc);
-    for piece in pieces {
-        text.extend_from_slice(piece.as_bytes())?;
-    }
-    ask(alloc, &["run"], text, NO_FAULTS)
 }

@@ -11,60 +11,6 @@ const COMMIT_FAILED: &str =
 const MAKING: u64 = 8 + 11;
 
 #[test]
-fn too_small(rt: HostRuntime) -> Result<(), Fail> {
-    for (name, text, source, dest, status, put) in [
-        (
-            "ten blocks",
-            "volume s 1 2\n",
-            10,
-            11,
-            7,
-            "too small 11 10\n",
-        ),
-        ("eleven blocks", "volume s 1 2\n", 11, 0, 0, "end 0\n"),
-        ("no blocks", "volume s 1 1\n", 0, 9, 7, "too small 9 0\n"),
-        (
-            "the destination's disk",
-            "volume s 1 1\nvolume d 1 1\nwrite s 1 0 00\n",
-            9,
-            8,
-            7,
-            "too small 9 8\n",
-        ),
-        (
-            "the first of two",
-            "volume d 64 256\nvolume s 1 1\n",
-            8,
-            32_963,
-            7,
-            "too small 32964 32963\n",
-        ),
-        ("nothing to format", "", 0, 0, 0, "end 0\n"),
-        (
-            "a bad line first",
-            "volume s 1 2\nflow\n",
-            10,
-            11,
-            2,
-            "bad line 2\n",
-        ),
-    ] {
-        let text = Vec::from_slice(rt.alloc(), text.as_bytes())?;
-        let source = DiskPlan {
-            blocks: source,
-            fails: 0,
-        };
-        let dest = DiskPlan {
-            blocks: dest,
-            fails: 0,
-        };
-        let answer = ask_disks(rt.alloc(), &["run"], text, NO_FAULTS, source, dest)?;
-        answer.check(&rt, name, status, put);
-    }
-    Ok(())
-}
-
-#[test]
 fn source_fails(rt: HostRuntime) -> Result<(), Fail> {
     let mut whole = false;
     for call in 1..100 {

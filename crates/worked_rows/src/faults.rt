@@ -1,4 +1,4 @@
-use crate::answer::{FIRST_COPY, FIRST_COPY_PUT, Faults, VOLUMES, ask};
+use crate::answer::{FIRST_COPY, FIRST_COPY_PUT, Faults, ask};
 use std::test::Fail;
 
 #[test]
@@ -51,33 +51,5 @@ fn writes(rt: HostRuntime) -> Result<(), Fail> {
         );
     }
     assert!(rt; whole);
-    Ok(())
-}
-
-#[test]
-fn first_calls(rt: HostRuntime) -> Result<(), Fail> {
-    let sink = Faults { source: 0, sink: 1 };
-    let both = Faults { source: 1, sink: 1 };
-    for (name, words, text, faults, status, put) in [
-        ("bad line", &["run"][..], "flow", sink, 4, ""),
-        ("end", &["run"][..], "", sink, 4, ""),
-        ("only volumes", &["run"][..], VOLUMES, sink, 4, ""),
-        ("both fail", &["run"][..], VOLUMES, both, 3, ""),
-        ("usage", &["shows"][..], "flow", sink, 4, ""),
-        ("usage, both fail", &[][..], "flow", both, 4, ""),
-        (
-            "usage, no read",
-            &[][..],
-            "flow",
-            Faults { source: 1, sink: 0 },
-            1,
-            "usage\n",
-        ),
-    ] {
-        let text = Vec::from_slice(rt.alloc(), text.as_bytes())?;
-        ask(rt.alloc(), words, text, faults)?.check(&rt, name, status, put);
-    }
-    let long = vec![in rt.alloc(); b'#'; 16_777_217]?;
-    ask(rt.alloc(), &["run"], long, sink)?.check(&rt, "too much", 4, "");
     Ok(())
 }

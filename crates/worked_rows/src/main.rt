@@ -1,0 +1,161 @@
+//! Worked rows over the top call, `nfscopy::nfscopy`, from standard input: schedules, and what is due to them. Prints
+//! each row that is answered otherwise, and then how many rows there were.
+//!
+//! A row is `STATUS | TEXT | PUT` for a run, `events N | TEXT` or `bad N | TEXT` for what is read of a schedule. Other
+//! lines say what holds of the rows that follow: `before TEXT` and `after TEXT` what stands around their texts, `word
+//! WORD` the program's word or `word` that it has none, `fails SOURCE SINK` which call of either fails, `blocks SOURCE
+//! DEST` how large the disks are. The tests go over each call of a source, a sink or a disk that fails in turn.
+#![tactic(auto)]
+
+mod answer;
+#[cfg(test)]
+mod disks;
+mod escapes;
+#[cfg(test)]
+mod faults;
+#[cfg(test)]
+mod runner;
+#[cfg(test)]
+mod words;
+
+use crate::answer::{Answer, DiskPlan, Faults, GOOD_DISK, NO_FAULTS, ask_disks};
+use crate::escapes::spelled;
+use outcome::Mem;
+use sched_text::Schedule;
+use std::alloc::Global;
+use std::io;
+
+/// What holds of the rows that follow.
+#[derive(Drop)]
+struct Setting {
+    before: Vec<u8>,
+    after: Vec<u8>,
+    word: String,
+    faults: Faults,
+    source: DiskPlan,
+    dest: DiskPlan,
+}
+
+impl Setting {
+    fn new(alloc: Global) -> Mem<Setting> {
+        Ok(Setting {
+            before: Vec::new(alloc),
+            after: Vec::new(alloc),
+            word: String::from_str(alloc, "run")?,
+            faults: NO_FAULTS,
+            source: GOOD_DISK,
+            dest: GOOD_DISK,
+        })
+    }
+
+    /// The input of a row with this text, if it can be read.
+    fn input(&self, alloc: Global, text: &str) -> Mem<Option<Vec<u8>>> {
+        let Some(text) = spelled(alloc, text)? else {
+            return Ok(None);
+        };
+        let mut input = self.before.clone()?;
+        input.extend_from_slice(&text)?;
+        input.extend_from_slice(&self.after)?;
+        Ok(Some(input))
+    }
+
+    /// Takes a line that isn't a row. Whether it can be read.
+    fn take(&mut self, alloc: Global, line: &str) -> Mem<bool> {
+        let (name, text) = line.split_once(' ').unwrap_or((line, ""));
+        match name {
+            "before" => Ok(put(&mut self.before, spelled(alloc, text)?)),
+            "after" => Ok(put(&mut self.after, spelled(alloc, text)?)),
+            "word" => {
+                self.word = String::from_str(alloc, text)?;
+                Ok(true)
+            }
+            "fails" => Ok(match numbers(text) {
+                Some((source, sink)) => {
+                    self.faults = Faults { source, sink };
+                    true
+                }
+                None => false,
+            }),
+            "blocks" => Ok(match numbers(text) {
+                Some((source, dest)) => {
+                    self.source.blocks = source;
+                    self.dest.blocks = dest;
+                    true
+                }
+                None => false,
+            }),
+            _ => Ok(false),
+        }
+    }
+
+    /// Runs the program with these words over this input.
+    fn ask(&self, alloc: Global, words: &[&str], input: Vec<u8>) -> Mem<Answer> {
+        ask_disks(alloc, words, input, self.faults, self.source, self.dest)
+    }
+
+    /// Whether a row is met.
+    fn is_met(&self, alloc: Global, row: &str) -> Mem<bool> {
+        let Some((wanted, texts)) = row.split_once(" | ") else {
+            return Ok(false);
+        };
+        let (text, put) = texts.split_once(" | ").unwrap_or((texts, ""));
+        let (Some(input), Some(put)) = (self.input(alloc, text)?, spelled(alloc, put)?) else {
+            return Ok(false);
+        };
+        if let Some(events) = wanted.strip_prefix("events ") {
+            let read = Schedule::parse(alloc, &input)?;
+            return Ok(read.is_ok_and(|found| events.parse() == Ok(found.events().len())));
+        }
+        if let Some(line) = wanted.strip_prefix("bad ") {
+            let read = Schedule::parse(alloc, &input)?;
+            return Ok(read.is_err_and(|bad| line.parse() == Ok(bad.line)));
+        }
+        let answer = if self.word.is_empty() {
+            self.ask(alloc, &[], input)?
+        } else {
+            self.ask(alloc, &[self.word.as_str()], input)?
+        };
+        Ok(wanted.parse() == Ok(answer.status) && answer.put.as_bytes() == put.as_slice())
+    }
+}
+
+fn put(place: &mut Vec<u8>, text: Option<Vec<u8>>) -> bool {
+    match text {
+        Some(text) => {
+            *place = text;
+            true
+        }
+        None => false,
+    }
+}
+
+fn numbers(text: &str) -> Option<(u64, u64)> {
+    let (first, second) = text.split_once(' ')?;
+    Some((first.parse().ok()?, second.parse().ok()?))
+}
+
+fn main(rt: HostRuntime) -> io::Result<()> {
+    let Ok(mut setting) = Setting::new(rt.alloc()) else {
+        println!(rt; "out of memory")?;
+        return Ok(());
+    };
+    let (mut rows, mut others) = (0u32, 0u32);
+    for line in rt.lines(rt.alloc()) {
+        let line = line?;
+        if line.is_empty() || line.starts_with('#') {
+            continue;
+        }
+        let met = if line.contains(" | ") {
+            rows = rows.saturating_add(1);
+            setting.is_met(rt.alloc(), line.as_str())
+        } else {
+            setting.take(rt.alloc(), line.as_str())
+        };
+        if met != Ok(true) {
+            others = others.saturating_add(1);
+            println!(rt; "{line}")?;
+        }
+    }
+    println!(rt; "{rows} rows, {others} answered otherwise")?;
+    Ok(())
+}

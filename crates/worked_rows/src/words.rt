@@ -1,0 +1,28 @@
+use crate::answer::{FIRST_COPY, NO_FAULTS, ask};
+use std::test::Fail;
+
+#[test]
+fn words(rt: HostRuntime) -> Result<(), Fail> {
+    for words in [
+        &[][..],
+        &[""][..],
+        &["run", "x"][..],
+        &["run", "run"][..],
+        &["run", ""][..],
+        &["", "run"][..],
+        &["run "][..],
+        &["-run"][..],
+        &["Run"][..],
+        &["ru"][..],
+        &["runs"][..],
+        &["gen", "1"][..],
+        &["show", "x"][..],
+        &["shows"][..],
+    ] {
+        let text = Vec::from_slice(rt.alloc(), FIRST_COPY.as_bytes())?;
+        let answer = ask(rt.alloc(), words, text, NO_FAULTS)?;
+        answer.check(&rt, "words of no command", 1, "usage\n");
+        assert_eq!(rt; answer.takes, 0, "takes at {words:?}");
+    }
+    Ok(())
+}
