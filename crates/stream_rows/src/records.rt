@@ -1,7 +1,7 @@
 //! Records that are put together from pieces.
 
 use outcome::Mem;
-use rpc_msg::{Fed, RecordFeed, mark};
+use rpc_msg::{Fed, RECORD_LIMIT, RecordFeed, mark};
 use std::alloc::Global;
 use std::fmt::Write;
 
@@ -77,5 +77,8 @@ pub fn cuts(alloc: Global, bytes: &[u8]) -> Mem<String> {
 
 /// The header of a record of so many bytes in one fragment.
 pub fn mark_of(alloc: Global, len: u32) -> Mem<String> {
+    if len > RECORD_LIMIT {
+        return Ok(format!(in alloc; "past the limit")?);
+    }
     record_text(alloc, &mark(len))
 }
