@@ -1,12 +1,13 @@
 -- What the input of `run` asks for. Own definitions.
 use Rattle.std.specs.Prelude.{ℕ, Option, None, Some, Result, Ok, Err, List, length, nat_lt, if◌then◌else◌}
+use Rattle.nfs_base.specs.declared.limits.TheConstants.{INPUT_LIMIT}
 use Rattle.sched_text.specs.declared.event.Event.{Event}
 use Rattle.sched_text.specs.ScheduleText.{schedule_of}
 use Rattle.nfscopy.specs.Notice.{too_much_text, bad_line_text}
 
 -- the most bytes that a schedule may have
 abbrev pub most_bytes : ℕ
-most_bytes = 16777216
+most_bytes = INPUT_LIMIT
 
 -- The events of a schedule, or the one line that is owed to an input that is none.
 abbrev pub Input : Type 0

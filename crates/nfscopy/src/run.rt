@@ -9,15 +9,13 @@ ghost use Rattle.nfscopy.specs.Puts.{LastPut, UnmadePut};
 use crate::ends::{RunEnd, UsageEnd};
 use crate::notice::{bad_line, not_volume_line, small_line, too_much_line, usage_line};
 use disk_model::Disk;
+use nfs_base::INPUT_LIMIT;
 use outcome::NoMemory;
 use run_machine::every_run;
 use sched_run::{Disks, Ran, System, Unmade};
 use sched_text::{Schedule, schedule_lines};
 use std::alloc::Global;
 use streams::{Sink, Source, Whole, put_all, read_whole};
-
-/// The most bytes that a schedule may have.
-const MOST_BYTES: usize = 16_777_216;
 
 /// Puts the line `usage`.
 pub fn usage<K: Sink>(output: &mut K) -> UsageEnd
@@ -48,7 +46,7 @@ pub fn run<S: Source, K: Sink, D: Disk + Drop>(
 {
     every_run();
     schedule_lines();
-    match read_whole(alloc, input, MOST_BYTES) {
+    match read_whole(alloc, input, INPUT_LIMIT as usize) {
         Ok(Whole::Text(text)) => run_text(alloc, &text, output, disks),
         Ok(Whole::TooMuch) => put_last(output, too_much_line(), RunEnd::Refused),
         Ok(Whole::Failed) => RunEnd::ReadFault,
