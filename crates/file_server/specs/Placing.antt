@@ -1,7 +1,8 @@
--- The operations on the current and the saved handle: PUTROOTFH, PUTFH, SAVEFH and RESTOREFH (RFC 8881 sections
--- 18.21, 18.19, 18.28 and 18.27). One that sets another current handle clears the current stateid (section
+-- The operations on the current and the saved handle: PUTROOTFH, PUTFH, GETFH, SAVEFH and RESTOREFH (RFC 8881 sections
+-- 18.21, 18.19, 18.8, 18.28 and 18.27). One that sets another current handle clears the current stateid (section
 -- 16.2.3.1.2).
 use Rattle.std.specs.Prelude.{ℕ, ◌==◌, Bool, true, false, Option, Some, None, Result, Ok, Err, List, length}
+use Rattle.nfs_base.specs.declared.answer.Answer.TheVariants.{Done, Refused}
 use Rattle.nfs_base.specs.declared.state_id.StateId.{StateId}
 use Rattle.nfs_base.specs.declared.status.Status.{Status}
 use Rattle.nfs_base.specs.declared.status.TheConstants.Status.{OK, NOFILEHANDLE}
@@ -37,6 +38,22 @@ put_tested false handle g = put_told handle (handle_file (length g.machine.store
 
 unfoldable pub put : {X : Type 0} → (next : Option ℕ) → List ℕ → Going X → Answered X
 put next handle g = put_tested (is_saved_next next) handle g
+
+-- ---- GETFH tells the current handle, tested as by each operation that uses it
+
+abbrev pub get_refused : {X : Type 0} → Going X → Status → Answered X
+get_refused g status = answered g (results.GetFh (Refused status))
+
+abbrev pub get_told : {X : Type 0} → Result ℕ Status → List ℕ → Going X → Answered X
+get_told (Err status) handle g = get_refused g status
+get_told (Ok file) handle g = answered g (results.GetFh (Done handle))
+
+abbrev pub get_current : {X : Type 0} → Option (List ℕ) → Going X → Answered X
+get_current None g = get_refused g NOFILEHANDLE
+get_current (Some handle) g = get_told (handle_file (length g.machine.store.volume.files) g.machine.store.tag handle) handle g
+
+unfoldable pub get : {X : Type 0} → Going X → Answered X
+get g = get_current g.held.current g
 
 -- ---- SAVEFH and RESTOREFH, which take the stateid along
 

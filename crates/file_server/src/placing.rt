@@ -1,16 +1,16 @@
-//! The operations on the current and the saved handle: PUTROOTFH, PUTFH, SAVEFH and RESTOREFH (RFC 8881 sections 18.21,
-//! 18.19, 18.28 and 18.27).
+//! The operations on the current and the saved handle: PUTROOTFH, PUTFH, GETFH, SAVEFH and RESTOREFH (RFC 8881 sections
+//! 18.21, 18.19, 18.8, 18.28 and 18.27).
 
 ghost use Rattle.std.specs.Prelude.{◌≡◌};
 ghost use Rattle.file_server.specs.Machine.{Does};
 ghost use Rattle.file_server.specs.Answering.{Ready, Keeps, going_of};
-ghost use Rattle.file_server.specs.Placing.{put_root, put, save, restore, is_saved_next};
+ghost use Rattle.file_server.specs.Placing.{put_root, put, get, save, restore, is_saved_next};
 
 use crate::files::Files;
 use crate::handles::{file_of, handle_of};
 use crate::progress::Progress;
 use disk_model::Disk;
-use file_ops::{OP_PUTFH, OP_PUTROOTFH, OP_RESTOREFH, OP_SAVEFH};
+use file_ops::{OP_GETFH, OP_PUTFH, OP_PUTROOTFH, OP_RESTOREFH, OP_SAVEFH};
 use nfs_base::{Handle, Status};
 
 impl<D: Disk, X> Files<D, X> {
@@ -58,6 +58,25 @@ impl<D: Disk, X> Files<D, X> {
                 p.held.current = Some(handle);
                 p.held.id = p.held.saved_id;
                 p.say_done(OP_RESTOREFH)
+            }
+        }
+    }
+
+    /// GETFH: tells the current handle, where it is one of this volume's.
+    #[tactic(auto, unfolding(crate::specs::Placing::get, file_ops::specs::Results::file_res, nfs_base::specs::Forms::answer, nfs_base::specs::Forms::handle, wire_xdr::specs::Words::word_bytes))]
+    pub fn get(&self, p: &mut Progress) -> Status
+        requires { Ready p.old 1 }
+        ensures does { Does (λ choice. get (going_of D.size self.now p.old)) p.old.page.bytes (going_of D.size self.now p.new) p.new.page.bytes result.number }
+        ensures keeps { Keeps p.old p.new }
+        ensures used { p.new.used ≡ p.old.used }
+    {
+        match p.held.current {
+            None => p.refuse(OP_GETFH, Status::NOFILEHANDLE),
+            Some(handle) => {
+                match file_of(self.volume.files(), self.volume.tag(), handle.as_slice()) {
+                    Err(status) => p.refuse(OP_GETFH, status),
+                    Ok(_) => p.say_handle(handle.as_slice()),
+                }
             }
         }
     }

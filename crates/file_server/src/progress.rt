@@ -2,13 +2,13 @@
 
 ghost use Rattle.std.specs.Prelude.{◌≡◌, ◌+◌, ◌≤◌, ◌++◌, length, Some, None};
 ghost use Rattle.nfs_base.specs.Forms.{stability};
-ghost use Rattle.nfs_base.specs.declared.limits.TheConstants.{DATA_LIMIT};
+ghost use Rattle.nfs_base.specs.declared.limits.TheConstants.{DATA_LIMIT, HANDLE_LIMIT};
 ghost use Rattle.wire_xdr.specs.Words.{word_bytes, hyper_bytes, flag_bytes, opaque_bytes};
 ghost use Rattle.wire_xdr.specs.Page.{Added};
 ghost use Rattle.file_server.specs.Answering.{Says};
 
 use crate::held::Held;
-use file_ops::{OP_COMMIT, OP_READ, OP_WRITE};
+use file_ops::{OP_COMMIT, OP_GETFH, OP_READ, OP_WRITE};
 use nfs_base::{Handle, Stability, Status};
 use server_volume::CallList;
 use wire_xdr::Page;
@@ -114,6 +114,20 @@ impl Progress {
     {
         self.page.u32(op);
         self.page.u32(0);
+        Status::OK
+    }
+
+    /// GETFH is done: this is the current handle.
+    pub(crate) fn say_handle(&mut self, handle: &[u8]) -> Status
+        requires short { length handle.now ≤ HANDLE_LIMIT }
+        requires room { length self.old.page.bytes + 143 ≤ self.old.page.room }
+        ensures says { Says self.old (word_bytes OP_GETFH ++ (word_bytes 0 ++ opaque_bytes handle.now)) self.new }
+        ensures len { length self.new.page.bytes ≤ length self.old.page.bytes + 143 }
+        ensures status { result ≡ Status.OK }
+    {
+        self.page.u32(OP_GETFH);
+        self.page.u32(0);
+        self.page.opaque(handle);
         Status::OK
     }
 
