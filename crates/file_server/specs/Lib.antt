@@ -1,4 +1,5 @@
 pub mod Answering
+pub mod Attributes
 pub mod Handles
 pub mod Machine
 pub mod Placing

@@ -7,6 +7,7 @@
 //! volume's calls, and a crash at any moment leaves what `server_volume` says.
 #![tactic(auto)]
 
+mod attributes;
 mod extension;
 mod files;
 mod handles;
@@ -16,6 +17,10 @@ mod progress;
 mod reading;
 mod writing;
 
+pub use attributes::{
+    ATTR_CHANGE, ATTR_LEASE_TIME, ATTR_SIZE, ATTR_TYPE, ATTRS_SERVED, FileAttributes,
+    TYPE_DIRECTORY, TYPE_FILE,
+};
 pub use extension::{Ask, Caller, Extension, Gate};
 pub use files::Files;
 pub use held::Held;
