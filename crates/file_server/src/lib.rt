@@ -12,6 +12,7 @@ mod extension;
 mod files;
 mod handles;
 mod held;
+mod names;
 mod placing;
 mod progress;
 mod reading;
