@@ -3,6 +3,7 @@ pub mod Attributes
 pub mod Handles
 pub mod Machine
 pub mod Names
+pub mod Opening
 pub mod Placing
 pub mod Reading
 pub mod Writing

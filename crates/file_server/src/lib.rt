@@ -13,6 +13,7 @@ mod files;
 mod handles;
 mod held;
 mod names;
+mod opening;
 mod placing;
 mod progress;
 mod reading;
@@ -25,4 +26,5 @@ pub use attributes::{
 pub use extension::{Ask, Caller, Extension, Gate};
 pub use files::Files;
 pub use held::Held;
+pub use opening::ACCESS_BITS;
 pub use progress::{MOST_RESULT, Progress};
