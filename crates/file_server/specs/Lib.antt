@@ -1,5 +1,6 @@
 pub mod Answering
 pub mod Attributes
+pub mod Closing
 pub mod Handles
 pub mod Machine
 pub mod Names

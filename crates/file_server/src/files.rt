@@ -62,7 +62,7 @@ impl<D: Disk, X> Files<D, X> {
 }
 
 /// The stateid that is meant: the current one is asked for by seqid 1 and zeros.
-fn meant_id(current: &Option<StateId>, id: &StateId) -> Option<StateId>
+pub(crate) fn meant_id(current: &Option<StateId>, id: &StateId) -> Option<StateId>
     ensures { result ≡ meant_id current.now id.now }
 {
     if is_current(id) { *current } else { Some(*id) }

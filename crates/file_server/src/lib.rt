@@ -8,6 +8,7 @@
 #![tactic(auto)]
 
 mod attributes;
+mod closing;
 mod extension;
 mod files;
 mod handles;

@@ -146,7 +146,7 @@ fn put_opened(page: &mut Page, id: &StateId)
 }
 
 #[tactic(auto, unfolding(nfs_base::specs::Forms::state_id))]
-fn put_state_id(page: &mut Page, id: &StateId)
+pub(crate) fn put_state_id(page: &mut Page, id: &StateId)
     requires { length page.old.bytes + 16 ≤ page.old.room }
     ensures added { Added page.old (state_id.spell id.now) page.new }
     ensures len { length page.new.bytes ≤ length page.old.bytes + 16 }
