@@ -13,6 +13,7 @@ mod extension;
 mod files;
 mod handles;
 mod held;
+mod laws;
 mod names;
 mod opening;
 mod placing;
@@ -27,5 +28,6 @@ pub use attributes::{
 pub use extension::{Ask, Caller, Extension, Gate};
 pub use files::Files;
 pub use held::Held;
+pub use laws::files_are_named_in_decimal;
 pub use opening::ACCESS_BITS;
 pub use progress::{MOST_RESULT, Progress};
