@@ -1,6 +1,6 @@
 -- How an operation of a server is answered, and the tests that operations share: of the current handle and of a stateid.
 -- RFC 8881 sections 8.2 and 16.2.3.1.
-use Rattle.std.specs.Prelude.{◌≡◌, ℕ, ◌+◌, ◌*◌, ◌<◌, ◌≤◌, ◌==◌, ◌&&◌, Bool, true, false, Option, Some, None, List, length, if◌then◌else◌}
+use Rattle.std.specs.Prelude.{◌≡◌, ℕ, ◌+◌, ◌*◌, ◌<◌, ◌≤◌, ◌==◌, ◌&&◌, Bool, true, false, Option, Some, None, List, [], length, if◌then◌else◌}
 use Rattle.wire_xdr.specs.Page.{Added}
 use Rattle.nfs_base.specs.declared.limits.TheConstants.{DATA_LIMIT}
 use Rattle.nfs_base.specs.declared.state_id.StateId.{StateId}
@@ -11,6 +11,7 @@ use Rattle.state_ids.specs.Opens.{OpenTable, check_refusal}
 use Rattle.state_ids.specs.declared.access.Access.{Access}
 use Rattle.server_volume.specs.declared.used.TheConstants.{MOST_CALLS}
 use Rattle.server_volume.specs.Choices.{Grows}
+use Rattle.file_server.specs.declared.held.Held.{Held}
 use Rattle.file_server.specs.declared.progress.TheConstants.{MOST_RESULT}
 use Rattle.file_server.specs.declared.progress.Progress.{Progress}
 use Rattle.file_server.specs.declared.files.Files.{Files}
@@ -51,6 +52,17 @@ set_aside false = DATA_LIMIT
 pub record Ready (p : Progress) (operations : ℕ) : Type 0 where
   pub page : length p.page.bytes + set_aside p.has_read + operations * MOST_RESULT ≤ p.page.room
   pub used : length p.used + 2 * operations ≤ MOST_CALLS
+
+-- nothing is held before the first operation
+abbrev pub nothing_held : Held
+nothing_held = record { current = None; saved = None; id = None; saved_id = None }
+
+-- no operation was done yet
+pub record IsNew (p : Progress) : Type 0 where
+  pub page : p.page.bytes ≡ []
+  pub used : p.used ≡ []
+  pub held : p.held ≡ nothing_held
+  pub has_read : p.has_read ≡ false
 
 -- what one operation leaves of that
 pub record Keeps (old new : Progress) : Type 0 where

@@ -1,5 +1,5 @@
--- CLOSE (RFC 8881 section 18.2). Its tests in their order: the current handle, the stateid. The seqid of its arguments isn't
--- looked at (section 18.2.3).
+-- CLOSE (RFC 8881 section 18.2). Its tests in their order: the current handle, the stateid. The seqid beside the stateid
+-- isn't looked at (section 18.2.3).
 use Rattle.std.specs.Prelude.{ℕ, Option, Some, None, Result, Ok, Err}
 use Rattle.nfs_base.specs.declared.answer.Answer.TheVariants.{Done, Refused}
 use Rattle.nfs_base.specs.declared.state_id.StateId.{StateId}
@@ -16,7 +16,7 @@ use Rattle.file_server.specs.Opening.{with_opens}
 abbrev pub close_refused : {X : Type 0} → Going X → Status → Answered X
 close_refused g status = answered g (results.Close (Refused status))
 
--- the open is gone; the current stateid stays, and names nothing more
+-- the open is gone; the current stateid stays what it is
 abbrev pub close_told : {X : Type 0} → Option Status → StateId → Going X → Answered X
 close_told (Some status) id g = close_refused g status
 close_told None id g = answered (with_opens (closed id.number g.machine.opens) g) (results.Close (Done closed_id))

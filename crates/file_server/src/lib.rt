@@ -28,6 +28,6 @@ pub use attributes::{
 pub use extension::{Ask, Caller, Extension, Gate};
 pub use files::Files;
 pub use held::Held;
-pub use laws::files_are_named_in_decimal;
+pub use laws::{files_are_named_in_decimal, room_is_left};
 pub use opening::ACCESS_BITS;
 pub use progress::{MOST_RESULT, Progress};

@@ -1,16 +1,18 @@
 //! How far a compound is in code: the page of its results, and all room that its operations need.
 
-ghost use Rattle.std.specs.Prelude.{◌≡◌, ◌+◌, ◌≤◌, ◌++◌, length, Some, None};
+ghost use Rattle.std.specs.Prelude.{◌≡◌, ◌+◌, ◌≤◌, ◌++◌, length, IfOk, Some, None};
 ghost use Rattle.nfs_base.specs.Forms.{stability};
-ghost use Rattle.nfs_base.specs.declared.limits.TheConstants.{DATA_LIMIT, HANDLE_LIMIT};
+ghost use Rattle.nfs_base.specs.declared.limits.TheConstants.{DATA_LIMIT, HANDLE_LIMIT, MOST_OPERATIONS};
 ghost use Rattle.wire_xdr.specs.Words.{word_bytes, hyper_bytes, flag_bytes, opaque_bytes};
 ghost use Rattle.wire_xdr.specs.Page.{Added};
-ghost use Rattle.file_server.specs.Answering.{Says};
+ghost use Rattle.file_server.specs.Answering.{Says, Ready, IsNew};
 
 use crate::held::Held;
 use file_ops::{OP_COMMIT, OP_GETFH, OP_READ, OP_WRITE};
-use nfs_base::{Handle, Stability, Status};
+use nfs_base::{DATA_LIMIT, Handle, Stability, Status};
+use outcome::Mem;
 use server_volume::CallList;
+use std::alloc::Global;
 use wire_xdr::Page;
 
 /// How many bytes the result of an operation has at most, the data of a READ apart.
@@ -33,8 +35,34 @@ pub struct Progress {
 }
 
 impl Progress {
+    /// No operation was done yet. Room for the results of so many is taken, and for their calls on the volume.
+    pub fn new(alloc: Global, operations: u32) -> Mem<Progress>
+        requires { operations ≤ MOST_OPERATIONS }
+        ensures ready { IfOk result (λ p. Ready p operations) }
+        ensures empty { IfOk result IsNew }
+    {
+        let page = Page::new(
+            alloc,
+            DATA_LIMIT as usize + operations as usize * MOST_RESULT,
+        )?;
+        let used = CallList::new(alloc)?;
+        Ok(Progress {
+            page,
+            used,
+            held: Held {
+                current: None,
+                saved: None,
+                id: None,
+                saved_id: None,
+            },
+            has_read: false,
+        })
+    }
+}
+
+impl Progress {
     /// Answers the operation with a number by a status and nothing more.
-    pub(crate) fn refuse(&mut self, op: u32, status: Status) -> Status
+    pub fn refuse(&mut self, op: u32, status: Status) -> Status
         requires { length self.old.page.bytes + 8 ≤ self.old.page.room }
         ensures says { Says self.old (word_bytes op ++ word_bytes status.number) self.new }
         ensures len { length self.new.page.bytes ≤ length self.old.page.bytes + 8 }
