@@ -5,14 +5,6 @@ use Rattle.std.proofs.lemmas.List.{take-append-drop, take-take, drop-take, drop-
 use Rattle.copy_model.specs.Volume.{with_bytes_at}
 use Rattle.block_file.proofs.Pieces.{with_bytes_at-padded}
 
--- the whole room is the bytes in use and zeros
-pub all_held : (bytes : List ℕ) (size : ℕ) → size ≤ length bytes → drop size bytes ≡ replicate (length bytes - size) 0
-    → bytes ≡ take size bytes ++ replicate (length bytes - length (take size bytes)) 0
-all_held bytes size le zeros =
-    let short : length (take size bytes) ≡ size = length-take-le size bytes le in
-    sym (take-append-drop size bytes) ∙ ap (λ (l : List ℕ). take size bytes ++ l) zeros
-    ∙ sym (ap (λ (n : ℕ). take size bytes ++ replicate (length bytes - n) 0) short)
-
 -- the front of the room, past the bytes in use, is these and zeros
 front_held : (bytes : List ℕ) (size end : ℕ) → size ≤ end → end ≤ length bytes → drop size bytes ≡ replicate (length bytes - size) 0
     → take end bytes ≡ take size bytes ++ replicate (end - size) 0

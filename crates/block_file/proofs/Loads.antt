@@ -1,14 +1,10 @@
 -- Lists as they are read, one item after the other.
-use Rattle.std.proofs.Common.{◌≡◌, ℕ, zero, suc, ◌+◌, ◌-◌, ◌<◌, ◌≤◌, if◌then◌else◌, nat_lt, Bool, None, Some, List, [], ◌∷◌, ◌++◌, length, get_or, take, sym, ◌∙◌, ap, subst, arith, inl, inr, append-nil, append_assoc}
+use Rattle.std.proofs.Common.{◌≡◌, ℕ, zero, suc, ◌+◌, ◌-◌, ◌<◌, ◌≤◌, if◌then◌else◌, nat_lt, Bool, None, Some, List, [], ◌∷◌, ◌++◌, length, get_or, sym, ◌∙◌, ap, subst, arith, inl, inr, append-nil, append_assoc}
 use Rattle.std.proofs.lemmas.Bool.{cases_eq, cases_lt, lt-ltb, le-ltb}
 use Rattle.std.proofs.lemmas.List.{get_or_at, get_or_append_left}
 use Rattle.block_file.specs.Layout.{size_in}
 use Rattle.block_file.specs.Lists.{joined}
-use Rattle.block_file.specs.Stored.{first_oversized, blocks_by}
-use Rattle.disk_model.specs.Disk.{Image}
-use Rattle.block_file.specs.declared.shape.Shape.{Shape}
-use Rattle.block_file.specs.Held.{Held}
-use Rattle.block_file.specs.Loaded.{IsHeldFile}
+use Rattle.block_file.specs.Stored.{first_oversized}
 
 -- one list more
 pub joined-push : (n : ℕ) (f : ℕ → List ℕ) → joined (suc n) f ≡ joined n f ++ f n
@@ -63,12 +59,3 @@ oversized_none capacity tables j (suc n) none i from to = elim (cases_lt capacit
         | inr ne ↦ oversized_none capacity tables (j + 1) n later i (omega arith) (omega arith)
       ]
 ]
-
--- a file in memory, where what a read gives is the same
-pub held_same : (told : Type 0) (shape : Shape) (table : List ℕ) (file : ℕ) (image other : Image) (held : Held) → (told → image ≡ other)
-    → IsHeldFile told shape table file image held → IsHeldFile told shape table file other held
-held_same told shape table file image other held same is = record {
-  room = is.room;
-  change = is.change;
-  now = λ t. subst (λ (i : Image). held.now ≡ take (size_in table) (blocks_by shape.files shape.blocks table i file)) (same t) (is.now t);
-}

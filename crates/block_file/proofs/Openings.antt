@@ -2,7 +2,6 @@
 use Rattle.std.proofs.Common.{◌≡◌, ◌≢◌, ℕ, ◌+◌, ◌-◌, ◌*◌, ◌<◌, ◌≤◌, ◌==◌, if◌then◌else◌, nat_lt, Bool, true, false, Option, None, Some, List, [], ◌∷◌, ◌++◌, ◌⊎◌, length, get_or, set, take, drop, replicate, inl, inr, refl, sym, ◌∙◌, ap, subst, arith}
 use Rattle.std.proofs.lemmas.Bool.{cases_eq, cases_lt, lt-ltb, le-ltb, eq-eqb}
 use Rattle.block_file.specs.declared.faults.WriteFault.TheVariants.{TooFar, Worn, DiskFailed}
-use Rattle.std.proofs.lemmas.List.{get_or-set_same, get_or-set_other}
 use Rattle.std.proofs.Math.Seq.{take-append_seam, drop-append_seam}
 use Rattle.copy_model.specs.Volume.{File, Volume, Doubt, Old, New, no_file, file_at, committed, commit, fail_commit, written, write, change_of, with_bytes_at}
 use Rattle.disk_model.specs.Disk.{Image, DiskState, MayLeave}
@@ -56,18 +55,17 @@ leaves_old size shape tag boot writes broken doubt homes held tables base image 
 pub open_from : (told : Type 0) (size : ℕ) (s : DiskState) (shape : Shape) (tag boot writes : ℕ) (broken : Bool) (doubt : ℕ) (homes : ℕ → ℕ) (held : ℕ → Held) (tables : ℕ → List ℕ)
     → blocks_of shape.files shape.blocks ≤ size → ((j : ℕ) → j ≤ shape.files → homes j ≤ 1) → boot_in (tables 0) ≡ boot
     → ((j : ℕ) → 1 ≤ j → j ≤ shape.files → size_in (tables j) ≤ shape.blocks * 4096)
-    → ((j : ℕ) → 1 ≤ j → j ≤ shape.files → (held j).room ≡ shape.blocks * 4096) → doubt ≡ 0
+    → doubt ≡ 0
     → (told → HeadIs size shape tag (s.reads 0))
     → (told → Clean shape tables (λ j. blocks_by shape.files shape.blocks (tables j) s.reads j))
     → (told → Stands shape (safe_of homes tables s.reads) s)
     → IsOpen told size s shape tag boot writes broken doubt homes held tables
-open_from told size s shape tag boot writes broken doubt homes held tables room two is sizes rooms none head clean stands =
+open_from told size s shape tag boot writes broken doubt homes held tables room two is sizes none head clean stands =
     record {
       room = room;
       two = two;
       boot_is = is;
       sizes = sizes;
-      rooms = rooms;
       certain = λ _. none;
       head = head;
       clean = clean;
@@ -79,17 +77,49 @@ open_from told size s shape tag boot writes broken doubt homes held tables room 
       );
     }
 
--- where only the memory has changed
-pub still_open : (told : Type 0) (size : ℕ) (s : DiskState) (shape : Shape) (tag boot writes later : ℕ) (broken : Bool) (doubt : ℕ) (homes : ℕ → ℕ) (held now : ℕ → Held) (tables : ℕ → List ℕ)
+-- a volume whose safe blocks are elsewhere what they were
+pub still_open : (told : Type 0) (size : ℕ) (s later : DiskState) (shape : Shape) (tag boot writes number : ℕ) (broken : Bool) (doubt : ℕ) (homes : ℕ → ℕ) (held now : ℕ → Held) (tables : ℕ → List ℕ)
     → IsOpen told size s shape tag boot writes broken doubt homes held tables → broken ≡ false
-    → ((j : ℕ) → 1 ≤ j → j ≤ shape.files → (now j).room ≡ shape.blocks * 4096)
-    → IsOpen told size s shape tag boot later broken doubt homes now tables
-still_open told size s shape tag boot writes later broken doubt homes held now tables opened whole rooms =
-    open_from told size s shape tag boot later broken doubt homes now tables opened.room opened.two opened.boot_is opened.sizes rooms
-    (opened.certain whole) opened.head opened.clean (λ t. opened.stands t whole)
+    → (told → Stands shape (safe_of homes tables s.reads) later)
+    → (told → HasContent shape tables (content_of shape tables s.reads) later.reads)
+    → IsOpen told size later shape tag boot number broken doubt homes now tables
+still_open told size s later shape tag boot writes number broken doubt homes held now tables opened whole stands has =
+    open_from told size later shape tag boot number broken doubt homes now tables opened.room opened.two opened.boot_is opened.sizes
+    (opened.certain whole)
+    (λ t. subst (λ (l : List ℕ). HeadIs size shape tag l) (sym (stands t).head) (opened.head t))
+    (λ t j some there.
+    ap (λ (l : List ℕ). drop (size_in (tables j)) l) (content_joined shape tables (content_of shape tables s.reads) later.reads j some there (has t))
+    ∙ opened.clean t j some there)
+    (λ t. record {
+      head_kept = (stands t).head_kept;
+      head = refl;
+      cells = (stands t).cells;
+      tables = (stands t).tables;
+      kept = (stands t).kept;
+    })
+
+-- a volume that a failed write has broken
+pub open_broken : (told : Type 0) (size : ℕ) (s : DiskState) (shape : Shape) (tag boot writes : ℕ) (broken : Bool) (doubt : ℕ) (homes : ℕ → ℕ) (held : ℕ → Held) (tables : ℕ → List ℕ)
+    → IsOpen told size s shape tag boot writes broken doubt homes held tables → broken ≡ false
+    → IsOpen told size s shape tag boot writes true doubt homes held tables
+open_broken told size s shape tag boot writes broken doubt homes held tables opened whole = record {
+  room = opened.room;
+  two = opened.two;
+  boot_is = opened.boot_is;
+  sizes = opened.sizes;
+  certain = λ (no : true ≡ false). absurd (cc);
+  head = opened.head;
+  clean = opened.clean;
+  stands = λ t (no : true ≡ false). absurd (cc);
+  left = λ t image may. (
+    Old,
+    leaves_old size shape tag boot writes true doubt homes held tables s.reads image (opened.head t) opened.room opened.boot_is opened.sizes (opened.clean t)
+        (stands_holds shape (safe_of homes tables s.reads) (content_of shape tables s.reads) s (opened.stands t whole) (λ j b at. refl) image may),
+  );
+}
 
 -- the volume of the same blocks elsewhere
-volume_same : (shape : Shape) (boot writes : ℕ) (broken : Bool) (doubt : ℕ) (held : ℕ → Held) (tables : ℕ → List ℕ) (old new : Image)
+pub volume_same : (shape : Shape) (boot writes : ℕ) (broken : Bool) (doubt : ℕ) (held : ℕ → Held) (tables : ℕ → List ℕ) (old new : Image)
     → HasContent shape tables (content_of shape tables old) new
     → volume_of shape boot writes broken doubt held tables new ≡ volume_of shape boot writes broken doubt held tables old
 volume_same shape boot writes broken doubt held tables old new has =
@@ -143,17 +173,14 @@ module _ (told : Type 0) (size : ℕ) (s : DiskState) (shape : Shape) (tag boot 
     (opened : IsOpen told size s shape tag boot writes broken doubt homes held tables) (whole : broken ≡ false)
     (file : ℕ) (table bytes : List ℕ) (some : 1 ≤ file) (there : file ≤ shape.files)
     (size_is : size_in table ≡ length (held file).now) (change_is : change_in table ≡ (held file).change)
-    (fits : length (held file).now ≤ (held file).room)
-    (all : bytes ≡ (held file).now ++ replicate ((held file).room - length (held file).now) 0)
-    (len : length bytes ≡ shape.blocks * 4096) where
-  padded : bytes ≡ (held file).now ++ replicate (shape.blocks * 4096 - length (held file).now) 0
-  padded = all ∙ ap (λ (n : ℕ). (held file).now ++ replicate (n - length (held file).now) 0) (opened.rooms file some there)
-
-  blocks_now : (j : ℕ) → j ≡ file → joined shape.blocks (with_bytes (content_of shape tables s.reads) file bytes j) ≡ bytes
-  blocks_now j e =
+    (fits : length (held file).now ≤ shape.blocks * 4096)
+    (padded : told → bytes ≡ (held file).now ++ replicate (shape.blocks * 4096 - length (held file).now) 0)
+    (len : told → length bytes ≡ shape.blocks * 4096) where
+  blocks_now : told → (j : ℕ) → j ≡ file → joined shape.blocks (with_bytes (content_of shape tables s.reads) file bytes j) ≡ bytes
+  blocks_now t j e =
       joined_same shape.blocks (with_bytes (content_of shape tables s.reads) file bytes j) (piece_of bytes)
       (λ b lt. pick_same j file (piece_of bytes b) (content_of shape tables s.reads j b) e)
-      ∙ pieces_whole shape.blocks bytes len
+      ∙ pieces_whole shape.blocks bytes (len t)
 
   blocks_kept : (j : ℕ) → j ≢ file
       → joined shape.blocks (with_bytes (content_of shape tables s.reads) file bytes j) ≡ blocks_by shape.files shape.blocks (tables j) s.reads j
@@ -165,8 +192,7 @@ module _ (told : Type 0) (size : ℕ) (s : DiskState) (shape : Shape) (tag boot 
   sizes_later j low high = elim (cases_eq j file) [
     | inl e ↦
         let is : size_in (if j == file then table else tables j) ≡ length (held file).now = ap size_in (pick_same j file table (tables j) e) ∙ size_is in
-        let room = opened.rooms file some there in
-        omega (arith, is, room, fits)
+        omega (arith, is, fits)
     | inr ne ↦
         let is : size_in (if j == file then table else tables j) ≡ size_in (tables j) = ap size_in (pick_other j file table (tables j) ne) in
         let small = opened.sizes j low high in
@@ -182,7 +208,7 @@ module _ (told : Type 0) (size : ℕ) (s : DiskState) (shape : Shape) (tag boot 
     | inl e ↦
         let is : size_in (if j == file then table else tables j) ≡ length (held file).now = ap size_in (pick_same j file table (tables j) e) ∙ size_is in
         ap (λ (n : ℕ). drop n (joined shape.blocks (with_bytes (content_of shape tables s.reads) file bytes j))) is
-        ∙ ap (λ (l : List ℕ). drop (length (held file).now) l) (blocks_now j e ∙ padded)
+        ∙ ap (λ (l : List ℕ). drop (length (held file).now) l) (blocks_now t j e ∙ padded t)
         ∙ drop-append_seam (held file).now (replicate (shape.blocks * 4096 - length (held file).now) 0)
         ∙ sym (ap (λ (n : ℕ). replicate (shape.blocks * 4096 - n) 0) is)
     | inr ne ↦
@@ -201,7 +227,7 @@ module _ (told : Type 0) (size : ℕ) (s : DiskState) (shape : Shape) (tag boot 
       holds_leaves size shape tag boot (with_table (safe_of homes tables s.reads) file table) (with_bytes (content_of shape tables s.reads) file bytes) homes
       (volume_of shape boot writes true file held tables s.reads) New image holds (opened.head t) opened.room boot_later sizes_later (clean_later t) refl
       (λ j low high. left_new homes file held j some)
-      (crash_new shape boot writes held (safe_of homes tables s.reads) table bytes s.reads file some there size_is change_is padded len
+      (crash_new shape boot writes held (safe_of homes tables s.reads) table bytes s.reads file some there size_is change_is (padded t) (len t)
       (content_of shape tables s.reads) (λ j b at. refl))
 
   pub leaves_either : told → (image : Image)
@@ -214,13 +240,13 @@ module _ (told : Type 0) (size : ℕ) (s : DiskState) (shape : Shape) (tag boot 
   ]
 
   -- once the commit is done
-  pub open_committed : (later : DiskState)
+  pub open_committed : (later : DiskState) (now : ℕ → Held)
       → (told → Stands shape (with_table (safe_of homes tables s.reads) file table) later)
       → (told → HasContent shape (with_table (safe_of homes tables s.reads) file table).tables (with_bytes (content_of shape tables s.reads) file bytes) later.reads)
-      → IsOpen told size later shape tag boot writes broken doubt (with_table (safe_of homes tables s.reads) file table).homes held (with_table (safe_of homes tables s.reads) file table).tables
-  open_committed later stands has =
+      → IsOpen told size later shape tag boot writes broken doubt (with_table (safe_of homes tables s.reads) file table).homes now (with_table (safe_of homes tables s.reads) file table).tables
+  open_committed later now stands has =
       let after : Safe = with_table (safe_of homes tables s.reads) file table in
-      open_from told size later shape tag boot writes broken doubt after.homes held after.tables opened.room
+      open_from told size later shape tag boot writes broken doubt after.homes now after.tables opened.room
       (λ j high. elim (cases_eq j file) [
         | inl e ↦ let is : after.homes j ≡ 1 - homes j = pick_same j file (1 - homes j) (homes j) e in omega (arith, is)
         | inr ne ↦
@@ -228,7 +254,7 @@ module _ (told : Type 0) (size : ℕ) (s : DiskState) (shape : Shape) (tag boot 
             let two = opened.two j high in
             omega (arith, is, two)
       ])
-      boot_later sizes_later opened.rooms (opened.certain whole)
+      boot_later sizes_later (opened.certain whole)
       (λ t. subst (λ (l : List ℕ). HeadIs size shape tag l) (sym (stands t).head) (opened.head t))
       (λ t j low high.
       ap (λ (l : List ℕ). drop (size_in (after.tables j)) l)
@@ -256,7 +282,6 @@ module _ (told : Type 0) (size : ℕ) (s : DiskState) (shape : Shape) (tag boot 
         two = opened.two;
         boot_is = opened.boot_is;
         sizes = opened.sizes;
-        rooms = opened.rooms;
         certain = λ (no : true ≡ false). absurd (cc);
         head = λ t. subst (λ (l : List ℕ). HeadIs size shape tag l) (sym (head t)) (opened.head t);
         clean = λ t j low high.
@@ -270,11 +295,11 @@ module _ (told : Type 0) (size : ℕ) (s : DiskState) (shape : Shape) (tag boot 
       }
 
   -- the volume is the one that the commit makes
-  pub commit_is : (later : Image)
+  pub commit_is : told → (later : Image)
       → HasContent shape (with_table (safe_of homes tables s.reads) file table).tables (with_bytes (content_of shape tables s.reads) file bytes) later
       → volume_of shape boot writes broken doubt held (with_table (safe_of homes tables s.reads) file table).tables later
       ≡ commit (volume_of shape boot writes broken doubt held tables s.reads) file
-  commit_is later has =
+  commit_is t later has =
       let after : Safe = with_table (safe_of homes tables s.reads) file table in
       let live : ℕ → File = λ j. live_file (held j) (tables j) (blocks_by shape.files shape.blocks (tables j) s.reads j) in
       let next : ℕ → File = λ j. live_file (held j) (after.tables j) (blocks_by shape.files shape.blocks (after.tables j) later j) in
@@ -298,7 +323,7 @@ module _ (told : Type 0) (size : ℕ) (s : DiskState) (shape : Shape) (tag boot 
       (blocks_by shape.files shape.blocks (after.tables j) later j) (shape.blocks * 4096 - length (held file).now)
       (ap size_in (pick_same j file table (tables j) e) ∙ size_is)
       (ap change_in (pick_same j file table (tables j) e) ∙ change_is)
-      (content_joined shape after.tables (with_bytes (content_of shape tables s.reads) file bytes) later j (omega arith) (omega arith) has ∙ blocks_now j e ∙ padded))
+      (content_joined shape after.tables (with_bytes (content_of shape tables s.reads) file bytes) later j (omega arith) (omega arith) has ∙ blocks_now t j e ∙ padded t))
       (λ j lt ne. elim (cases_eq j 0) [
         | inl e ↦ pick_same j 0 no_file (next j) e ∙ sym (pick_same j 0 no_file (live j) e)
         | inr nz ↦
@@ -309,16 +334,14 @@ module _ (told : Type 0) (size : ℕ) (s : DiskState) (shape : Shape) (tag boot 
             ∙ sym (pick_other j 0 no_file (live j) nz)
       ])))
 
--- a write to memory, as the promise has it
-pub write_is : (shape : Shape) (boot writes : ℕ) (broken : Bool) (doubt : ℕ) (l : List Held) (d : Held) (tables : ℕ → List ℕ) (image : Image) (file off : ℕ) (part : List ℕ) (h : Held)
-    → 1 ≤ file → file ≤ shape.files → file < length l → doubt ≡ 0 → 0 < length part
-    → h.now ≡ with_bytes_at (get_or l file d).now off part → h.change ≡ change_of boot (writes + 1)
-    → volume_of shape boot (writes + 1) broken doubt (λ j. get_or (set l file h) j d) tables image
-    ≡ write (volume_of shape boot writes broken doubt (λ j. get_or l j d) tables image) file off part
-write_is shape boot writes broken doubt l d tables image file off [] h some there lt none long now change = absurd (omega arith)
-write_is shape boot writes broken doubt l d tables image file off (b ∷ bs) h some there lt none long now change =
-    let held : ℕ → Held = λ j. get_or l j d in
-    let after : ℕ → Held = λ j. get_or (set l file h) j d in
+-- a write of one file, as the promise has it
+pub write_is : (shape : Shape) (boot writes : ℕ) (broken : Bool) (doubt : ℕ) (held after : ℕ → Held) (tables : ℕ → List ℕ) (image : Image) (file off : ℕ) (part : List ℕ)
+    → 1 ≤ file → file ≤ shape.files → doubt ≡ 0 → 0 < length part
+    → (after file).now ≡ with_bytes_at (held file).now off part → (after file).change ≡ change_of boot (writes + 1)
+    → ((j : ℕ) → 1 ≤ j → j ≤ shape.files → j ≢ file → after j ≡ held j)
+    → volume_of shape boot (writes + 1) broken doubt after tables image ≡ write (volume_of shape boot writes broken doubt held tables image) file off part
+write_is shape boot writes broken doubt held after tables image file off [] some there none long now change other = absurd (omega arith)
+write_is shape boot writes broken doubt held after tables image file off (b ∷ bs) some there none long now change other =
     let bytes : ℕ → List ℕ = λ j. blocks_by shape.files shape.blocks (tables j) image j in
     let live : ℕ → File = λ j. live_file (held j) (tables j) (bytes j) in
     let next : ℕ → File = λ j. live_file (after j) (tables j) (bytes j) in
@@ -341,21 +364,41 @@ write_is shape boot writes broken doubt l d tables image file off (b ∷ bs) h s
     (λ j below e.
     pick_other j 0 no_file (next j) (omega arith)
     ∙ ap next e
-    ∙ ap (λ (k : Held). live_file k (tables file) (bytes file)) (get_or-set_same l file h d lt)
-    ∙ ap (λ (n : List ℕ). record { now = n; safe = take (size_in (tables file)) (bytes file); change = h.change; safe_change = change_in (tables file) }) now
+    ∙ ap (λ (n : List ℕ). record { now = n; safe = take (size_in (tables file)) (bytes file); change = (after file).change; safe_change = change_in (tables file) }) now
     ∙ ap (λ (n : ℕ). record { now = with_bytes_at (held file).now off (b ∷ bs); safe = take (size_in (tables file)) (bytes file); change = n; safe_change = change_in (tables file) }) change)
-    (λ j below ne. ap (λ (k : Held). if j == 0 then no_file else live_file k (tables j) (bytes j)) (get_or-set_other l file j h d ne))))
+    (λ j below ne. elim (cases_eq j 0) [
+      | inl e ↦ pick_same j 0 no_file (next j) e ∙ sym (pick_same j 0 no_file (live j) e)
+      | inr nz ↦
+          pick_other j 0 no_file (next j) nz
+          ∙ ap (λ (k : Held). live_file k (tables j) (bytes j)) (other j (omega arith) (omega arith) ne)
+          ∙ sym (pick_other j 0 no_file (live j) nz)
+    ])))
 
--- a failed write changes no file
-pub rooms_set : (shape : Shape) (l : List Held) (d h : Held) (file : ℕ) → file < length l → h.room ≡ (get_or l file d).room
-    → ((j : ℕ) → 1 ≤ j → j ≤ shape.files → (get_or l j d).room ≡ shape.blocks * 4096)
-    → (j : ℕ) → 1 ≤ j → j ≤ shape.files → (get_or (set l file h) j d).room ≡ shape.blocks * 4096
-rooms_set shape l d h file lt same rooms j low high = elim (cases_eq j file) [
-  | inl e ↦
-      ap (λ (k : ℕ). (get_or (set l file h) k d).room) e ∙ ap (λ (x : Held). x.room) (get_or-set_same l file h d lt) ∙ same
-      ∙ sym (ap (λ (k : ℕ). (get_or l k d).room) e) ∙ rooms j low high
-  | inr ne ↦ ap (λ (x : Held). x.room) (get_or-set_other l file j h d ne) ∙ rooms j low high
-]
+-- files that are the same now
+pub volume_held : (shape : Shape) (boot writes : ℕ) (broken : Bool) (doubt : ℕ) (held after : ℕ → Held) (tables : ℕ → List ℕ) (image : Image) → doubt ≡ 0
+    → ((j : ℕ) → 1 ≤ j → j ≤ shape.files → after j ≡ held j)
+    → volume_of shape boot writes broken doubt after tables image ≡ volume_of shape boot writes broken doubt held tables image
+volume_held shape boot writes broken doubt held after tables image none same =
+    let live : (ℕ → Held) → ℕ → File = λ h j. live_file (h j) (tables j) (blocks_by shape.files shape.blocks (tables j) image j) in
+    let of : List File → Option Doubt → Volume = λ fs o. record {
+      files = fs;
+      capacity = shape.blocks * 4096;
+      boot = boot;
+      writes = writes;
+      broken = broken;
+      doubt = o;
+    } in
+    let files : (ℕ → Held) → List File = λ h. numbered (shape.files + 1) (λ j. if j == 0 then no_file else live h j) in
+    ap (λ (o : Option Doubt). of (files after) o) (pick_same doubt 0 None _ none ∙ sym (pick_same doubt 0 None (Some (record { file = doubt; bytes = (held doubt).now; change = (held doubt).change })) none))
+    ∙ ap (λ (fs : List File). of fs (doubt_of doubt held))
+    (numbered_same (shape.files + 1) (λ j. if j == 0 then no_file else live after j) (λ j. if j == 0 then no_file else live held j)
+    (λ j lt. elim (cases_eq j 0) [
+      | inl e ↦ pick_same j 0 no_file (live after j) e ∙ sym (pick_same j 0 no_file (live held j) e)
+      | inr nz ↦
+          pick_other j 0 no_file (live after j) nz
+          ∙ ap (λ (k : Held). live_file k (tables j) (blocks_by shape.files shape.blocks (tables j) image j)) (same j (omega arith) (omega arith))
+          ∙ sym (pick_other j 0 no_file (live held j) nz)
+    ]))
 
 -- a file of a volume is one of its shape's
 pub file_there : (shape : Shape) (boot writes : ℕ) (broken : Bool) (doubt : ℕ) (held : ℕ → Held) (tables : ℕ → List ℕ) (image : Image) (file : ℕ)
@@ -366,14 +409,14 @@ file_there shape boot writes broken doubt held tables image file lt =
     omega arith
 
 -- the homes and the tables after a commit
-homes_path : (l : List ℕ) (file x : ℕ) → file < length l → x ≡ 1 - get_or l file 0
+pub homes_path : (l : List ℕ) (file x : ℕ) → file < length l → x ≡ 1 - get_or l file 0
     → ◌≡◌ {A = ℕ → ℕ} (λ j. get_or (set l file x) j 0) (λ j. if j == file then 1 - get_or l j 0 else get_or l j 0)
 homes_path l file x lt is = λ i j.
     set_by l file x 0 (λ j. if j == file then 1 - get_or l j 0 else get_or l j 0) lt
     (λ j e. pick_same j file (1 - get_or l j 0) (get_or l j 0) e ∙ ap (λ (k : ℕ). 1 - get_or l k 0) e ∙ sym is)
     (λ j ne. pick_other j file (1 - get_or l j 0) (get_or l j 0) ne) j i
 
-tables_path : (l : List (List ℕ)) (file : ℕ) (x : List ℕ) → file < length l
+pub tables_path : (l : List (List ℕ)) (file : ℕ) (x : List ℕ) → file < length l
     → ◌≡◌ {A = ℕ → List ℕ} (λ j. get_or (set l file x) j []) (λ j. if j == file then x else get_or l j [])
 tables_path l file x lt = λ i j.
     set_by l file x [] (λ j. if j == file then x else get_or l j []) lt
@@ -395,12 +438,6 @@ pub volume_set : (shape : Shape) (boot writes : ℕ) (broken : Bool) (doubt : �
 volume_set shape boot writes broken doubt held tables file table image lt =
     ap (λ (t : ℕ → List ℕ). volume_of shape boot writes broken doubt held t image) (tables_path tables file table lt)
 
-pub failed_is : (shape : Shape) (boot writes : ℕ) (broken : Bool) (none file : ℕ) (held : ℕ → Held) (tables : ℕ → List ℕ) (old new : Image)
-    → 1 ≤ file → file ≤ shape.files → HasContent shape tables (content_of shape tables old) new
-    → volume_of shape boot writes true file held tables new ≡ fail_commit (volume_of shape boot writes broken none held tables old) file
-failed_is shape boot writes broken none file held tables old new some there has =
-    volume_same shape boot writes true file held tables old new has ∙ fail_commit_is shape boot writes broken none file held tables old some there
-
 -- a file of an open volume
 pub file_is : (shape : Shape) (boot writes : ℕ) (broken : Bool) (doubt : ℕ) (held : ℕ → Held) (tables : ℕ → List ℕ) (image : Image) (file : ℕ)
     → 1 ≤ file → file ≤ shape.files
@@ -408,24 +445,6 @@ pub file_is : (shape : Shape) (boot writes : ℕ) (broken : Bool) (doubt : ℕ) 
 file_is shape boot writes broken doubt held tables image file some there =
     let live : ℕ → File = λ j. live_file (held j) (tables j) (blocks_by shape.files shape.blocks (tables j) image j) in
     get-numbered (shape.files + 1) (λ j. if j == 0 then no_file else live j) file no_file (omega arith) ∙ pick_other file 0 no_file (live file) (omega arith)
-
--- where the disk is as it was, if that is told
-pub open_same : (told : Type 0) (size : ℕ) (s later : DiskState) (shape : Shape) (tag boot writes : ℕ) (broken : Bool) (doubt : ℕ) (homes : ℕ → ℕ) (held : ℕ → Held) (tables : ℕ → List ℕ)
-    → (told → s ≡ later) → IsOpen told size s shape tag boot writes broken doubt homes held tables
-    → IsOpen told size later shape tag boot writes broken doubt homes held tables
-open_same told size s later shape tag boot writes broken doubt homes held tables same opened = record {
-  room = opened.room;
-  two = opened.two;
-  boot_is = opened.boot_is;
-  sizes = opened.sizes;
-  rooms = opened.rooms;
-  certain = opened.certain;
-  head = λ t. subst (λ (x : DiskState). HeadIs size shape tag (x.reads 0)) (same t) (opened.head t);
-  clean = λ t. subst (λ (x : DiskState). Clean shape tables (λ j. blocks_by shape.files shape.blocks (tables j) x.reads j)) (same t) (opened.clean t);
-  stands = λ t. subst (λ (x : DiskState). broken ≡ false → Stands shape (safe_of homes tables x.reads) x) (same t) (opened.stands t);
-  left = λ t. subst (λ (x : DiskState). (image : Image) → MayLeave x image
-      → MayBeLeft size tag homes (volume_of shape boot writes broken doubt held tables x.reads) image) (same t) (opened.left t);
-}
 
 -- what a write that isn't refused may rely on
 pub passed_test : (broken : Bool) (writes capacity off len : ℕ) → refusal_of broken writes capacity off len ≡ None

@@ -1,7 +1,7 @@
 -- A volume that is opened: its boot number is raised, and all else stays.
 use Rattle.std.proofs.Common.{◌≡◌, ℕ, ◌+◌, ◌-◌, ◌*◌, ◌%◌, ◌<◌, ◌≤◌, ◌^◌, ◌==◌, if◌then◌else◌, false, None, List, length, take, drop, replicate, inl, inr, ◌⊎◌, refl, sym, ◌∙◌, ap, subst, arith, mul_assoc}
 use Rattle.std.proofs.lemmas.Bool.{cases_eq}
-use Rattle.copy_model.specs.Volume.{File, Volume, no_file}
+use Rattle.copy_model.specs.Volume.{File, Volume, no_file, bytes_at}
 use Rattle.disk_model.specs.Disk.{Image, DiskState, MayLeave, IsSettled}
 use Rattle.disk_model.specs.declared.fuse.Fuse.{Fuse}
 use Rattle.disk_model.specs.Elapsed.{Timeline, present, contents}
@@ -11,14 +11,15 @@ use Rattle.block_file.specs.Layout.{head_files, head_blocks, head_tag, cell_at, 
 use Rattle.block_file.specs.Lists.{numbered, joined}
 use Rattle.block_file.specs.Stored.{blocks_by, opened_file, opened_by, reopened, tag_of, home_of, IsClean}
 use Rattle.block_file.specs.Blocks.{Safe, place_of, HasContent, Stands, Holds, with_table}
-use Rattle.block_file.specs.Held.{Held}
-use Rattle.block_file.specs.Opened.{HeadIs, Reopens, CanBeOpened, LeftByOpening, IsFresh, IsOpen, volume_of, live_file}
+use Rattle.block_file.specs.Held.{Held, held_by}
+use Rattle.block_file.specs.Opened.{HeadIs, Reopens, CanBeOpened, LeftByOpening, IsFresh, IsOpen, AreNewest, held_of, volume_of, volume_at, live_file}
 use Rattle.block_file.specs.Loaded.{AreCells, IsLoaded}
 use Rattle.block_file.proofs.Numbered.{numbered_same}
 use Rattle.block_file.proofs.Standing.{pick_same, pick_other, stands_holds}
 use Rattle.block_file.proofs.Filed.{content_joined, opened_is, clean_is, sound_is}
 use Rattle.block_file.proofs.Openings.{content_of, safe_of, open_from, files_len}
-use Rattle.block_file.proofs.Loads.{held_same}
+use Rattle.block_file.proofs.Newest.{bytes_at-front}
+use Rattle.block_file.proofs.Spans.{joined_len}
 
 -- a disk on which nothing is open stands as its cells are read
 pub settled_stands : (shape : Shape) (homes : ℕ → ℕ) (tables : ℕ → List ℕ) (s : DiskState) → IsSettled s → AreCells shape.files homes tables s.reads
@@ -65,8 +66,8 @@ boot_more boot more = omega arith
 
 -- What is on a disk that was just read: its cells and blocks, and an image that holds the same but for the
 -- boot cell.
-module _ (told : Type 0) (size : ℕ) (shape : Shape) (tag boot : ℕ) (homes : ℕ → ℕ) (held : ℕ → Held) (tables : ℕ → List ℕ) (base : Image)
-    (loaded : IsLoaded told size shape tag boot homes held tables base) (t : told) (clean : IsClean base)
+module _ (told : Type 0) (size : ℕ) (shape : Shape) (tag boot : ℕ) (homes : ℕ → ℕ) (tables : ℕ → List ℕ) (base : Image)
+    (loaded : IsLoaded told size shape tag boot homes tables base) (t : told) (clean : IsClean base)
     (holds : Holds shape (safe_of homes tables base) (content_of shape tables base) base) where
   -- the volume in it
   pub base_is : reopened base ≡ opened_by shape.files shape.blocks boot tables (λ j. joined shape.blocks (content_of shape tables base j))
@@ -125,16 +126,16 @@ module _ (told : Type 0) (size : ℕ) (shape : Shape) (tag boot : ℕ) (homes : 
 abbrev pub raised : (ℕ → ℕ) → (ℕ → List ℕ) → Image → List ℕ → Safe
 raised homes tables base table = with_table (safe_of homes tables base) 0 table
 
-module _ (told : Type 0) (size : ℕ) (shape : Shape) (tag boot : ℕ) (homes : ℕ → ℕ) (held : ℕ → Held) (tables : ℕ → List ℕ) (base : Image)
-    (loaded : IsLoaded told size shape tag boot homes held tables base) (table : List ℕ) (boot_is : boot_in table ≡ boot + 1) (s : DiskState)
+module _ (told : Type 0) (size : ℕ) (shape : Shape) (tag boot : ℕ) (homes : ℕ → ℕ) (tables : ℕ → List ℕ) (base : Image)
+    (loaded : IsLoaded told size shape tag boot homes tables base) (table : List ℕ) (boot_is : boot_in table ≡ boot + 1) (s : DiskState)
     (stands : told → Stands shape (raised homes tables base table) s)
     (has : told → HasContent shape (raised homes tables base table).tables (content_of shape tables base) s.reads) where
   kept_table : (j : ℕ) → 1 ≤ j → (raised homes tables base table).tables j ≡ tables j
   kept_table j some = pick_other j 0 table (tables j) (omega arith)
 
-  pub open_raised : (told → IsClean base)
+  pub open_raised : (held : ℕ → Held) → (told → IsClean base)
       → IsOpen told size s shape tag (boot + 1) 0 false 0 (raised homes tables base table).homes held (raised homes tables base table).tables
-  open_raised clean =
+  open_raised held clean =
       let after = raised homes tables base table in
       open_from told size s shape tag (boot + 1) 0 false 0 after.homes held after.tables loaded.room
       (λ j high. elim (cases_eq j 0) [
@@ -146,7 +147,7 @@ module _ (told : Type 0) (size : ℕ) (shape : Shape) (tag boot : ℕ) (homes : 
       ])
       boot_is
       (λ j some there. subst (λ (l : List ℕ). size_in l ≤ shape.blocks * 4096) (sym (kept_table j some)) (loaded.sizes j some there))
-      (λ j some there. (loaded.files j some there).room) refl
+      refl
       (λ t. subst (λ (l : List ℕ). HeadIs size shape tag l) (sym (stands t).head) (loaded.head t))
       (λ t j some there.
       let is = clean_cells size shape tag homes tables base (clean t) (loaded.head t) (loaded.cells t) j some there in
@@ -162,28 +163,51 @@ module _ (told : Type 0) (size : ℕ) (shape : Shape) (tag boot : ℕ) (homes : 
         kept = (stands t).kept;
       })
 
-  pub volume_raised : told → Holds shape (safe_of homes tables base) (content_of shape tables base) base → IsClean base
-      → volume_of shape (boot + 1) 0 false 0 held (raised homes tables base table).tables s.reads ≡ reopened base
-  volume_raised t holds clean =
-      let after = raised homes tables base table in
-      let bytes : ℕ → List ℕ = λ j. joined shape.blocks (content_of shape tables base j) in
-      let of : List File → Volume = λ l. record {
-        files = l;
-        capacity = shape.blocks * 4096;
-        boot = boot + 1;
-        writes = 0;
-        broken = false;
-        doubt = None;
-      } in
-      ap of (files_as shape.files (λ j. live_file (held j) (after.tables j) (blocks_by shape.files shape.blocks (after.tables j) s.reads j))
-      (λ j. opened_file (tables j) (bytes j))
-      (λ j some there.
-      let file = loaded.files j some there in
-      ap (λ (l : List ℕ). live_file (held j) (after.tables j) l) (content_joined shape after.tables (content_of shape tables base) s.reads j some there (has t))
-      ∙ ap (λ (l : List ℕ). live_file (held j) l (bytes j)) (kept_table j some)
-      ∙ ap (λ (l : List ℕ). record { now = l; safe = take (size_in (tables j)) (bytes j); change = (held j).change; safe_change = change_in (tables j) }) (file.now t)
-      ∙ ap (λ (n : ℕ). record { now = take (size_in (tables j)) (bytes j); safe = take (size_in (tables j)) (bytes j); change = n; safe_change = change_in (tables j) }) file.change))
-      ∙ sym (base_is told size shape tag boot homes held tables base loaded t clean holds)
+  -- the newest tables are the safe ones, so a file is as it was safe
+  module _ (newest : ℕ → List ℕ) (same : (j : ℕ) → 1 ≤ j → j ≤ shape.files → newest j ≡ tables j) where
+    pub files_raised : (told → IsClean base) → AreNewest told shape newest s.reads
+    files_raised clean = record {
+      sizes = λ j some there. subst (λ (l : List ℕ). size_in l ≤ shape.blocks * 4096) (sym (same j some there)) (loaded.sizes j some there);
+      clean = λ t j some there.
+          let after = raised homes tables base table in
+          let by : List ℕ → Type 0 = λ l. drop (size_in l) (blocks_by shape.files shape.blocks l s.reads j) ≡ replicate (shape.blocks * 4096 - size_in l) 0 in
+          let is = clean_cells size shape tag homes tables base (clean t) (loaded.head t) (loaded.cells t) j some there in
+          subst by (kept_table j some ∙ sym (same j some there))
+          (ap (λ (l : List ℕ). drop (size_in (after.tables j)) l)
+          (content_joined shape after.tables (content_of shape tables base) s.reads j some there (has t))
+          ∙ ap (λ (l : List ℕ). drop (size_in l) (joined shape.blocks (content_of shape tables base j))) (kept_table j some) ∙ is
+          ∙ sym (ap (λ (l : List ℕ). replicate (shape.blocks * 4096 - size_in l) 0) (kept_table j some)));
+    }
+
+    pub volume_raised : told → Holds shape (safe_of homes tables base) (content_of shape tables base) base → IsClean base
+        → volume_at shape (boot + 1) 0 false 0 newest (raised homes tables base table).tables s.reads ≡ reopened base
+    volume_raised t holds clean =
+        let after = raised homes tables base table in
+        let bytes : ℕ → List ℕ = λ j. joined shape.blocks (content_of shape tables base j) in
+        let held : ℕ → Held = held_of shape newest s.reads in
+        let of : List File → Volume = λ l. record {
+          files = l;
+          capacity = shape.blocks * 4096;
+          boot = boot + 1;
+          writes = 0;
+          broken = false;
+          doubt = None;
+        } in
+        ap of (files_as shape.files (λ j. live_file (held j) (after.tables j) (blocks_by shape.files shape.blocks (after.tables j) s.reads j))
+        (λ j. opened_file (tables j) (bytes j))
+        (λ j some there.
+        let joined_is = content_joined shape after.tables (content_of shape tables base) s.reads j some there (has t) in
+        let here : blocks_by shape.files shape.blocks (tables j) s.reads j ≡ bytes j =
+        sym (ap (λ (l : List ℕ). blocks_by shape.files shape.blocks l s.reads j) (kept_table j some)) ∙ joined_is in
+        let len : length (bytes j) ≡ shape.blocks * 4096 =
+        joined_len shape.blocks (content_of shape tables base j) (λ b lt. loaded.whole t (place_of shape (tables j) j b)) in
+        ap (λ (l : List ℕ). live_file (held j) (after.tables j) l) joined_is
+        ∙ ap (λ (l : List ℕ). live_file (held j) l (bytes j)) (kept_table j some)
+        ∙ ap (λ (l : List ℕ). live_file (held_by shape l s.reads j) (tables j) (bytes j)) (same j some there)
+        ∙ ap (λ (l : List ℕ). record { now = bytes_at l 0 (size_in (tables j)); safe = take (size_in (tables j)) (bytes j); change = change_in (tables j); safe_change = change_in (tables j) }) here
+        ∙ ap (λ (l : List ℕ). record { now = l; safe = take (size_in (tables j)) (bytes j); change = change_in (tables j); safe_change = change_in (tables j) })
+        (bytes_at-front (bytes j) (size_in (tables j)) (subst (λ (n : ℕ). size_in (tables j) ≤ n) (sym len) (loaded.sizes j some there)))))
+        ∙ sym (base_is told size shape tag boot homes tables base loaded t clean holds)
 
 -- the blocks are where the tables name them, and the root has none
 pub has_raised : (shape : Shape) (homes : ℕ → ℕ) (tables : ℕ → List ℕ) (base : Image) (table : List ℕ)
@@ -202,23 +226,23 @@ no_more : (boot : ℕ) → boot ≡ boot + 0
 no_more boot = omega arith
 
 -- what a crash while the boot cell is put may leave
-pub raise_passes : (told : Type 0) (size : ℕ) (shape : Shape) (tag boot : ℕ) (homes : ℕ → ℕ) (held : ℕ → Held) (tables : ℕ → List ℕ) (base : Image)
-    → IsLoaded told size shape tag boot homes held tables base → told → IsClean base
+pub raise_passes : (told : Type 0) (size : ℕ) (shape : Shape) (tag boot : ℕ) (homes : ℕ → ℕ) (tables : ℕ → List ℕ) (base : Image)
+    → IsLoaded told size shape tag boot homes tables base → told → IsClean base
     → Holds shape (safe_of homes tables base) (content_of shape tables base) base → (table : List ℕ) → boot_in table ≡ boot + 1
     → (f g : Fuse) (old new : Timeline)
     → Passes f g old new (λ image. Holds shape (safe_of homes tables base) (content_of shape tables base) image
     ⊎ Holds shape (raised homes tables base table) (content_of shape tables base) image)
     → Passes f g old new (λ image. Reopens size 0 base image ⊎ Reopens size 1 base image)
-raise_passes told size shape tag boot homes held tables base loaded t clean holds table boot_is f g old new passes =
+raise_passes told size shape tag boot homes tables base loaded t clean holds table boot_is f g old new passes =
     passes_only (λ image. Holds shape (safe_of homes tables base) (content_of shape tables base) image
     ⊎ Holds shape (raised homes tables base table) (content_of shape tables base) image)
     (λ image. Reopens size 0 base image ⊎ Reopens size 1 base image) f g old new
     (λ image is. elim is [
       | inl same ↦
-          inl (reopens told size shape tag boot homes held tables base loaded t clean holds 0 (safe_of homes tables base) image refl
+          inl (reopens told size shape tag boot homes tables base loaded t clean holds 0 (safe_of homes tables base) image refl
           (λ j some there. refl) (λ j some there. refl) (loaded.boot_is ∙ no_more boot) same)
       | inr next ↦
-          inr (reopens told size shape tag boot homes held tables base loaded t clean holds 1 (raised homes tables base table) image refl
+          inr (reopens told size shape tag boot homes tables base loaded t clean holds 1 (raised homes tables base table) image refl
           (λ j some there. pick_other j 0 (1 - homes j) (homes j) (omega arith))
           (λ j some there. pick_other j 0 table (tables j) (omega arith)) boot_is next)
     ])
@@ -243,16 +267,16 @@ opening_passes size later f g h old middle new e same first second =
     second)
 
 -- what was read, where the disk is told to read the same
-pub loaded_same : (told : Type 0) (size later : ℕ) (shape : Shape) (tag boot : ℕ) (homes : ℕ → ℕ) (held : ℕ → Held) (tables : ℕ → List ℕ) (base other : Image)
-    → size ≡ later → (told → base ≡ other) → IsLoaded told size shape tag boot homes held tables base
-    → IsLoaded told later shape tag boot homes held tables other
-loaded_same told size later shape tag boot homes held tables base other e same loaded = record {
+pub loaded_same : (told : Type 0) (size later : ℕ) (shape : Shape) (tag boot : ℕ) (homes : ℕ → ℕ) (tables : ℕ → List ℕ) (base other : Image)
+    → size ≡ later → (told → base ≡ other) → IsLoaded told size shape tag boot homes tables base
+    → IsLoaded told later shape tag boot homes tables other
+loaded_same told size later shape tag boot homes tables base other e same loaded = record {
   room = subst (λ (n : ℕ). blocks_of shape.files shape.blocks ≤ n) e loaded.room;
   two = loaded.two;
   boot_is = loaded.boot_is;
   next = loaded.next;
   sizes = loaded.sizes;
-  files = λ j from to. held_same told shape (tables j) j base other (held j) same (loaded.files j from to);
+  whole = λ t. subst (λ (i : Image). (b : ℕ) → length (i b) ≡ 4096) (same t) (loaded.whole t);
   head = λ t. subst (λ (n : ℕ). HeadIs n shape tag (other 0)) e (subst (λ (i : Image). HeadIs size shape tag (i 0)) (same t) (loaded.head t));
   cells = λ t. subst (λ (i : Image). AreCells shape.files homes tables i) (same t) (loaded.cells t);
 }

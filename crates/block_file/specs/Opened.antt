@@ -12,7 +12,7 @@ use Rattle.block_file.specs.Layout.{head_files, head_blocks, head_tag, blocks_of
 use Rattle.block_file.specs.Lists.{numbered}
 use Rattle.block_file.specs.Stored.{Place, blocks_by, reopened, tag_of, home_of, IsClean, flaw_of, head_flaw}
 use Rattle.block_file.specs.Blocks.{Stands}
-use Rattle.block_file.specs.Held.{Held}
+use Rattle.block_file.specs.Held.{Held, held_by}
 
 -- What contracts see of a volume: its files (number 0 is the root), its tag, for each file the home in
 -- force of its table, and the disk.
@@ -98,7 +98,7 @@ pub record SameOpening (old new : Volume) : Type 0 where
   pub capacity : new.capacity ≡ old.capacity
   pub boot : new.boot ≡ old.boot
 
--- a file held in memory, with its safe table and blocks
+-- a file as it is now, with its safe table and blocks
 abbrev pub live_file : Held → List ℕ → List ℕ → File
 live_file held table bytes =
     record {
@@ -113,7 +113,7 @@ abbrev pub doubt_of : ℕ → (ℕ → Held) → Option Doubt
 doubt_of file held =
     if file == 0 then None else Some (record { file = file; bytes = (held file).now; change = (held file).change })
 
--- the volume of these files in memory, and these tables and blocks
+-- the volume of these files, and these safe tables and blocks
 abbrev pub volume_of : Shape → (boot writes : ℕ) → Bool → ℕ → (ℕ → Held) → (ℕ → List ℕ) → Image → Volume
 volume_of shape boot writes broken doubt held tables image =
     record {
@@ -140,14 +140,13 @@ refusal_of broken writes capacity off len =
     else (if nat_lt capacity (off + len) then Some TooFar
     else (if writes == 4294967295 then Some Worn else None))
 
--- What always holds of the fields of an open volume, whose disk has this size and is in this state.
+-- What always holds of the fields of an open volume over a disk of this size, where that is in this state.
 pub record IsOpen (told : Type 0) (size : ℕ) (s : DiskState) (shape : Shape) (tag boot writes : ℕ) (broken : Bool) (doubt : ℕ)
     (homes : ℕ → ℕ) (held : ℕ → Held) (tables : ℕ → List ℕ) : Type 0 where
   pub room : blocks_of shape.files shape.blocks ≤ size
   pub two : (j : ℕ) → j ≤ shape.files → homes j ≤ 1
   pub boot_is : boot_in (tables 0) ≡ boot
   pub sizes : (j : ℕ) → 1 ≤ j → j ≤ shape.files → size_in (tables j) ≤ shape.blocks * 4096
-  pub rooms : (j : ℕ) → 1 ≤ j → j ≤ shape.files → (held j).room ≡ shape.blocks * 4096
   pub certain : broken ≡ false → doubt ≡ 0
   pub head : told → HeadIs size shape tag (s.reads 0)
   pub clean : told → (j : ℕ) → 1 ≤ j → j ≤ shape.files
@@ -155,3 +154,29 @@ pub record IsOpen (told : Type 0) (size : ℕ) (s : DiskState) (shape : Shape) (
   pub stands : told → broken ≡ false → Stands shape (record { head = s.reads 0; homes = homes; tables = tables }) s
   pub left : told → (image : Image) → MayLeave s image
       → MayBeLeft size tag homes (volume_of shape boot writes broken doubt held tables s.reads) image
+
+-- The newest tables: no size passes the capacity, and each byte past a size is 0 in the homes that they name.
+pub record AreNewest (told : Type 0) (shape : Shape) (newest : ℕ → List ℕ) (image : Image) : Type 0 where
+  pub sizes : (j : ℕ) → 1 ≤ j → j ≤ shape.files → size_in (newest j) ≤ shape.blocks * 4096
+  pub clean : told → (j : ℕ) → 1 ≤ j → j ≤ shape.files
+      → drop (size_in (newest j)) (blocks_by shape.files shape.blocks (newest j) image j) ≡ replicate (shape.blocks * 4096 - size_in (newest j)) 0
+
+-- the files by their newest tables
+abbrev pub held_of : Shape → (ℕ → List ℕ) → Image → ℕ → Held
+held_of shape newest image j = held_by shape (newest j) image j
+
+-- the volume of these newest and safe tables, and these blocks
+abbrev pub volume_at : Shape → (boot writes : ℕ) → Bool → ℕ → (newest tables : ℕ → List ℕ) → Image → Volume
+volume_at shape boot writes broken doubt newest tables image =
+    volume_of shape boot writes broken doubt (held_of shape newest image) tables image
+
+-- An open volume over a disk of this size with these moments. It stands for what the disk held at its
+-- moment: now, or where the volume is broken, before the call that failed. A crash now leaves what may be
+-- left of it.
+pub record IsKept (told : Type 0) (size : ℕ) (t : Timeline) (moment : ℕ) (shape : Shape) (tag boot writes : ℕ) (broken : Bool) (doubt : ℕ)
+    (homes : ℕ → ℕ) (newest tables : ℕ → List ℕ) : Type 0 where
+  pub latest : told → broken ≡ false → moment ≡ t.latest
+  pub files : AreNewest told shape newest (t.state moment).reads
+  pub opened : IsOpen told size (t.state moment) shape tag boot writes broken doubt homes (held_of shape newest (t.state moment).reads) tables
+  pub left : told → (image : Image) → MayLeave (present t) image
+      → MayBeLeft size tag homes (volume_at shape boot writes broken doubt newest tables (t.state moment).reads) image

@@ -1,32 +1,31 @@
 //! The files of a server's volume.
 //!
 //! [`Volume`] is the volume on a disk: a crash at any moment leaves of each file what its last commit made
-//! safe, or what a commit under way was making safe. It is a layer of blocks in two homes, whose tables are
-//! each a [`GatedCell`], with the files' contents in memory. [`write_run`], [`read_run`] and [`put_table`] are the
-//! layer by which a file needn't be held in memory: its newest homes are bits, and a commit is one put of its
-//! table. No volume stands on the first two yet. Contracts see the volume that the promise speaks of
+//! safe, or what a commit under way was making safe. Each block of a file has two homes, and the file's table,
+//! which a [`GatedCell`] keeps, has a bit for each that names the home in force. A write goes to the disk at
+//! once, to the home that the safe table doesn't name ([`write_run`]); a commit puts the newest table in the
+//! place of the safe one ([`put_table`]), so that its cost isn't the file's size. What a volume keeps in memory
+//! is two tables a file. Contracts see the volume that the promise speaks of
 //! (`specs/Volume.antt` of `copy_model`). The contract to read first is [`Volume::commit`]'s, with
 //! `specs/Opened.antt`. The words are those of RFC 8881: WRITE (section 18.32), COMMIT (section 18.3),
 //! the change attribute (section 5.8.1.4).
 #![tactic(auto)]
 
 mod blocks;
-mod bytes;
 mod cell;
 mod faults;
+mod files;
 mod flaws;
 mod format;
 mod head;
 mod info;
 mod laws;
 mod load;
-mod memory;
 mod opening;
 mod runs;
 mod shape;
 mod tables;
 mod volume;
-mod whole_file;
 
 pub use blocks::put_table;
 pub use cell::GatedCell;

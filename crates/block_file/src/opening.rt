@@ -4,17 +4,15 @@ ghost use Rattle.disk_model.specs.declared.fuse.Fuse.TheVariants.{Unset};
 ghost use Rattle.disk_model.specs.Disk.{Image, MayLeave, IsSettled};
 ghost use Rattle.disk_model.specs.Elapsed.{present, contents};
 ghost use Rattle.disk_model.specs.Passes.{Passes};
-ghost use Rattle.block_file.specs.Held.{no_held};
 ghost use Rattle.block_file.specs.Layout.{blocks_of, head_tag, boot_in, table_of};
 ghost use Rattle.block_file.specs.Stored.{reopened, tag_of, home_of, flaw_of, head_flaw, IsClean};
-ghost use Rattle.block_file.specs.Opened.{HeadIs, CanBeOpened, LeftByOpening, Reopens, RefusedFor, IsOpen, volume_of};
+ghost use Rattle.block_file.specs.Opened.{HeadIs, CanBeOpened, LeftByOpening, Reopens, RefusedFor, IsOpen, AreNewest, held_of, volume_at};
 ghost use Rattle.block_file.specs.Loaded.{IsLoaded, HasAll};
 
 use crate::blocks::put_table;
 use crate::faults::OpenFault;
 use crate::flaws::{cell_flaw, shape_in};
-use crate::load::{Cells, load_cells, load_files};
-use crate::memory::Memory;
+use crate::load::{Cells, load_cells};
 use crate::shape::Shape;
 use crate::tables::{boot_block, boot_in, table_at, tag_in};
 use disk_model::{Disk, Io};
@@ -28,7 +26,6 @@ pub struct Loaded {
     pub tag: u64,
     pub boot: u32,
     pub cells: Cells,
-    pub held: Vec<Memory>,
 }
 
 /// Reads the volume on a disk and raises its boot number by one.
@@ -40,9 +37,13 @@ pub fn start<D: Disk>(alloc: Global, disk: &mut D) -> Mem<Result<Loaded, OpenFau
     ensures lists { IfOk result (λ answer. IfOk answer HasAll) }
     ensures opened { IfOk result (λ answer. IfOk answer (λ v.
         IsOpen D.Told (D.size disk.new) (present (D.timeline disk.new)) v.shape v.tag v.boot 0 false 0
-        (λ j. slice_index v.cells.homes.items j) (λ j. slice_index_or v.held.items j no_held) (λ j. slice_index_or v.cells.tables.items j []))) }
+        (λ j. slice_index v.cells.homes.items j) (held_of v.shape (λ j. slice_index_or v.cells.newest.items j []) (contents (D.timeline disk.new)))
+        (λ j. slice_index_or v.cells.tables.items j []))) }
+    ensures files { IfOk result (λ answer. IfOk answer (λ v.
+        AreNewest D.Told v.shape (λ j. slice_index_or v.cells.newest.items j []) (contents (D.timeline disk.new)))) }
     ensures volume { D.Told → IfOk result (λ answer. IfOk answer (λ v.
-        volume_of v.shape v.boot 0 false 0 (λ j. slice_index_or v.held.items j no_held) (λ j. slice_index_or v.cells.tables.items j []) (contents (D.timeline disk.new))
+        volume_at v.shape v.boot 0 false 0 (λ j. slice_index_or v.cells.newest.items j [])
+        (λ j. slice_index_or v.cells.tables.items j []) (contents (D.timeline disk.new))
         ≡ reopened (contents (D.timeline disk.old)))) }
     ensures tag { D.Told → IfOk result (λ answer. IfOk answer (λ v. v.tag ≡ tag_of (contents (D.timeline disk.old)))) }
     ensures homes { D.Told → IfOk result (λ answer. IfOk answer (λ v. (j : ℕ) → 1 ≤ j → j ≤ v.shape.files
@@ -75,7 +76,7 @@ fn load<D: Disk>(alloc: Global, disk: &mut D) -> Mem<Result<Loaded, OpenFault>>
         (λ fault. RefusedFor (flaw_of (D.size disk.old) (contents (D.timeline disk.old))) fault)) }
     ensures lists { IfOk result (λ answer. IfOk answer HasAll) }
     ensures loaded { IfOk result (λ answer. IfOk answer (λ v. IsLoaded D.Told (D.size disk.old) v.shape v.tag v.boot
-        (λ j. slice_index v.cells.homes.items j) (λ j. slice_index_or v.held.items j no_held) (λ j. slice_index_or v.cells.tables.items j []) (contents (D.timeline disk.old)))) }
+        (λ j. slice_index v.cells.homes.items j) (λ j. slice_index_or v.cells.tables.items j []) (contents (D.timeline disk.old)))) }
     ensures settled { D.Told → IfOk result (λ answer. IsOk answer → IsSettled (present (D.timeline disk.new))) }
     ensures reads { D.Told → contents (D.timeline disk.new) ≡ contents (D.timeline disk.old) }
     ensures any_moment { D.Told → Passes (D.fuse disk.old) (D.fuse disk.new) (D.timeline disk.old) (D.timeline disk.new)
@@ -97,17 +98,13 @@ fn load<D: Disk>(alloc: Global, disk: &mut D) -> Mem<Result<Loaded, OpenFault>>
         Some(block) => return Ok(Err(OpenFault::NotVolume { block, at: 0 })),
         None => {}
     }
-    let boot = boot_in(&table_at(&cells.tables, 0));
-    match load_files(alloc, disk, shape, &cells.tables)? {
-        None => Ok(Err(OpenFault::DiskFailed)),
-        Some(held) => Ok(Ok(Loaded {
-            shape,
-            tag,
-            boot,
-            cells,
-            held,
-        })),
-    }
+    let _count = disk.blocks();
+    Ok(Ok(Loaded {
+        shape,
+        tag,
+        boot: boot_in(&table_at(&cells.tables, 0)),
+        cells,
+    }))
 }
 
 // Makes the disk safe as it is, and reads what block 0 says.
@@ -147,16 +144,18 @@ fn load_head<D: Disk>(disk: &mut D) -> Result<(Shape, u64), OpenFault>
 fn raise<D: Disk>(disk: &mut D, loaded: &mut Loaded) -> Io
     requires lists { HasAll loaded.old }
     requires loaded { IsLoaded D.Told (D.size disk.old) loaded.old.shape loaded.old.tag loaded.old.boot
-        (λ j. slice_index loaded.old.cells.homes.items j) (λ j. slice_index_or loaded.old.held.items j no_held)
-        (λ j. slice_index_or loaded.old.cells.tables.items j []) (contents (D.timeline disk.old)) }
+        (λ j. slice_index loaded.old.cells.homes.items j) (λ j. slice_index_or loaded.old.cells.tables.items j []) (contents (D.timeline disk.old)) }
     requires settled { D.Told → IsSettled (present (D.timeline disk.old)) }
     requires clean { D.Told → IsClean (contents (D.timeline disk.old)) }
     ensures lists { HasAll loaded.new }
     ensures opened { result ≡ Io.Done → IsOpen D.Told (D.size disk.new) (present (D.timeline disk.new)) loaded.new.shape loaded.new.tag loaded.new.boot 0 false 0
-        (λ j. slice_index loaded.new.cells.homes.items j) (λ j. slice_index_or loaded.new.held.items j no_held)
+        (λ j. slice_index loaded.new.cells.homes.items j)
+        (held_of loaded.new.shape (λ j. slice_index_or loaded.new.cells.newest.items j []) (contents (D.timeline disk.new)))
         (λ j. slice_index_or loaded.new.cells.tables.items j []) }
+    ensures files { result ≡ Io.Done
+        → AreNewest D.Told loaded.new.shape (λ j. slice_index_or loaded.new.cells.newest.items j []) (contents (D.timeline disk.new)) }
     ensures volume { D.Told → result ≡ Io.Done
-        → volume_of loaded.new.shape loaded.new.boot 0 false 0 (λ j. slice_index_or loaded.new.held.items j no_held)
+        → volume_at loaded.new.shape loaded.new.boot 0 false 0 (λ j. slice_index_or loaded.new.cells.newest.items j [])
         (λ j. slice_index_or loaded.new.cells.tables.items j []) (contents (D.timeline disk.new))
         ≡ reopened (contents (D.timeline disk.old)) }
     ensures tag { D.Told → loaded.new.tag ≡ tag_of (contents (D.timeline disk.old)) }

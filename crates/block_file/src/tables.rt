@@ -5,7 +5,7 @@ ghost use Rattle.block_file.specs.Layout.{boot_in, head_tag, size_in, change_in,
 
 use disk_model::Block;
 
-/// The safe size that a table has.
+/// The size that a table has.
 pub fn size_in(table: &Block) -> u64
     ensures { result ≡ size_in table.now }
 {
@@ -14,7 +14,7 @@ pub fn size_in(table: &Block) -> u64
     u64::from_be_bytes(word)
 }
 
-/// The safe change attribute that a table has.
+/// The change attribute that a table has.
 pub fn change_in(table: &Block) -> u64
     ensures { result ≡ change_in table.now }
 {
@@ -64,30 +64,6 @@ pub fn table_at(tables: &Vec<Block>, number: usize) -> Block
     ensures { result ≡ slice_index_or tables.now.items number [] }
 {
     tables[number]
-}
-
-/// The table after a commit of all blocks of a file: each is in its other home.
-pub fn next_table(table: &Block, blocks: u32, size: u64, change: u64) -> Block
-    requires { blocks ≤ 16384 }
-    ensures size { size_in result ≡ size }
-    ensures change { change_in result ≡ change }
-    ensures homes { (b : ℕ) → b < blocks → home_in result b ≡ 1 - home_in table.now b }
-{
-    with_words(&turned(table, blocks), size, change)
-}
-
-// The table with the bits of so many blocks turned.
-fn turned(table: &Block, blocks: u32) -> Block
-    requires few { blocks ≤ 16384 }
-    requires bytes { (k : ℕ) → slice_index table.now k < 256 }
-    ensures homes { (b : ℕ) → b < blocks → home_in result b ≡ 1 - home_in table.now b }
-    ensures len { length result ≡ 4096 }
-{
-    let mut next = *table;
-    for i in 0..(blocks as usize + 7) / 8 {
-        next[16 + i] = !next[16 + i];
-    }
-    next
 }
 
 /// The table with a file's size and change attribute.

@@ -6,19 +6,18 @@ ghost use Rattle.disk_model.specs.Disk.{Image, MayLeave};
 ghost use Rattle.disk_model.specs.Elapsed.{present, contents, set_to, IsOut};
 ghost use Rattle.disk_model.specs.Passes.{Passes};
 ghost use Rattle.block_file.specs.declared.faults.WriteFault.{WriteFault};
-ghost use Rattle.block_file.specs.Held.{no_held};
 ghost use Rattle.block_file.specs.Layout.{boot_in, table_of};
 ghost use Rattle.block_file.specs.Stored.{reopened, tag_of, home_of, flaw_of};
 ghost use Rattle.block_file.specs.Opened.{homes_by, turned, MayBeLeft, StandsFor, SameOpening, CanBeOpened, LeftByOpening, RefusedFor, IsFresh, refusal_of};
 
 use crate::FileInfo;
+use crate::blocks::put_table;
 use crate::faults::{OpenFault, ReadFault, WriteFault};
+use crate::files::{read_file, write_file};
 use crate::load::Cells;
-use crate::memory::Memory;
 use crate::opening::{Loaded, start};
 use crate::shape::Shape;
-use crate::tables::{next_table, table_at};
-use crate::whole_file::commit_file;
+use crate::tables::{change_in, size_in, table_at};
 use disk_model::{Block, CrashDisk, Disk, Io};
 use nfs_base::{BLOCK_SIZE, MOST_FILES};
 use outcome::Mem;
@@ -26,8 +25,7 @@ use std::alloc::Global;
 use std::marker::Model;
 
 /// A volume on a disk, open. A crash at any moment leaves of each file what its last commit made safe,
-/// or what a commit that was under way was making safe. Until a commit the bytes of a file are held in
-/// memory.
+/// or what a commit that was under way was making safe. No bytes of a file are held in memory.
 #[derive(Drop)]
 pub struct Volume<D: Disk> {
     disk: D,
@@ -37,35 +35,37 @@ pub struct Volume<D: Disk> {
     writes: u32,
     broken: bool,
     doubt: u32,
+    // The moment of the disk as of which the files read: the present one, or where a call has failed the
+    // one before it.
+    moment: u64,
     homes: Vec<u8>,
+    // The tables that are safe, and those that the next commits are to put.
     tables: Vec<Block>,
-    held: Vec<Memory>,
+    newest: Vec<Block>,
 }
 
 impl<D: Disk> Model for Volume<D> {
     ghost use Rattle.std.specs.Prelude.{◌≡◌, ◌+◌, [], length, slice_index, slice_index_or};
-    ghost use Rattle.disk_model.specs.Elapsed.{present, contents};
-    ghost use Rattle.block_file.specs.Held.{no_held};
-    ghost use Rattle.block_file.specs.Opened.{Opened, volume_of, IsOpen};
+    ghost use Rattle.block_file.specs.Opened.{Opened, volume_at, IsKept};
 
     ghost Value = { Opened D };
 
     ghost view = { λ v. record {
-      volume = volume_of v.shape v.boot v.writes v.broken v.doubt (λ j. slice_index_or v.held.items j no_held)
-          (λ j. slice_index_or v.tables.items j []) (contents (D.timeline v.disk));
+      volume = volume_at v.shape v.boot v.writes v.broken v.doubt (λ j. slice_index_or v.newest.items j [])
+          (λ j. slice_index_or v.tables.items j []) ((D.timeline v.disk).state v.moment).reads;
       tag = v.tag;
       homes = v.homes.items;
       disk = v.disk;
     } };
 
     ghost invariant = { λ v. (length v.homes.items ≡ v.shape.files + 1) × (length v.tables.items ≡ v.shape.files + 1)
-        × (length v.held.items ≡ v.shape.files + 1)
-        × IsOpen D.Told (D.size v.disk) (present (D.timeline v.disk)) v.shape v.tag v.boot v.writes v.broken v.doubt
-        (λ j. slice_index v.homes.items j) (λ j. slice_index_or v.held.items j no_held) (λ j. slice_index_or v.tables.items j []) };
+        × (length v.newest.items ≡ v.shape.files + 1)
+        × IsKept D.Told (D.size v.disk) (D.timeline v.disk) v.moment v.shape v.tag v.boot v.writes v.broken v.doubt
+        (λ j. slice_index v.homes.items j) (λ j. slice_index_or v.newest.items j []) (λ j. slice_index_or v.tables.items j []) };
 }
 
 impl<D: Disk + Drop> Volume<D> {
-    /// Opens the volume on a disk: each file holds its safe bytes, and the boot number is raised by one. A
+    /// Opens the volume on a disk: each file has its safe bytes, and the boot number is raised by one. A
     /// crash at any moment leaves the volume with its old boot number or the next one. A disk that holds
     /// no volume is refused, once it is synced, at the first field that is off: in block 0, in the boot
     /// cell, or in the files' cells by number. All memory is taken here; where that is refused, the disk is
@@ -106,9 +106,13 @@ impl<D: Disk + Drop> Volume<D> {
                     shape,
                     tag,
                     boot,
-                    cells: Cells { homes, tables },
-                    held,
+                    cells: Cells {
+                        homes,
+                        tables,
+                        newest,
+                    },
                 } = started;
+                let moment = disk.moment();
                 Ok(Ok(Volume {
                     disk,
                     shape,
@@ -117,9 +121,10 @@ impl<D: Disk + Drop> Volume<D> {
                     writes: 0,
                     broken: false,
                     doubt: 0,
+                    moment,
                     homes,
                     tables,
-                    held,
+                    newest,
                 }))
             }
         }
@@ -183,14 +188,15 @@ impl<D: Disk> Volume<D> {
         ensures info { result ≡ record { size = length (file_at self.now.volume file).now; change = (file_at self.now.volume file).change } }
         ensures within { result.size ≤ self.now.volume.capacity }
     {
-        let held = held_at(&self.held, file as usize);
+        let newest = table_at(&self.newest, file as usize);
         FileInfo {
-            size: held.size(),
-            change: held.change(),
+            size: size_in(&newest),
+            change: change_in(&newest),
         }
     }
 
-    /// Fills `out` with the file's bytes from `off` on, and with zeros past its end.
+    /// Fills `out` with the file's bytes from `off` on, and with zeros past its end. It reads the disk; a
+    /// failure of that breaks nothing, and `out` then holds any bytes.
     pub fn read(&mut self, file: u32, off: u64, out: &mut [u8]) -> Result<(), ReadFault>
         requires no_root { 1 ≤ file }
         requires there { file < length self.old.volume.files }
@@ -212,13 +218,18 @@ impl<D: Disk> Volume<D> {
         if self.is_broken() {
             return Err(ReadFault::Broken);
         }
-        held_at(&self.held, file as usize).read(off, out);
+        let newest = table_at(&self.newest, file as usize);
+        match read_file(&mut self.disk, self.shape, &newest, file, off, out) {
+            Io::Failed => return Err(ReadFault::DiskFailed),
+            Io::Done => {}
+        }
         Ok(())
     }
 
     /// Writes `bytes` at `off` (RFC 8881 section 18.32); a gap before it reads as zeros. Tested in this
     /// order: the volume isn't broken, the bytes end within the capacity, there is a further write
-    /// number. A write of no bytes changes nothing. What a crash leaves doesn't change.
+    /// number. A write of no bytes changes nothing. The bytes go to the disk at once, and what a crash leaves
+    /// doesn't change.
     pub fn write(&mut self, file: u32, off: u64, bytes: &[u8]) -> Result<(), WriteFault>
         requires no_root { 1 ≤ file }
         requires there { file < length self.old.volume.files }
@@ -254,14 +265,33 @@ impl<D: Disk> Volume<D> {
             return Ok(());
         }
         let number = self.writes + 1;
-        let held = &mut self.held[file as usize];
-        held.write(off, bytes, change_after(self.boot, number));
-        self.writes = number;
-        Ok(())
+        let change = change_after(self.boot, number);
+        let table = table_at(&self.tables, file as usize);
+        let mut newest = table_at(&self.newest, file as usize);
+        match write_file(
+            &mut self.disk,
+            self.shape,
+            &table,
+            &mut newest,
+            file,
+            off,
+            bytes,
+            change,
+        ) {
+            Io::Failed => {
+                self.broken = true;
+                Err(WriteFault::DiskFailed)
+            }
+            Io::Done => {
+                self.newest[file as usize] = newest;
+                self.writes = number;
+                self.moment = self.disk.moment();
+                Ok(())
+            }
+        }
     }
 
-    /// Makes all of a file safe (RFC 8881 section 18.3): four calls of the disk, and one for each of its
-    /// blocks. A crash at any moment leaves the file's safe contents or those that the commit makes safe.
+    /// Makes all of a file safe (RFC 8881 section 18.3): four calls of the disk, whatever its size. A crash at any moment leaves the file's safe contents or those that the commit makes safe.
     /// After a disk failure the volume is broken, and the contents are in doubt.
     pub fn commit(&mut self, file: u32) -> Result<(), ReadFault>
         requires no_root { 1 ≤ file }
@@ -290,19 +320,10 @@ impl<D: Disk> Volume<D> {
             return Err(ReadFault::Broken);
         }
         let number = file as usize;
-        let table = table_at(&self.tables, number);
-        let held = held_at(&self.held, number);
-        let next = next_table(&table, self.shape.blocks, held.size(), held.change());
+        let next = table_at(&self.newest, number);
         let mut home = self.homes[number];
-        match commit_file(
-            &mut self.disk,
-            self.shape,
-            file,
-            &mut home,
-            &table,
-            &next,
-            held.all(),
-        ) {
+        let _count = self.disk.blocks();
+        match put_table(&mut self.disk, self.shape, file, &mut home, &next) {
             Io::Failed => {
                 self.broken = true;
                 self.doubt = file;
@@ -311,6 +332,7 @@ impl<D: Disk> Volume<D> {
             Io::Done => {
                 self.homes[number] = home;
                 self.tables[number] = next;
+                self.moment = self.disk.moment();
                 Ok(())
             }
         }
@@ -332,9 +354,10 @@ impl<D: Disk> Volume<D> {
             writes: _,
             broken: _,
             doubt: _,
+            moment: _,
             homes: _,
             tables: _,
-            held: _,
+            newest: _,
         } = self;
         disk
     }
@@ -387,12 +410,4 @@ fn change_after(boot: u32, n: u32) -> u64
     ensures { result ≡ change_of boot n }
 {
     (u64::from(boot) << 32) + u64::from(n)
-}
-
-// A file in memory.
-fn held_at(held: &Vec<Memory>, number: usize) -> &Memory
-    requires { number < length held.now.items }
-    ensures { result.now ≡ slice_index_or held.now.items number no_held }
-{
-    &held[number]
 }

@@ -37,6 +37,10 @@ pub trait Disk {
         ensures count { result ≡ size self.now }
         ensures whole { Told → (b : ℕ) → length (contents (timeline self.now) b) ≡ 4096 };
 
+    /// The number of the present moment, where the disk tells.
+    fn moment(&self) -> u64
+        ensures latest { Told → result ≡ (timeline self.now).latest };
+
     /// Reads a block.
     fn read(&mut self, at: u64, block: &mut Block) -> Io
         requires { at < size self.old }

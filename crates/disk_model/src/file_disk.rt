@@ -81,6 +81,10 @@ impl Disk for FileDisk {
         self.blocks
     }
 
+    fn moment(&self) -> u64 {
+        0
+    }
+
     fn read(&mut self, at: u64, block: &mut Block) -> Io {
         let done = read_block(&mut self.file, at, block);
         answer(done, &mut self.faults)

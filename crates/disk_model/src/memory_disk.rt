@@ -96,6 +96,10 @@ impl Disk for MemoryDisk {
         self.blocks
     }
 
+    fn moment(&self) -> u64 {
+        self.store.moment() as u64
+    }
+
     fn read(&mut self, at: u64, block: &mut Block) -> Io
         ensures bytes { result ≡ Io.Done → block.new ≡ contents (timeline_of self.old) at }
         ensures same { timeline_of self.new ≡ timeline_of self.old }

@@ -60,6 +60,10 @@ impl Disk for BlindDisk {
         self.inner.blocks()
     }
 
+    fn moment(&self) -> u64 {
+        self.inner.moment()
+    }
+
     fn read(&mut self, at: u64, block: &mut Block) -> Io {
         let answer = self.inner.read(at, block);
         count(answer, &mut self.faults)

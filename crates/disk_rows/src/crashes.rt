@@ -33,13 +33,14 @@ fn a_crash_of_an_opening_leaves_the_old_boot_number_or_the_next(
     Ok(())
 }
 
-// What is read across two blocks of a file, after a commit whose machine stopped after so many calls.
+// What is read across two blocks of a file, after a write and a commit whose machine stopped after so many
+// calls.
 fn bytes_after_stop(alloc: Global, calls: u64, pick: u8) -> Result<[u8; 4], Fail> {
     let mut volume = opened(alloc, formatted(alloc, Vec::new(alloc))?)?;
+    volume.fuse(calls);
     if volume.write(1, 4094, b"abcd").is_err() {
         return Err(Fail::new("the bytes weren't written"));
     }
-    volume.fuse(calls);
     if volume.commit(1).is_err() {
         return Err(Fail::new("the commit failed"));
     }
@@ -53,8 +54,10 @@ fn bytes_after_stop(alloc: Global, calls: u64, pick: u8) -> Result<[u8; 4], Fail
 }
 
 #[test]
-fn a_crash_of_a_commit_leaves_all_of_the_file_or_nothing(rt: HostRuntime) -> Result<(), Fail> {
-    // The fuse lets so many calls pass; whether the new bytes are left under picks 0 to 3.
+fn a_crash_of_a_write_or_a_commit_leaves_all_of_the_file_or_nothing(
+    rt: HostRuntime,
+) -> Result<(), Fail> {
+    // The write makes two calls and the commit four. The fuse lets so many pass; whether the new bytes are left under picks 0 to 3.
     let table = [
         (0, [false, false, false, false]),
         (1, [false, false, false, false]),

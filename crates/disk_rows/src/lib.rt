@@ -16,3 +16,5 @@ mod formats;
 mod homes;
 #[cfg(test)]
 mod openings;
+#[cfg(test)]
+mod volumes;

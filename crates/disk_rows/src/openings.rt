@@ -126,8 +126,9 @@ fn a_file_ends_at_the_capacity(rt: HostRuntime) -> Result<(), Fail> {
 
 #[test]
 fn a_failed_commit_breaks_the_volume(rt: HostRuntime) -> Result<(), Fail> {
-    // To format takes 9 calls of the disk, to open 12, and the fourth call of the commit is its first sync.
-    let disk = formatted(rt.alloc(), vec![in rt.alloc(); 25]?)?;
+    // To format takes 9 calls of the disk, to open 10, to write 2, and the second call of the commit is its
+    // first sync.
+    let disk = formatted(rt.alloc(), vec![in rt.alloc(); 23]?)?;
     let mut volume = opened(rt.alloc(), disk)?;
     assert_eq!(rt; volume.write(1, 0, b"a"), Ok(()));
     assert_eq!(rt; volume.commit(1), Err(ReadFault::DiskFailed));
@@ -140,7 +141,7 @@ fn a_failed_commit_breaks_the_volume(rt: HostRuntime) -> Result<(), Fail> {
 
 #[test]
 fn an_opening_fails_where_a_call_of_the_disk_does(rt: HostRuntime) -> Result<(), Fail> {
-    for failing in 10u64..22 {
+    for failing in 10u64..20 {
         let disk = formatted(rt.alloc(), vec![in rt.alloc(); failing]?)?;
         let disk = match Volume::open(rt.alloc(), disk)? {
             Ok(_volume) => return Err(Fail::new("the volume was opened")),

@@ -8,6 +8,7 @@ abbrev pub invariant-loop-number : goal.invariant-loop-number
 invariant-loop-number g l = record {
   homes : length l.homes.items ≡ l.number;
   tables : length l.tables.items ≡ l.number;
+  newest : l.newest.items ≡ l.tables.items;
   two : (j : ℕ) → j < l.number → slice_index l.homes.items j ≤ 1;
   homes_are : g.D.Disk.Told → (j : ℕ) → j < l.number
       → slice_index l.homes.items j ≡ gate_of (contents (g.D.Disk.timeline l.initial.disk) (cell_at j));

@@ -4,10 +4,9 @@ use Rattle.disk_model.specs.Elapsed.{present}
 use Rattle.block_file.specs.Layout.{boot_in}
 use Rattle.block_file.specs.Stored.{tag_of, home_of}
 use Rattle.block_file.specs.Blocks.{Stands, HasContent}
-use Rattle.block_file.specs.Held.{Held, no_held}
-use Rattle.block_file.specs.Opened.{IsOpen}
+use Rattle.block_file.specs.Opened.{IsOpen, held_of}
 use Rattle.block_file.proofs.Openings.{content_of, safe_of, open_set, volume_set}
-use Rattle.block_file.proofs.Raised.{raised, settled_stands, settled_holds, has_raised, raise_passes, open_raised, volume_raised}
+use Rattle.block_file.proofs.Raised.{raised, settled_stands, settled_holds, has_raised, raise_passes, open_raised, files_raised, volume_raised}
 use Rattle.block_file.proofs.opening.raise.Goals as goal
 
 pub returns-in-Failed-clause-tag : goal.returns-in-Failed-clause-tag
@@ -18,7 +17,7 @@ pub returns-in-Failed-clause-any_moment : goal.returns-in-Failed-clause-any_mome
 returns-in-Failed-clause-any_moment g c = λ told.
     let v = c.args.loaded.now in
     let homes : ℕ → ℕ = λ j. slice_index v.cells.homes.items j in
-    let held : ℕ → Held = λ j. slice_index_or v.held.items j no_held in
+    let newest : ℕ → List ℕ = λ j. slice_index_or v.cells.newest.items j [] in
     let tables : ℕ → List ℕ = λ j. slice_index_or v.cells.tables.items j [] in
     let s = present (g.D.Disk.timeline c.args.disk.now) in
     let loaded = c.requires.loaded in
@@ -30,7 +29,7 @@ returns-in-Failed-clause-any_moment g c = λ told.
     let content = content_of v.shape tables s.reads in
     let stands = settled_stands v.shape homes tables s (c.requires.settled told) (loaded.cells told) in
     let holds = settled_holds v.shape homes tables s (c.requires.settled told) (loaded.cells told) in
-    raise_passes g.D.Disk.Told (g.D.Disk.size c.args.disk.now) v.shape v.tag v.boot homes held tables s.reads loaded told (c.requires.clean told) holds table boot_is _ _ _ _
+    raise_passes g.D.Disk.Told (g.D.Disk.size c.args.disk.now) v.shape v.tag v.boot homes tables s.reads loaded told (c.requires.clean told) holds table boot_is _ _ _ _
     (c.put_table.ensures.any_moment told (safe_of homes tables s.reads) content content (sym home_is) stands (λ j b at. refl)
     (has_raised v.shape homes tables s.reads table))
 
@@ -42,7 +41,7 @@ pub returns-in-Done-clause-any_moment : goal.returns-in-Done-clause-any_moment
 returns-in-Done-clause-any_moment g c = λ told.
     let v = c.args.loaded.now in
     let homes : ℕ → ℕ = λ j. slice_index v.cells.homes.items j in
-    let held : ℕ → Held = λ j. slice_index_or v.held.items j no_held in
+    let newest : ℕ → List ℕ = λ j. slice_index_or v.cells.newest.items j [] in
     let tables : ℕ → List ℕ = λ j. slice_index_or v.cells.tables.items j [] in
     let s = present (g.D.Disk.timeline c.args.disk.now) in
     let loaded = c.requires.loaded in
@@ -54,7 +53,7 @@ returns-in-Done-clause-any_moment g c = λ told.
     let content = content_of v.shape tables s.reads in
     let stands = settled_stands v.shape homes tables s (c.requires.settled told) (loaded.cells told) in
     let holds = settled_holds v.shape homes tables s (c.requires.settled told) (loaded.cells told) in
-    raise_passes g.D.Disk.Told (g.D.Disk.size c.args.disk.now) v.shape v.tag v.boot homes held tables s.reads loaded told (c.requires.clean told) holds table boot_is _ _ _ _
+    raise_passes g.D.Disk.Told (g.D.Disk.size c.args.disk.now) v.shape v.tag v.boot homes tables s.reads loaded told (c.requires.clean told) holds table boot_is _ _ _ _
     (c.put_table.ensures.any_moment told (safe_of homes tables s.reads) content content (sym home_is) stands (λ j b at. refl)
     (has_raised v.shape homes tables s.reads table))
 
@@ -71,7 +70,7 @@ pub returns-in-Done-clause-opened : goal.returns-in-Done-clause-opened
 returns-in-Done-clause-opened g c = λ done.
     let v = c.args.loaded.now in
     let homes : ℕ → ℕ = λ j. slice_index v.cells.homes.items j in
-    let held : ℕ → Held = λ j. slice_index_or v.held.items j no_held in
+    let newest : ℕ → List ℕ = λ j. slice_index_or v.cells.newest.items j [] in
     let tables : ℕ → List ℕ = λ j. slice_index_or v.cells.tables.items j [] in
     let s = present (g.D.Disk.timeline c.args.disk.now) in
     let loaded = c.requires.loaded in
@@ -87,17 +86,17 @@ returns-in-Done-clause-opened g c = λ done.
     (settled_stands v.shape homes tables s (c.requires.settled told) (loaded.cells told)) in
     let has : g.D.Disk.Told → HasContent v.shape after.tables (content_of v.shape tables s.reads) later.reads =
     λ told. c.put_table.ensures.content told after.tables (content_of v.shape tables s.reads) (has_raised v.shape homes tables s.reads table) in
-    subst (λ (n : ℕ). IsOpen g.D.Disk.Told n later v.shape v.tag (v.boot + 1) 0 false 0 (λ j. slice_index (set v.cells.homes.items 0 c.put_table.new.home) j) held
+    subst (λ (n : ℕ). IsOpen g.D.Disk.Told n later v.shape v.tag (v.boot + 1) 0 false 0 (λ j. slice_index (set v.cells.homes.items 0 c.put_table.new.home) j) (held_of v.shape newest later.reads)
     (λ j. slice_index_or (set v.cells.tables.items 0 table) j [])) (sym c.put_table.ensures.size)
-    (open_set g.D.Disk.Told (g.D.Disk.size c.args.disk.now) later v.shape v.tag (v.boot + 1) 0 false 0 v.cells.homes.items held v.cells.tables.items 0 c.put_table.new.home table hlt tlt
+    (open_set g.D.Disk.Told (g.D.Disk.size c.args.disk.now) later v.shape v.tag (v.boot + 1) 0 false 0 v.cells.homes.items (held_of v.shape newest later.reads) v.cells.tables.items 0 c.put_table.new.home table hlt tlt
     (c.in-Done.ensures.turned refl ∙ ap (λ (h : ℕ). 1 - h) home_is)
-    (open_raised g.D.Disk.Told (g.D.Disk.size c.args.disk.now) v.shape v.tag v.boot homes held tables s.reads loaded table boot_is later there has c.requires.clean))
+    (open_raised g.D.Disk.Told (g.D.Disk.size c.args.disk.now) v.shape v.tag v.boot homes tables s.reads loaded table boot_is later there has (held_of v.shape newest later.reads) c.requires.clean))
 
 pub returns-in-Done-clause-volume : goal.returns-in-Done-clause-volume
 returns-in-Done-clause-volume g c = λ told done.
     let v = c.args.loaded.now in
     let homes : ℕ → ℕ = λ j. slice_index v.cells.homes.items j in
-    let held : ℕ → Held = λ j. slice_index_or v.held.items j no_held in
+    let newest : ℕ → List ℕ = λ j. slice_index_or v.cells.newest.items j [] in
     let tables : ℕ → List ℕ = λ j. slice_index_or v.cells.tables.items j [] in
     let s = present (g.D.Disk.timeline c.args.disk.now) in
     let loaded = c.requires.loaded in
@@ -113,6 +112,29 @@ returns-in-Done-clause-volume g c = λ told done.
     (settled_stands v.shape homes tables s (c.requires.settled told) (loaded.cells told)) in
     let has : g.D.Disk.Told → HasContent v.shape after.tables (content_of v.shape tables s.reads) later.reads =
     λ told. c.put_table.ensures.content told after.tables (content_of v.shape tables s.reads) (has_raised v.shape homes tables s.reads table) in
-    volume_set v.shape (v.boot + 1) 0 false 0 held v.cells.tables.items 0 table later.reads tlt
-    ∙ volume_raised g.D.Disk.Told (g.D.Disk.size c.args.disk.now) v.shape v.tag v.boot homes held tables s.reads loaded table boot_is later there has told
-    (settled_holds v.shape homes tables s (c.requires.settled told) (loaded.cells told)) (c.requires.clean told)
+    volume_set v.shape (v.boot + 1) 0 false 0 (held_of v.shape newest later.reads) v.cells.tables.items 0 table later.reads tlt
+    ∙ volume_raised g.D.Disk.Told (g.D.Disk.size c.args.disk.now) v.shape v.tag v.boot homes tables s.reads loaded table boot_is later there has
+    newest c.requires.lists.same told (settled_holds v.shape homes tables s (c.requires.settled told) (loaded.cells told)) (c.requires.clean told)
+
+pub returns-in-Done-clause-files : goal.returns-in-Done-clause-files
+returns-in-Done-clause-files g c = λ done.
+    let v = c.args.loaded.now in
+    let homes : ℕ → ℕ = λ j. slice_index v.cells.homes.items j in
+    let newest : ℕ → List ℕ = λ j. slice_index_or v.cells.newest.items j [] in
+    let tables : ℕ → List ℕ = λ j. slice_index_or v.cells.tables.items j [] in
+    let s = present (g.D.Disk.timeline c.args.disk.now) in
+    let loaded = c.requires.loaded in
+    let table = c.boot_block-table.result in
+    let hlt : 0 < length v.cells.homes.items = omega (arith, c.requires.lists.homes) in
+    let tlt : 0 < length v.cells.tables.items = omega (arith, c.requires.lists.tables) in
+    let home_is : c.index.result.now ≡ homes 0 = get_or_read v.cells.homes.items _ _ hlt c.index.ensures 0 in
+    let boot_is : boot_in table ≡ v.boot + 1 = c.boot_block-table.ensures in
+    let after = raised homes tables s.reads table in
+    let later = present (g.D.Disk.timeline c.put_table.new.disk) in
+    let there : g.D.Disk.Told → Stands v.shape after later =
+    λ told. c.in-Done.ensures.stands told refl (safe_of homes tables s.reads) (sym home_is)
+    (settled_stands v.shape homes tables s (c.requires.settled told) (loaded.cells told)) in
+    let has : g.D.Disk.Told → HasContent v.shape after.tables (content_of v.shape tables s.reads) later.reads =
+    λ told. c.put_table.ensures.content told after.tables (content_of v.shape tables s.reads) (has_raised v.shape homes tables s.reads table) in
+    files_raised g.D.Disk.Told (g.D.Disk.size c.args.disk.now) v.shape v.tag v.boot homes tables s.reads loaded table boot_is later there has
+    newest c.requires.lists.same c.requires.clean

@@ -1,6 +1,5 @@
 use Rattle.std.proofs.Common.{ℕ, List, [], slice_index, slice_index_or, sym}
 use Rattle.disk_model.specs.Elapsed.{contents}
-use Rattle.block_file.specs.Held.{Held, no_held}
 use Rattle.block_file.proofs.Raised.{reading_passes, opening_passes, loaded_same}
 use Rattle.block_file.proofs.opening.start.Goals as goal
 
@@ -12,9 +11,8 @@ pub raise-requires-clause-loaded : goal.raise-requires-clause-loaded
 raise-requires-clause-loaded g c =
     let v = c.in-Ok.loaded in
     let homes : ℕ → ℕ = λ j. slice_index v.cells.homes.items j in
-    let held : ℕ → Held = λ j. slice_index_or v.held.items j no_held in
     let tables : ℕ → List ℕ = λ j. slice_index_or v.cells.tables.items j [] in
-    loaded_same g.D.Disk.Told (g.D.Disk.size c.args.disk.now) (g.D.Disk.size c.load.new.disk) v.shape v.tag v.boot homes held tables
+    loaded_same g.D.Disk.Told (g.D.Disk.size c.args.disk.now) (g.D.Disk.size c.load.new.disk) v.shape v.tag v.boot homes tables
     (contents (g.D.Disk.timeline c.args.disk.now)) (contents (g.D.Disk.timeline c.load.new.disk)) (sym c.load.ensures.size) (λ told. sym (c.load.ensures.reads told))
     (rw c.in-Ok.is at c.in_ok-fault.ensures.loaded)
 

@@ -1,28 +1,187 @@
-use Rattle.std.proofs.Common.{ℕ, ◌≤◌, List, [], length, slice_index_or, sym, ◌∙◌, ap, arith}
+use Rattle.std.proofs.Common.{◌≡◌, ℕ, ◌*◌, ◌≤◌, false, List, [], length, slice_index, slice_index_or, refl, sym, ◌∙◌, ap, subst, arith}
 use Rattle.copy_model.specs.Volume.{File, bytes_at, file_at}
-use Rattle.disk_model.specs.Elapsed.{contents}
-use Rattle.block_file.specs.Held.{Held, no_held}
-use Rattle.block_file.specs.Opened.{Opened}
-use Rattle.block_file.proofs.Openings.{file_there, file_is}
+use Rattle.disk_model.specs.Disk.{DiskState}
+use Rattle.disk_model.specs.Elapsed.{Timeline, contents}
+use Rattle.block_file.specs.Layout.{size_in}
+use Rattle.block_file.specs.Held.{held_by}
+use Rattle.block_file.specs.Opened.{Opened, SameOpening, held_of, volume_at}
+use Rattle.block_file.proofs.Openings.{file_is, same_opening}
+use Rattle.block_file.proofs.Kept.{there_is, at_now, kept_same}
 use Rattle.block_file.proofs.volume.Volume.read.Goals as goal
 
-pub held_at-requires : goal.held_at-requires
-held_at-requires g c =
+pub table_at-newest-requires : goal.table_at-newest-requires
+table_at-newest-requires g c =
     let v = c.self.inside in
-    let held : ℕ → Held = λ j. slice_index_or v.held.items j no_held in
+    let t = g.D.Disk.timeline v.disk in
+    let file = c.args.file in
+    let some = c.requires.no_root in
+    let homes : ℕ → ℕ = λ j. slice_index v.homes.items j in
+    let newest : ℕ → List ℕ = λ j. slice_index_or v.newest.items j [] in
     let tables : ℕ → List ℕ = λ j. slice_index_or v.tables.items j [] in
-    let there : c.args.file ≤ v.shape.files = file_there v.shape v.boot v.writes v.broken v.doubt held tables (contents (g.D.Disk.timeline v.disk)) c.args.file (rw (← c.self.view_is) at c.requires.there) in
+    let image = (t.state v.moment).reads in
+    let there : file ≤ v.shape.files = there_is v.shape v.boot v.writes v.broken v.doubt newest tables image file (rw (← c.self.view_is) at c.requires.there) in
+    let kept = c.self.invariant.3 in
     omega (arith, there, c.self.invariant.2)
 
-pub returns-clause-bytes : goal.returns-clause-bytes
-returns-clause-bytes g c = λ told is.
+pub read_file-requires : goal.read_file-requires
+read_file-requires g c =
     let v = c.self.inside in
-    let held : ℕ → Held = λ j. slice_index_or v.held.items j no_held in
+    let t = g.D.Disk.timeline v.disk in
+    let file = c.args.file in
+    let some = c.requires.no_root in
+    let homes : ℕ → ℕ = λ j. slice_index v.homes.items j in
+    let newest : ℕ → List ℕ = λ j. slice_index_or v.newest.items j [] in
     let tables : ℕ → List ℕ = λ j. slice_index_or v.tables.items j [] in
-    let image = contents (g.D.Disk.timeline v.disk) in
-    let there : c.args.file ≤ v.shape.files = file_there v.shape v.boot v.writes v.broken v.doubt held tables image c.args.file (rw (← c.self.view_is) at c.requires.there) in
-    c.read.ensures
-    ∙ ap (λ (h : Held). bytes_at h.now c.args.off (length c.args.out.now)) c.held_at.ensures
-    ∙ sym (ap (λ (f : File). bytes_at f.now c.args.off (length c.args.out.now))
-    (ap (λ (w : Opened g.row.D.Denot). file_at w.volume c.args.file) (sym c.self.view_is)
-    ∙ file_is v.shape v.boot v.writes v.broken v.doubt held tables image c.args.file c.requires.no_root there))
+    let image = (t.state v.moment).reads in
+    let there : file ≤ v.shape.files = there_is v.shape v.boot v.writes v.broken v.doubt newest tables image file (rw (← c.self.view_is) at c.requires.there) in
+    let kept = c.self.invariant.3 in
+    record {
+      some = some;
+      there = there;
+      fits = subst (λ (l : List ℕ). size_in l ≤ v.shape.blocks * 4096) (sym c.table_at-newest.ensures) (kept.files.sizes file some there);
+      room = kept.opened.room;
+    }
+
+pub invariant_of-self : goal.invariant_of-self
+invariant_of-self g c =
+    let v = c.self.inside in
+    let t = g.D.Disk.timeline v.disk in
+    let file = c.args.file in
+    let some = c.requires.no_root in
+    let homes : ℕ → ℕ = λ j. slice_index v.homes.items j in
+    let newest : ℕ → List ℕ = λ j. slice_index_or v.newest.items j [] in
+    let tables : ℕ → List ℕ = λ j. slice_index_or v.tables.items j [] in
+    let image = (t.state v.moment).reads in
+    let there : file ≤ v.shape.files = there_is v.shape v.boot v.writes v.broken v.doubt newest tables image file (rw (← c.self.view_is) at c.requires.there) in
+    let kept = c.self.invariant.3 in
+    let later = g.D.Disk.timeline c.read_file.new.disk in
+    let same : g.D.Disk.Told → t ≡ later = λ told. sym (c.read_file.ensures.same told) in
+    let newest_is : c.table_at-newest.result ≡ newest file = c.table_at-newest.ensures in (
+      c.self.invariant.0,
+      c.self.invariant.1,
+      c.self.invariant.2,
+      kept_same g.D.Disk.Told (g.D.Disk.size v.disk) t v.moment v.shape v.tag v.boot v.writes v.broken v.doubt homes newest tables
+          (g.D.Disk.size c.read_file.new.disk) later (sym c.read_file.ensures.size) same kept,
+    )
+
+pub invariant_of-self-2 : goal.invariant_of-self-2
+invariant_of-self-2 g c =
+    let v = c.self.inside in
+    let t = g.D.Disk.timeline v.disk in
+    let file = c.args.file in
+    let some = c.requires.no_root in
+    let homes : ℕ → ℕ = λ j. slice_index v.homes.items j in
+    let newest : ℕ → List ℕ = λ j. slice_index_or v.newest.items j [] in
+    let tables : ℕ → List ℕ = λ j. slice_index_or v.tables.items j [] in
+    let image = (t.state v.moment).reads in
+    let there : file ≤ v.shape.files = there_is v.shape v.boot v.writes v.broken v.doubt newest tables image file (rw (← c.self.view_is) at c.requires.there) in
+    let kept = c.self.invariant.3 in
+    let later = g.D.Disk.timeline c.read_file.new.disk in
+    let same : g.D.Disk.Told → t ≡ later = λ told. sym (c.read_file.ensures.same told) in
+    let newest_is : c.table_at-newest.result ≡ newest file = c.table_at-newest.ensures in (
+      c.self.invariant.0,
+      c.self.invariant.1,
+      c.self.invariant.2,
+      kept_same g.D.Disk.Told (g.D.Disk.size v.disk) t v.moment v.shape v.tag v.boot v.writes v.broken v.doubt homes newest tables
+          (g.D.Disk.size c.read_file.new.disk) later (sym c.read_file.ensures.size) same kept,
+    )
+
+pub returns-in-Failed-clause-volume : goal.returns-in-Failed-clause-volume
+returns-in-Failed-clause-volume g c = λ told.
+    let v = c.self.inside in
+    let t = g.D.Disk.timeline v.disk in
+    let file = c.args.file in
+    let some = c.requires.no_root in
+    let homes : ℕ → ℕ = λ j. slice_index v.homes.items j in
+    let newest : ℕ → List ℕ = λ j. slice_index_or v.newest.items j [] in
+    let tables : ℕ → List ℕ = λ j. slice_index_or v.tables.items j [] in
+    let image = (t.state v.moment).reads in
+    let there : file ≤ v.shape.files = there_is v.shape v.boot v.writes v.broken v.doubt newest tables image file (rw (← c.self.view_is) at c.requires.there) in
+    let kept = c.self.invariant.3 in
+    let later = g.D.Disk.timeline c.read_file.new.disk in
+    let same : g.D.Disk.Told → t ≡ later = λ told. sym (c.read_file.ensures.same told) in
+    let newest_is : c.table_at-newest.result ≡ newest file = c.table_at-newest.ensures in
+    subst (λ (w : Opened g.row.D.Denot). volume_at v.shape v.boot v.writes v.broken v.doubt newest tables (later.state v.moment).reads ≡ w.volume) c.self.view_is
+    (ap (λ (x : Timeline). volume_at v.shape v.boot v.writes v.broken v.doubt newest tables (x.state v.moment).reads) (c.read_file.ensures.same told))
+
+pub returns-in-Failed-clause-opening : goal.returns-in-Failed-clause-opening
+returns-in-Failed-clause-opening g c =
+    let v = c.self.inside in
+    let t = g.D.Disk.timeline v.disk in
+    let file = c.args.file in
+    let some = c.requires.no_root in
+    let homes : ℕ → ℕ = λ j. slice_index v.homes.items j in
+    let newest : ℕ → List ℕ = λ j. slice_index_or v.newest.items j [] in
+    let tables : ℕ → List ℕ = λ j. slice_index_or v.tables.items j [] in
+    let image = (t.state v.moment).reads in
+    let there : file ≤ v.shape.files = there_is v.shape v.boot v.writes v.broken v.doubt newest tables image file (rw (← c.self.view_is) at c.requires.there) in
+    let kept = c.self.invariant.3 in
+    let later = g.D.Disk.timeline c.read_file.new.disk in
+    let same : g.D.Disk.Told → t ≡ later = λ told. sym (c.read_file.ensures.same told) in
+    let newest_is : c.table_at-newest.result ≡ newest file = c.table_at-newest.ensures in
+    let after = (later.state v.moment).reads in
+    subst (λ (w : Opened g.row.D.Denot). SameOpening w.volume (volume_at v.shape v.boot v.writes v.broken v.doubt newest tables after)) c.self.view_is
+    (same_opening v.shape v.boot v.writes v.writes v.broken v.broken v.doubt v.doubt (held_of v.shape newest image) (held_of v.shape newest after) tables tables image after)
+
+pub returns-clause-volume : goal.returns-clause-volume
+returns-clause-volume g c = λ told.
+    let v = c.self.inside in
+    let t = g.D.Disk.timeline v.disk in
+    let file = c.args.file in
+    let some = c.requires.no_root in
+    let homes : ℕ → ℕ = λ j. slice_index v.homes.items j in
+    let newest : ℕ → List ℕ = λ j. slice_index_or v.newest.items j [] in
+    let tables : ℕ → List ℕ = λ j. slice_index_or v.tables.items j [] in
+    let image = (t.state v.moment).reads in
+    let there : file ≤ v.shape.files = there_is v.shape v.boot v.writes v.broken v.doubt newest tables image file (rw (← c.self.view_is) at c.requires.there) in
+    let kept = c.self.invariant.3 in
+    let later = g.D.Disk.timeline c.read_file.new.disk in
+    let same : g.D.Disk.Told → t ≡ later = λ told. sym (c.read_file.ensures.same told) in
+    let newest_is : c.table_at-newest.result ≡ newest file = c.table_at-newest.ensures in
+    subst (λ (w : Opened g.row.D.Denot). volume_at v.shape v.boot v.writes v.broken v.doubt newest tables (later.state v.moment).reads ≡ w.volume) c.self.view_is
+    (ap (λ (x : Timeline). volume_at v.shape v.boot v.writes v.broken v.doubt newest tables (x.state v.moment).reads) (c.read_file.ensures.same told))
+
+pub returns-clause-opening : goal.returns-clause-opening
+returns-clause-opening g c =
+    let v = c.self.inside in
+    let t = g.D.Disk.timeline v.disk in
+    let file = c.args.file in
+    let some = c.requires.no_root in
+    let homes : ℕ → ℕ = λ j. slice_index v.homes.items j in
+    let newest : ℕ → List ℕ = λ j. slice_index_or v.newest.items j [] in
+    let tables : ℕ → List ℕ = λ j. slice_index_or v.tables.items j [] in
+    let image = (t.state v.moment).reads in
+    let there : file ≤ v.shape.files = there_is v.shape v.boot v.writes v.broken v.doubt newest tables image file (rw (← c.self.view_is) at c.requires.there) in
+    let kept = c.self.invariant.3 in
+    let later = g.D.Disk.timeline c.read_file.new.disk in
+    let same : g.D.Disk.Told → t ≡ later = λ told. sym (c.read_file.ensures.same told) in
+    let newest_is : c.table_at-newest.result ≡ newest file = c.table_at-newest.ensures in
+    let after = (later.state v.moment).reads in
+    subst (λ (w : Opened g.row.D.Denot). SameOpening w.volume (volume_at v.shape v.boot v.writes v.broken v.doubt newest tables after)) c.self.view_is
+    (same_opening v.shape v.boot v.writes v.writes v.broken v.broken v.doubt v.doubt (held_of v.shape newest image) (held_of v.shape newest after) tables tables image after)
+
+pub returns-clause-bytes : goal.returns-clause-bytes
+returns-clause-bytes g c = λ told ok.
+    let v = c.self.inside in
+    let t = g.D.Disk.timeline v.disk in
+    let file = c.args.file in
+    let some = c.requires.no_root in
+    let homes : ℕ → ℕ = λ j. slice_index v.homes.items j in
+    let newest : ℕ → List ℕ = λ j. slice_index_or v.newest.items j [] in
+    let tables : ℕ → List ℕ = λ j. slice_index_or v.tables.items j [] in
+    let image = (t.state v.moment).reads in
+    let there : file ≤ v.shape.files = there_is v.shape v.boot v.writes v.broken v.doubt newest tables image file (rw (← c.self.view_is) at c.requires.there) in
+    let kept = c.self.invariant.3 in
+    let later = g.D.Disk.timeline c.read_file.new.disk in
+    let same : g.D.Disk.Told → t ≡ later = λ told. sym (c.read_file.ensures.same told) in
+    let newest_is : c.table_at-newest.result ≡ newest file = c.table_at-newest.ensures in
+    let broken_is : c.is_broken.result ≡ v.broken = c.is_broken.ensures.broken ∙ sym (ap (λ (w : Opened g.row.D.Denot). w.volume.broken) c.self.view_is) in
+    let whole : v.broken ≡ false = sym broken_is ∙ c.if-is_broken.false in
+    let now = at_now g.D.Disk.Told (g.D.Disk.size v.disk) t v.moment v.shape v.tag v.boot v.writes v.broken v.doubt homes newest tables kept whole told in
+    let len = length c.args.out.now in
+    subst (λ (w : Opened g.row.D.Denot). c.read_file.new.out ≡ bytes_at (file_at w.volume file).now c.args.off len) c.self.view_is
+    (c.in-Done.ensures.bytes told refl
+    ∙ ap (λ (l : List ℕ). bytes_at (held_by v.shape l (contents t) file).now c.args.off len) newest_is
+    ∙ ap (λ (s : DiskState). bytes_at (held_by v.shape (newest file) s.reads file).now c.args.off len) (sym now)
+    ∙ sym (ap (λ (f : File). bytes_at f.now c.args.off len)
+    (file_is v.shape v.boot v.writes v.broken v.doubt (held_of v.shape newest image) tables image file some there)))
