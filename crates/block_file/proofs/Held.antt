@@ -1,5 +1,5 @@
--- Bytes in a room of a fixed length, with zeros past those in use.
-use Rattle.std.proofs.Common.{◌≡◌, ℕ, ◌+◌, ◌-◌, ◌≤◌, max, List, ◌++◌, length, take, drop, replicate, sym, ◌∙◌, ap, arith, length-append, length-drop}
+-- Bytes written in blocks of a fixed length, with zeros past those in use.
+use Rattle.std.proofs.Common.{◌≡◌, ℕ, ◌+◌, ◌-◌, ◌≤◌, max, List, ◌++◌, length, take, drop, replicate, sym, ◌∙◌, ap, arith}
 use Rattle.std.proofs.Math.Seq.{take-append-add, drop-append-add}
 use Rattle.std.proofs.lemmas.List.{take-append-drop, take-take, drop-take, drop-drop, drop-replicate, length-take-le, take-replicate}
 use Rattle.copy_model.specs.Volume.{with_bytes_at}
@@ -52,15 +52,6 @@ module _ (bytes part : List ℕ) (size off : ℕ) (within : size ≤ length byte
       ∙ ap (λ (l : List ℕ). l ++ (part ++ drop (off + length part) (take end bytes))) left
       ∙ ap (λ (l : List ℕ). take off l ++ (part ++ drop (off + length part) l)) padded
       ∙ with_bytes_at-padded (take size bytes) part off
-
-  pub write_len : length (take off bytes ++ (part ++ drop (off + length part) bytes)) ≡ length bytes
-  write_len =
-      let e = off_len in
-      let a : length (take off bytes ++ (part ++ drop (off + length part) bytes)) ≡ length (take off bytes) + length (part ++ drop (off + length part) bytes)
-      = length-append (take off bytes) (part ++ drop (off + length part) bytes) in
-      let b : length (part ++ drop (off + length part) bytes) ≡ length part + length (drop (off + length part) bytes) = length-append part (drop (off + length part) bytes) in
-      let d : length (drop (off + length part) bytes) ≡ length bytes - (off + length part) = length-drop (off + length part) bytes in
-      omega arith
 
   pub write_zeros : drop (max size (off + length part)) (take off bytes ++ (part ++ drop (off + length part) bytes))
       ≡ replicate (length bytes - max size (off + length part)) 0

@@ -1,7 +1,6 @@
 -- Lists as they are read, one item after the other.
-use Rattle.std.proofs.Common.{◌≡◌, ℕ, zero, suc, ◌+◌, ◌-◌, ◌<◌, ◌≤◌, if◌then◌else◌, nat_lt, Bool, None, Some, List, [], ◌∷◌, ◌++◌, length, get_or, sym, ◌∙◌, ap, subst, arith, inl, inr, append-nil, append_assoc}
+use Rattle.std.proofs.Common.{◌≡◌, ℕ, zero, suc, ◌+◌, ◌-◌, ◌<◌, ◌≤◌, if◌then◌else◌, nat_lt, Bool, None, Some, List, ◌++◌, sym, ◌∙◌, ap, subst, arith, inl, inr, append-nil, append_assoc}
 use Rattle.std.proofs.lemmas.Bool.{cases_eq, cases_lt, lt-ltb, le-ltb}
-use Rattle.std.proofs.lemmas.List.{get_or_at, get_or_append_left}
 use Rattle.block_file.specs.Layout.{size_in}
 use Rattle.block_file.specs.Lists.{joined}
 use Rattle.block_file.specs.Stored.{first_oversized}
@@ -12,15 +11,6 @@ joined-push zero f = append-nil (f 0)
 joined-push (suc n) f =
     ap (λ (l : List ℕ). f 0 ++ l) (joined-push n (λ j. f (suc j)))
     ∙ sym (append_assoc (f 0) (joined n (λ j. f (suc j))) (f (suc n)))
-
--- one item more
-pub push_by : {A : Type 0} (l : List A) (x d : A) (low n : ℕ) (P : ℕ → A → Type 0) → length l ≡ n
-    → ((j : ℕ) → low ≤ j → j < n → P j (get_or l j d)) → P n x
-    → (j : ℕ) → low ≤ j → j < n + 1 → P j (get_or (l ++ x ∷ []) j d)
-push_by {A} l x d low n P len had has j from lt = elim (cases_eq j n) [
-  | inl e ↦ subst (λ (y : A). P j y) (sym (get_or_at l x [] d j (len ∙ sym e))) (subst (λ (k : ℕ). P k x) (sym e) has)
-  | inr ne ↦ subst (λ (y : A). P j y) (sym (get_or_append_left l (x ∷ []) d j (omega arith))) (had j from (omega arith))
-]
 
 -- the first of the files from number j on that is too large
 pub oversized_step : (capacity : ℕ) (tables : ℕ → List ℕ) (j n : ℕ) → j < n

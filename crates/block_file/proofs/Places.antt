@@ -80,14 +80,7 @@ cell_outside j i ne = elim (cases_lt i j) [
 pub home_outside : (j i h : ℕ) → i ≢ j → h ≤ 1 → Outside (cell_at j) (cell_at i + 1 + h)
 home_outside j i h ne le = elim (cases_lt i j) [ inl lt ↦ inl (omega arith) | inr ge ↦ inr (omega arith) ]
 
--- two blocks of a file are written to two places
-pub next_apart : (shape : Shape) (table : List ℕ) (j b c : ℕ) → InShape shape j b → InShape shape j c → b ≢ c
-    → next_place shape table j b ≢ next_place shape table j c
-next_apart shape table j b c at other ne same =
-    let one = same_place shape.files shape.blocks j b (1 - home_in table b) j c (1 - home_in table c) at.some other.some at.block other.block (omega arith) (omega arith) same in
-    ne one.1
-
--- and no other block is in the place where a block is written next
+-- no other block is in the place where a block is written next
 pub other_apart : (shape : Shape) (table : List ℕ) (j b i c h : ℕ) → InShape shape j b → InShape shape i c → h ≤ 1 → (i ≡ j → c ≡ b → ⊥)
     → data_at shape.files shape.blocks i c h ≢ next_place shape table j b
 other_apart shape table j b i c h at other le ne same =

@@ -1,5 +1,5 @@
 -- What stays safe of a volume's blocks over a write of a block and a put of a table.
-use Rattle.std.proofs.Common.{◌≡◌, ◌≢◌, ℕ, ◌+◌, ◌-◌, ◌<◌, ◌≤◌, ◌==◌, Bool, if◌then◌else◌, List, ◌⊎◌, inl, inr, sym, ◌∙◌, ap, subst, arith}
+use Rattle.std.proofs.Common.{◌≡◌, ◌≢◌, ℕ, ◌+◌, ◌-◌, ◌≤◌, ◌==◌, Bool, if◌then◌else◌, List, ◌⊎◌, inl, inr, sym, ◌∙◌, ap, subst, arith}
 use Rattle.std.proofs.lemmas.Bool.{cases_eq, eq-eqb, ne_eqb}
 use Rattle.disk_model.specs.declared.disk.Io.{Io}
 use Rattle.disk_model.specs.declared.fuse.Fuse.{Fuse}
@@ -8,8 +8,8 @@ use Rattle.disk_model.specs.Elapsed.{Timeline, present, contents, Elapses}
 use Rattle.disk_model.specs.Passes.{Passes, passes_one, passes_only}
 use Rattle.block_file.specs.declared.shape.Shape.{Shape}
 use Rattle.block_file.specs.Cell.{gate_of, cell_of, IsCell, IsBefore, IsAfter, OldOrNew, Keeps}
-use Rattle.block_file.specs.Layout.{cell_at, data_at, home_in, table_of}
-use Rattle.block_file.specs.Blocks.{Safe, place_of, next_place, InShape, HasContent, Stands, Holds, with_table, piece_of, with_bytes}
+use Rattle.block_file.specs.Layout.{cell_at, home_in, table_of}
+use Rattle.block_file.specs.Blocks.{Safe, place_of, next_place, InShape, HasContent, Stands, Holds, with_table}
 use Rattle.block_file.proofs.Places.{in_force_apart, data_apart, data_outside, home_outside, cell_outside}
 
 -- a choice by a number
@@ -225,21 +225,3 @@ stands_put_at shape safe table j home at turned old new e t le is stands keeps c
 pub is_cell_at : (s : DiskState) (j at home other : ℕ) → at ≡ cell_at j → other ≡ home → IsCell s (cell_at j) other → IsCell s at home
 is_cell_at s j at home other e h cell =
     subst (λ (a : ℕ). IsCell s a home) (sym e) (subst (λ (k : ℕ). IsCell s (cell_at j) k) h cell)
-
--- once all bytes of a file are in the other homes, they are the blocks by a table that names these
-pub content_turned : (shape : Shape) (safe : Safe) (content : ℕ → ℕ → List ℕ) (old table bytes : List ℕ) (j : ℕ) (image : Image)
-    → safe.tables j ≡ old → ((b : ℕ) → b < shape.blocks → home_in table b ≡ 1 - home_in old b)
-    → HasContent shape safe.tables content image
-    → ((b : ℕ) → b < shape.blocks → image (next_place shape old j b) ≡ piece_of bytes b)
-    → HasContent shape (with_table safe j table).tables (with_bytes content j bytes) image
-content_turned shape safe content old table bytes j image is turned has written = λ i b at. elim (cases_eq i j) [
-  | inl e ↦
-      let named : home_in ((with_table safe j table).tables i) b ≡ 1 - home_in old b =
-      ap (λ (t : List ℕ). home_in t b) (pick_same i j table (safe.tables i) e) ∙ turned b at.block in
-      ap (λ (h : ℕ). image (data_at shape.files shape.blocks i b h)) named
-      ∙ ap (λ (k : ℕ). image (data_at shape.files shape.blocks k b (1 - home_in old b))) e
-      ∙ written b at.block ∙ sym (pick_same i j (piece_of bytes b) (content i b) e)
-  | inr ne ↦
-      ap (λ (t : List ℕ). image (place_of shape t i b)) (pick_other i j table (safe.tables i) ne)
-      ∙ has i b at ∙ sym (pick_other i j (piece_of bytes b) (content i b) ne)
-]

@@ -1,9 +1,10 @@
-//! Formats a file as a volume of so many files of so many blocks, writes one byte at the last place of the
-//! last file, commits it, opens the volume anew and reads the byte back. `bench/volume.py` times it. The words
-//! are the number of files and the number of blocks of each.
+//! Works on a volume of so many files of so many blocks in a file among the temporary ones, as `bench/volume.py`
+//! times it. The words are a work and these two numbers. `make` formats the volume; `fill` writes all of the last
+//! file in pieces and commits it; `read` reads it back in such pieces; `touch` writes one byte at its last place
+//! and commits it; `all` does these in turn, and removes the file.
 #![tactic(auto)]
 
-ghost use Rattle.std.specs.Prelude.{◌≡◌, ◌+◌, ◌≤◌, length};
+ghost use Rattle.std.specs.Prelude.{◌≡◌, ◌+◌, ◌*◌, ◌≤◌, length};
 
 use anyhow::{Context, Result, bail};
 use block_file::Volume;
@@ -11,12 +12,15 @@ use disk_model::FileDisk;
 use nfs_base::{MOST_BLOCKS, MOST_FILES};
 use std::alloc::Global;
 use std::env;
-use std::fs::{self, OpenOptions};
+use std::fs::{self, File, OpenOptions};
 
 // The byte that is written.
-const BYTE: [u8; 1] = [171];
+const BYTE: u8 = 171;
 
 const BLOCK_BYTES: u64 = 4096;
+
+// How many bytes one write or read is of.
+const PIECE: u64 = 65_536;
 
 // A number from 1 to so many.
 fn number(word: Option<String>, most: u32) -> u32
@@ -30,6 +34,13 @@ fn number(word: Option<String>, most: u32) -> u32
     }
 }
 
+// The disk of a volume of so many blocks.
+fn disk(file: File, slots: u64, files: u64) -> FileDisk
+    requires { 4 + 3 * files + 2 * slots ≤ 100000 }
+{
+    FileDisk::new(file, (4 + 3 * files + 2 * slots) * BLOCK_BYTES)
+}
+
 // Opens a volume.
 fn open(alloc: Global, disk: FileDisk) -> Result<Volume<FileDisk>> {
     match Volume::open(alloc, disk)? {
@@ -38,50 +49,96 @@ fn open(alloc: Global, disk: FileDisk) -> Result<Volume<FileDisk>> {
     }
 }
 
-// Writes the byte at the last place of the last file, and commits it.
-fn write_last(alloc: Global, disk: FileDisk) -> Result<FileDisk> {
-    let mut volume = open(alloc, disk)?;
+// Writes all bytes of the last file, and commits it.
+fn fill(alloc: Global, volume: &mut Volume<FileDisk>, blocks: u32) -> Result<()>
+    requires { blocks ≤ MOST_BLOCKS }
+{
+    let piece = vec![in alloc; BYTE; PIECE as usize]?;
+    let end = u64::from(blocks) * BLOCK_BYTES;
+    for number in 0..u64::from(blocks) / 16 + 1 {
+        let off = number * PIECE;
+        if off < end {
+            let file = volume.files();
+            volume.write(file, off, &piece[..(end - off).min(PIECE) as usize])?;
+        }
+    }
     let file = volume.files();
-    let place = volume.capacity() - 1;
-    volume.write(file, place, &BYTE)?;
     volume.commit(file)?;
-    Ok(volume.hand_back())
+    Ok(())
 }
 
-// Reads the byte at the last place of the last file.
-fn read_last(alloc: Global, disk: FileDisk) -> Result<u8> {
-    let mut volume = open(alloc, disk)?;
+// Reads all bytes of the last file. The last one is answered.
+fn read(alloc: Global, volume: &mut Volume<FileDisk>, blocks: u32) -> Result<u8>
+    requires { blocks ≤ MOST_BLOCKS }
+{
+    let mut piece = vec![in alloc; 0; PIECE as usize]?;
+    let end = u64::from(blocks) * BLOCK_BYTES;
+    let mut last = 0;
+    for number in 0..u64::from(blocks) / 16 + 1 {
+        let off = number * PIECE;
+        if off < end {
+            let len = (end - off).min(PIECE) as usize;
+            let file = volume.files();
+            volume.read(file, off, &mut piece[..len])?;
+            last = piece[len - 1];
+        }
+    }
+    Ok(last)
+}
+
+// Writes one byte at the last place of the last file, and commits it.
+fn touch(volume: &mut Volume<FileDisk>, blocks: u32) -> Result<()>
+    requires some { 1 ≤ blocks }
+    requires few { blocks ≤ MOST_BLOCKS }
+{
     let file = volume.files();
-    let place = volume.capacity() - 1;
-    let mut byte = [0];
-    volume.read(file, place, &mut byte)?;
-    Ok(byte[0])
+    volume.write(file, u64::from(blocks) * BLOCK_BYTES - 1, &[BYTE])?;
+    let file = volume.files();
+    volume.commit(file)?;
+    Ok(())
 }
 
 fn main(rt: HostRuntime) -> Result<()> {
     let mut words = env::args(&rt)?.skip(1);
+    let work = words.next().context("no work is named")?;
     let files = number(words.next(), MOST_FILES);
     let blocks = number(words.next(), MOST_BLOCKS);
     let slots = files.checked_mul(blocks).context("too many blocks")?;
     if slots > MOST_BLOCKS {
         bail!("too many blocks");
     }
-    let len = (4 + 3 * u64::from(files) + 2 * u64::from(slots)) * BLOCK_BYTES;
+    let all = work.as_str() == "all";
+    let makes = all || work.as_str() == "make";
     let path = env::temp_dir(&rt)?.join(rt.alloc(), "nfscopy-volume-bench")?;
     let file = OpenOptions::new()
         .read(true)
         .write(true)
-        .create(true)
-        .truncate(true)
+        .create(makes)
+        .truncate(makes)
         .open(&rt, &path)?;
-    file.set_len(len)?;
-    let disk = match Volume::format(FileDisk::new(file, len), files, blocks, 1)? {
-        Ok(disk) => disk,
-        Err((_disk, fault)) => bail!("{fault}"),
-    };
-    let disk = write_last(rt.alloc(), disk)?;
-    let byte = read_last(rt.alloc(), disk)?;
-    fs::remove_file(&rt, &path)?;
-    println!(rt; "read {byte}")?;
+    let mut disk = disk(file, u64::from(slots), u64::from(files));
+    if makes {
+        disk = match Volume::format(disk, files, blocks, 1)? {
+            Ok(disk) => disk,
+            Err((_disk, fault)) => bail!("{fault}"),
+        };
+    }
+    if work.as_str() == "make" {
+        return Ok(());
+    }
+    let mut volume = open(rt.alloc(), disk)?;
+    if all || work.as_str() == "fill" {
+        fill(rt.alloc(), &mut volume, blocks)?;
+    }
+    if all || work.as_str() == "touch" {
+        touch(&mut volume, blocks)?;
+    }
+    if all || work.as_str() == "read" {
+        let byte = read(rt.alloc(), &mut volume, blocks)?;
+        println!(rt; "read {byte}")?;
+    }
+    if all {
+        fs::remove_file(&rt, &path)?;
+    }
     Ok(())
 }

@@ -1,66 +1,124 @@
 use crate::answer::{DiskPlan, FIRST_COPY, FIRST_COPY_PUT, GOOD_DISK, NO_FAULTS, ask_disks};
 use std::test::Fail;
 
-// The lines of the copy up to its commit, whose first call failed or a later one.
+// What is put where a call of the source's disk fails: of the write, or of the fetch.
+const WRITE_FAILED: &str =
+    "refused s 1 5\naccepted 1.1 1 0 10\nstopped 1.1 disk\nfailed 1 5\nbytes d 1 0 00000000000000000000\nend 0\n";
+const FETCH_FAILED: &str =
+    "written s 1 10\naccepted 1.1 1 0 10\nsized 1.1 10\nstopped 1.1 disk\nfailed 1 5\nbytes d 1 0 00000000000000000000\nend 0\n";
+
+// What is put where a call of the destination's disk fails: of the landing, of the commit, or of what is shown.
+const LANDING_FAILED: &str =
+    "written s 1 10\naccepted 1.1 1 0 10\nsized 1.1 10\nstopped 1.1 disk\nfailed 1 5\nend 0\n";
 const COMMIT_FAILED: &str =
     "written s 1 10\naccepted 1.1 1 0 10\nsized 1.1 10\nlanded 1.1 0 10\ncopied 1 10\nstopped 1.1 disk\nfailed 1 5\nend 0\n";
+const PEEK_FAILED: &str =
+    "written s 1 10\naccepted 1.1 1 0 10\nsized 1.1 10\nlanded 1.1 0 10\ncopied 1 10\ncommitted 1.1\nstable 1\nend 0\n";
 
 // A volume of one file of one block is made by so many calls: zeros for the block, and for the gate and one home
-// of both cells, a sync, block 0, a sync; then a sync, block 0, the gate and the home of both cells, the block,
-// and four calls for the next boot number.
-const MAKING: u64 = 8 + 11;
+// of both cells, a sync, block 0, a sync; then a sync, block 0, the gate and the home of both cells, and four
+// calls for the next boot number.
+const MAKING: u64 = 8 + 10;
 
-#[test]
-fn source_fails(rt: HostRuntime) -> Result<(), Fail> {
-    let mut whole = false;
-    for call in 1..100 {
-        let source = DiskPlan {
-            blocks: 9,
-            fails: call,
-        };
-        let text = Vec::from_slice(rt.alloc(), FIRST_COPY.as_bytes())?;
-        let answer = ask_disks(rt.alloc(), &["run"], text, NO_FAULTS, source, GOOD_DISK)?;
-        let calls = answer.source_calls.ok_or("the disk is handed back")?;
-        if calls < call {
-            answer.check(&rt, "no call failed", 0, FIRST_COPY_PUT);
-            whole = true;
-            break;
+// A write of a part of a block reads the block and writes it.
+const WRITING: u64 = 2;
+
+// A read of one block, and a commit of any size.
+const READING: u64 = 1;
+const COMMITTING: u64 = 4;
+
+// What a failing call has the program answer: so many calls in a row end with this status and put this text.
+struct Stage {
+    calls: u64,
+    status: u8,
+    put: &'static str,
+}
+
+// Each call of one of the disks fails in turn, one past the last too.
+fn check_stages(rt: &HostRuntime, at_source: bool, stages: &[Stage]) -> Result<(), Fail> {
+    let mut call: u64 = 0;
+    let mut counted = None;
+    for stage in stages {
+        for _number in 0..stage.calls {
+            call = call.saturating_add(1);
+            let failing = DiskPlan {
+                blocks: 9,
+                fails: call,
+            };
+            let (source, dest) = if at_source {
+                (failing, GOOD_DISK)
+            } else {
+                (GOOD_DISK, failing)
+            };
+            let text = Vec::from_slice(rt.alloc(), FIRST_COPY.as_bytes())?;
+            let answer = ask_disks(rt.alloc(), &["run"], text, NO_FAULTS, source, dest)?;
+            answer.check(rt, "a call failed", stage.status, stage.put);
+            counted = if at_source {
+                answer.source_calls
+            } else {
+                answer.dest_calls
+            };
         }
-        answer.check(&rt, "a call failed before the volume was open", 6, "");
     }
-    assert!(rt; whole);
+    assert_eq!(rt; counted, call.checked_sub(1), "the last number is that of no call");
     Ok(())
 }
 
 #[test]
+fn source_fails(rt: HostRuntime) -> Result<(), Fail> {
+    let stages = [
+        Stage {
+            calls: MAKING,
+            status: 6,
+            put: "",
+        },
+        Stage {
+            calls: WRITING,
+            status: 0,
+            put: WRITE_FAILED,
+        },
+        Stage {
+            calls: READING,
+            status: 0,
+            put: FETCH_FAILED,
+        },
+        Stage {
+            calls: 1,
+            status: 0,
+            put: FIRST_COPY_PUT,
+        },
+    ];
+    check_stages(&rt, true, &stages)
+}
+
+#[test]
 fn destination_fails(rt: HostRuntime) -> Result<(), Fail> {
-    let mut opening: u64 = 0;
-    let mut commit: u64 = 0;
-    let mut whole = false;
-    for call in 1..100 {
-        let dest = DiskPlan {
-            blocks: 9,
-            fails: call,
-        };
-        let text = Vec::from_slice(rt.alloc(), FIRST_COPY.as_bytes())?;
-        let answer = ask_disks(rt.alloc(), &["run"], text, NO_FAULTS, GOOD_DISK, dest)?;
-        let calls = answer.dest_calls.ok_or("the disk is handed back")?;
-        if calls < call {
-            answer.check(&rt, "no call failed", 0, FIRST_COPY_PUT);
-            whole = true;
-            break;
-        }
-        if answer.status == 6 {
-            answer.check(&rt, "a call failed before the volume was open", 6, "");
-            assert_eq!(rt; commit, 0, "the volume is opened before it is used");
-            opening = opening.saturating_add(1);
-        } else {
-            answer.check(&rt, "a call of the commit failed", 0, COMMIT_FAILED);
-            commit = commit.saturating_add(1);
-        }
-    }
-    assert!(rt; whole);
-    assert_eq!(rt; opening, MAKING);
-    assert_eq!(rt; commit, 5, "the block, and the four calls of the table");
-    Ok(())
+    let stages = [
+        Stage {
+            calls: MAKING,
+            status: 6,
+            put: "",
+        },
+        Stage {
+            calls: WRITING,
+            status: 0,
+            put: LANDING_FAILED,
+        },
+        Stage {
+            calls: COMMITTING,
+            status: 0,
+            put: COMMIT_FAILED,
+        },
+        Stage {
+            calls: READING,
+            status: 0,
+            put: PEEK_FAILED,
+        },
+        Stage {
+            calls: 1,
+            status: 0,
+            put: FIRST_COPY_PUT,
+        },
+    ];
+    check_stages(&rt, false, &stages)
 }
