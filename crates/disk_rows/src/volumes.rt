@@ -11,13 +11,7 @@ const CALLS: usize = 3;
 
 // What the disk of a new volume of one file has counted after so many calls of it: a write of these bytes, a
 // commit, and a read of one byte.
-fn counted(
-    alloc: Global,
-    blocks: u32,
-    off: u64,
-    bytes: &[u8],
-    calls: usize,
-) -> Result<Counts, Fail>
+fn counted(alloc: Global, blocks: u32, off: u64, bytes: &[u8], calls: usize) -> Result<Counts, Fail>
     requires some { 1 ≤ blocks }
     requires few { blocks ≤ 16384 }
 {
@@ -63,11 +57,20 @@ fn a_call_of_a_file_costs_what_it_touches(rt: HostRuntime) -> Result<(), Fail> {
         let bytes = [b'a'; 10];
         let fresh = counted(rt.alloc(), blocks, off, &bytes[..len], 0)?;
         let written = more(fresh, touched, touched, 0);
-        assert_eq!(rt; counted(rt.alloc(), blocks, off, &bytes[..len], 1)?, written);
+        assert_eq!(rt;
+            counted(rt.alloc(), blocks, off, &bytes[..len], 1)?,
+            written
+        );
         let committed = more(written, 0, 2, 2);
-        assert_eq!(rt; counted(rt.alloc(), blocks, off, &bytes[..len], 2)?, committed);
+        assert_eq!(rt;
+            counted(rt.alloc(), blocks, off, &bytes[..len], 2)?,
+            committed
+        );
         let read = more(committed, 1, 0, 0);
-        assert_eq!(rt; counted(rt.alloc(), blocks, off, &bytes[..len], CALLS)?, read);
+        assert_eq!(rt;
+            counted(rt.alloc(), blocks, off, &bytes[..len], CALLS)?,
+            read
+        );
     }
     Ok(())
 }
@@ -100,7 +103,10 @@ fn a_failed_read_breaks_nothing(rt: HostRuntime) -> Result<(), Fail> {
         let mut volume = opened(rt.alloc(), disk)?;
         let mut bytes = [0xee; 6];
         assert_eq!(rt; volume.write(1, 4094, b"abcd"), Ok(()));
-        assert_eq!(rt; volume.read(1, 4094, &mut bytes), Err(ReadFault::DiskFailed));
+        assert_eq!(rt;
+            volume.read(1, 4094, &mut bytes),
+            Err(ReadFault::DiskFailed)
+        );
         assert_eq!(rt; volume.read(1, 4094, &mut bytes), Ok(()));
         assert_eq!(rt; &bytes, b"abcd\0\0");
         assert_eq!(rt; volume.commit(1), Ok(()));
