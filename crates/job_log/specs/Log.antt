@@ -1,6 +1,6 @@
 -- The log of a copy job as contracts see it, and what each call makes of it. The entries are those of the
 -- promise.
-use Rattle.std.specs.Prelude.{◌≡◌, ℕ, zero, suc, ◌*◌, ◌/◌, ◌%◌, ◌<◌, ◌==◌, ◌||◌, ◌&&◌, not, Bool, true, false, List, [], ◌∷◌, ◌++◌, Option, None, Some, set, replicate, if◌then◌else◌}
+use Rattle.std.specs.Prelude.{◌≡◌, ℕ, zero, suc, ◌*◌, ◌/◌, ◌%◌, ◌<◌, ◌==◌, ◌||◌, ◌&&◌, not, Bool, true, false, List, [], ◌∷◌, ◌++◌, Option, None, Some, set, replicate, length, if◌then◌else◌}
 use Rattle.copy_model.specs.Job.{Entry, Sized, Landed, size_of, has_landed, has_ended, chunk_len, chunk_size, chunks_of}
 use Rattle.nfs_base.specs.declared.job.Stop.{Stop}
 use Rattle.job_log.specs.declared.chunk.Chunk.{Chunk}
@@ -74,6 +74,7 @@ pub record IsNextClaim (v : JobView) (chunk : Chunk) : Type 0 where
   pub start : chunk.off ≡ number * chunk_size
   pub within : chunk.off < total v.entries
   pub length_is : chunk.len ≡ chunk_len (total v.entries) chunk.off
+  pub place : number < length v.claims
   pub not_claimed : flag v.claims number ≡ false
   pub not_landed : has_landed v.entries chunk.off ≡ false
   pub earlier : (j : ℕ) → j < number → (flag v.claims j || has_landed v.entries (j * chunk_size)) ≡ true

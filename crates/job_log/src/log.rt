@@ -94,7 +94,8 @@ impl JobLog {
         requires not_sized { size_of self.old.entries ≡ None }
         requires running { has_ended self.old.entries ≡ false }
         requires room { len ≤ self.old.spare }
-        ensures { self.new ≡ sized self.old len }
+        ensures done { self.new ≡ sized self.old len }
+        ensures known { size_of self.new.entries ≡ Some len }
     {
         logs_grow();
         let chunks = chunk_count(len);

@@ -1,12 +1,12 @@
 -- Each call keeps what holds of every table.
-use Rattle.std.proofs.Common.{◌≡◌, ℕ, ◌+◌, ◌≤◌, ◌<◌, Bool, true, false, List, [], ◌∷◌, ◌++◌, length, get_or, set, Option, Some, None, refl, ap, sym, ◌∙◌, subst, arith, length-set, length-append}
-use Rattle.std.specs.Prelude.{◌==◌, ◌&&◌, ◌||◌, not, max, min, nat_lt, All, find, filter, IfSome, IfNone, Result, Ok, Err, OnOk, if◌then◌else◌}
+use Rattle.std.proofs.Common.{◌≡◌, ℕ, ◌+◌, ◌≤◌, ◌<◌, Bool, true, false, List, [], ◌∷◌, ◌++◌, length, get_or, set, Option, Some, None, inl, inr, refl, ap, sym, ◌∙◌, subst, arith, length-set, length-append}
+use Rattle.std.specs.Prelude.{◌⊎◌, ◌==◌, ◌&&◌, ◌||◌, not, max, min, nat_lt, All, find, filter, IfSome, IfNone, Result, Ok, Err, OnOk, if◌then◌else◌}
 use Rattle.std.proofs.lemmas.Bool.{lt-ltb, both_ways, eq-eqb}
 use Rattle.std.proofs.lemmas.List.Elements.{All-nil, All-cons, All-append, All-set, All-filter}
 use Rattle.std.proofs.lemmas.List.Kept.{AllPairs-filter}
 use Rattle.std.proofs.lemmas.List.Quantifiers.{all_pairs_push}
 use Rattle.std.proofs.lemmas.List.Folds.{list_any-append}
-use Rattle.copy_model.specs.Job.{Entry, Sized, Landed, Stopped, Committed, Reported, size_of, is_end, has_ended}
+use Rattle.copy_model.specs.Job.{Entry, Sized, Landed, size_of, is_end, has_ended}
 use Rattle.job_log.specs.declared.chunk.Chunk.{Chunk}
 use Rattle.job_log.specs.declared.chunk.Landing.{Landing}
 use Rattle.job_log.specs.declared.chunk.Landing.TheVariants.{Landed as has_come, Held, Late}
@@ -86,21 +86,24 @@ follows_claims capacity x log order same =
       shrinks = same_size capacity x _ (ap (λ (es : List Entry). size_of es) same);
     }
 
-abbrev pub first_size : Option ℕ → Option ℕ → Option ℕ
-first_size None b = b
-first_size (Some n) b = Some n
+-- what the laws of logs say of the size
+pub record SizeLaws : Type 0 where
+  pub sized : (es : List Entry) (e : Entry) (len : ℕ) → size_of es ≡ Some len → size_of (es ++ e ∷ []) ≡ Some len
+  pub size : (es : List Entry) (e : Entry) (len : ℕ) → size_of (es ++ e ∷ []) ≡ Some len
+      → (size_of es ≡ Some len) ⊎ ((size_of es ≡ None) × (e ≡ Sized len))
 
-size_of-append : (es fs : List Entry) → size_of (es ++ fs) ≡ first_size (size_of es) (size_of fs)
-size_of-append [] fs = refl
-size_of-append (Sized len ∷ es) fs = refl
-size_of-append (Landed off len ∷ es) fs = size_of-append es fs
-size_of-append (Stopped ∷ es) fs = size_of-append es fs
-size_of-append (Committed ∷ es) fs = size_of-append es fs
-size_of-append (Reported ∷ es) fs = size_of-append es fs
+-- an entry that gives none leaves it as it was
+size_stays : SizeLaws → (es : List Entry) (e : Entry) → size_of (e ∷ []) ≡ None → size_of (es ++ e ∷ []) ≡ size_of es
+size_stays laws es e none = by (size_of es) (size_of (es ++ e ∷ [])) refl refl
+  where
+    new : (len : ℕ) → size_of es ≡ None → (size_of es ≡ Some len) ⊎ ((size_of es ≡ None) × (e ≡ Sized len)) → ⊥
+    new len was (inl is) = cc
+    new len was (inr is) = let gives : size_of (e ∷ []) ≡ Some len = ap (λ (x : Entry). size_of (x ∷ [])) is.1 in cc
 
-first_none : (o : Option ℕ) → first_size o None ≡ o
-first_none None = refl
-first_none (Some n) = refl
+    by : (was now : Option ℕ) → size_of es ≡ was → size_of (es ++ e ∷ []) ≡ now → size_of (es ++ e ∷ []) ≡ size_of es
+    by (Some len) now was_is now_is = laws.sized es e len was_is ∙ sym was_is
+    by None None was_is now_is = now_is ∙ sym was_is
+    by None (Some len) was_is now_is = absurd (new len was_is (laws.size es e len now_is))
 
 left_false : (a b : Bool) → (a || b) ≡ false → a ≡ false
 left_false true b e = e
@@ -109,13 +112,13 @@ left_false false b e = refl
 still_ran : (es : List Entry) (e : Entry) → has_ended (es ++ e ∷ []) ≡ false → has_ended es ≡ false
 still_ran es e h = left_false (has_ended es) _ (sym (list_any-append is_end es (e ∷ [])) ∙ h)
 
-pub follows_entry : (capacity : ℕ) (x : Job) (log : JobView) (e : Entry) → log.consecutive ≡ x.log.consecutive → log.entries ≡ x.log.entries ++ e ∷ []
+pub follows_entry : SizeLaws → (capacity : ℕ) (x : Job) (log : JobView) (e : Entry) → log.consecutive ≡ x.log.consecutive → log.entries ≡ x.log.entries ++ e ∷ []
     → size_of (e ∷ []) ≡ None → Follows capacity x log
-follows_entry capacity x log e order more sizes =
+follows_entry laws capacity x log e order more sizes =
     record {
       order = order;
       ends = λ h. still_ran x.log.entries e (sym (ap (λ (es : List Entry). has_ended es) more) ∙ h);
-      shrinks = same_size capacity x _ (ap (λ (es : List Entry). size_of es) more ∙ size_of-append x.log.entries (e ∷ []) ∙ ap (λ (o : Option ℕ). first_size (size_of x.log.entries) o) sizes ∙ first_none (size_of x.log.entries));
+      shrinks = same_size capacity x _ (ap (λ (es : List Entry). size_of es) more ∙ size_stays laws x.log.entries e sizes);
     }
 
 follows_if : (capacity : ℕ) (x : Job) (log : JobView) (chunk : Chunk) (b : Bool) → log ≡ (if b then with_claim x.log chunk false else x.log) → Follows capacity x log
@@ -125,21 +128,20 @@ follows_if capacity x log chunk false is = follows_claims capacity x log (ap (λ
 pub follows_back : (capacity : ℕ) (x : Job) (log : JobView) (chunk : Chunk) → log ≡ given_back x.log chunk → Follows capacity x log
 follows_back capacity x log chunk is = follows_if capacity x log chunk (is_claimed x.log chunk) is
 
-pub follows_landing : (capacity : ℕ) (x : Job) (log : JobView) (chunk : Chunk) (answer : Landing) → log ≡ after_landing x.log chunk answer → Follows capacity x log
-follows_landing capacity x log chunk has_come is =
-    follows_entry capacity x log (Landed chunk.off chunk.len) (ap (λ (v : JobView). v.consecutive) is) (ap (λ (v : JobView). v.entries) is) refl
-follows_landing capacity x log chunk Held is = follows_claims capacity x log (ap (λ (v : JobView). v.consecutive) is) (ap (λ (v : JobView). v.entries) is)
-follows_landing capacity x log chunk Late is = follows_claims capacity x log (ap (λ (v : JobView). v.consecutive) is) (ap (λ (v : JobView). v.entries) is)
+pub follows_landing : SizeLaws → (capacity : ℕ) (x : Job) (log : JobView) (chunk : Chunk) (answer : Landing) → log ≡ after_landing x.log chunk answer → Follows capacity x log
+follows_landing laws capacity x log chunk has_come is =
+    follows_entry laws capacity x log (Landed chunk.off chunk.len) (ap (λ (v : JobView). v.consecutive) is) (ap (λ (v : JobView). v.entries) is) refl
+follows_landing laws capacity x log chunk Held is = follows_claims capacity x log (ap (λ (v : JobView). v.consecutive) is) (ap (λ (v : JobView). v.entries) is)
+follows_landing laws capacity x log chunk Late is = follows_claims capacity x log (ap (λ (v : JobView). v.consecutive) is) (ap (λ (v : JobView). v.entries) is)
 
 sized_end : (capacity : ℕ) (plan : Plan) (len : ℕ) (b : Bool) → (plan.count == 0) ≡ b → plan.dst_off + len ≤ capacity
     → (if b then open_end capacity plan.dst_off (Some len) else plan.dst_off + plan.count) ≤ (if b then open_end capacity plan.dst_off None else plan.dst_off + plan.count)
 sized_end capacity plan len true is fits = fits
 sized_end capacity plan len false is fits = omega arith
 
-pub follows_size : (capacity : ℕ) (x : Job) (log : JobView) (len : ℕ) → log.consecutive ≡ x.log.consecutive → log.entries ≡ x.log.entries ++ Sized len ∷ []
+pub follows_size : (capacity : ℕ) (x : Job) (log : JobView) (len : ℕ) → log.consecutive ≡ x.log.consecutive → size_of log.entries ≡ Some len
     → CanSize capacity x len → Follows capacity x log
-follows_size capacity x log len order more can =
-    let now : size_of log.entries ≡ Some len = ap (λ (es : List Entry). size_of es) more ∙ size_of-append x.log.entries (Sized len ∷ []) ∙ ap (λ (o : Option ℕ). first_size o (Some len)) can.not_sized in
+follows_size capacity x log len order now can =
     let a = ap (λ (o : Option ℕ). end_of capacity x.plan o) now in
     let b = ap (λ (o : Option ℕ). end_of capacity x.plan o) can.not_sized in
     let c = sized_end capacity x.plan len (x.plan.count == 0) refl can.fits in

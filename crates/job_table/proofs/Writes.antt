@@ -31,6 +31,18 @@ search_by test slots keys = find (λ key. passes test (get slots key)) keys
 pub has_job : (test : Job → Bool) (slots : Slab Job) (keys : List ℕ) (r : Option ℕ) (key : ℕ) → r ≡ search_by test slots keys → r ≡ Some key → ContainsKey slots key
 has_job test slots keys r key searched is = hit_some test (get slots key) (hit (λ k. passes test (get slots k)) keys key (sym searched ∙ is))
 
+-- a job of this name was searched for
+pub record Searched (boot : ℕ) (slots : Slab Job) (keys : List ℕ) (id : JobId) (r : Option ℕ) : Type 0 where
+  pub is : r ≡ search_by (is_job boot id) slots keys
+
+-- in a row that was lent
+pub searched : (boot : ℕ) (slots : Slab Job) (id : JobId) {keys lent : List ℕ} {r : Option ℕ} → r ≡ search_by (is_job boot id) slots lent → lent ≡ keys
+    → Searched boot slots keys id r
+searched boot slots id is same = record { is = is ∙ ap (λ (ks : List ℕ). search_by (is_job boot id) slots ks) same }
+
+pub has_key : {boot : ℕ} {slots : Slab Job} {keys : List ℕ} {id : JobId} {r : Option ℕ} {key : ℕ} → Searched boot slots keys id r → r ≡ Some key → ContainsKey slots key
+has_key {boot = boot} {slots = slots} {keys = keys} {id = id} {r = r} {key = key} search is = has_job (is_job boot id) slots keys r key search.is is
+
 -- what a search finds of the table: the job under the key, and none where there is none
 pub found_in : (test : Job → Bool) (slots : Slab Job) (keys : List ℕ) (r : Option ℕ) → r ≡ search_by test slots keys
     → option_and_then (λ key. get slots key) r ≡ find test (jobs_at slots keys)
@@ -58,6 +70,12 @@ pub record IsFound (boot capacity made : ℕ) (slots : Slab Job) (keys : List �
   pub view : seen boot capacity made slots keys ≡ now
   pub searched : search_by (is_job boot id) slots keys ≡ Some key
   pub value : get slots key ≡ Some x
+
+-- the job under the key that a call found
+pub met : {boot capacity made : ℕ} {slots : Slab Job} {keys : List ℕ} {id : JobId} {now : JobTable} {r : Option ℕ} {key : ℕ} {x : Job}
+    → IsStored capacity made slots keys → seen boot capacity made slots keys ≡ now → Searched boot slots keys id r → r ≡ Some key → get slots key ≡ Some x
+    → IsFound boot capacity made slots keys id now key x
+met stored view search is value = record { stored = stored; view = view; searched = sym search.is ∙ is; value = value }
 
 -- the table has it
 pub is_there : {boot capacity made : ℕ} {slots : Slab Job} {keys : List ℕ} {id : JobId} {now : JobTable} {key : ℕ} {x : Job}
@@ -141,10 +159,10 @@ seen_write {boot = boot} {capacity = capacity} {made = made} {id = id} log g f m
     ∙ ap (λ (t : JobTable). with_log t id g) f.view
 
 -- where the table has no such job nothing changes
-pub seen_left : (boot capacity made : ℕ) (slots : Slab Job) (keys : List ℕ) (id : JobId) (now : JobTable) (g : JobView → JobView) (r : Option ℕ)
-    → seen boot capacity made slots keys ≡ now → r ≡ search_by (is_job boot id) slots keys → r ≡ None → now ≡ with_log now id g
-seen_left boot capacity made slots keys id now g r view searched is =
-    let none = found_none (is_job boot id) slots keys r searched is in
+pub seen_left : {boot capacity made : ℕ} {slots : Slab Job} {keys : List ℕ} {id : JobId} {now : JobTable} {r : Option ℕ} (g : JobView → JobView)
+    → seen boot capacity made slots keys ≡ now → Searched boot slots keys id r → r ≡ None → now ≡ with_log now id g
+seen_left {boot = boot} {capacity = capacity} {made = made} {slots = slots} {keys = keys} {id = id} {r = r} g view search is =
+    let none = found_none (is_job boot id) slots keys r search.is is in
     let same = changed_none (is_job boot id) (λ job. relogged job (g job.log)) (jobs_at slots keys) (sym none) in
     sym view ∙ ap (λ (js : List Job). record { boot = boot; capacity = capacity; made = made; jobs = js }) (sym same)
     ∙ ap (λ (t : JobTable). with_log t id g) view

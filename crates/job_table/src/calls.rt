@@ -6,6 +6,7 @@ ghost use Rattle.job_table.specs.Table.{job_of, is_running, is_ended, is_told, w
 use crate::job::JobId;
 use crate::jobs::Jobs;
 use crate::keys::{forget, key_of};
+use copy_model::logs_grow;
 use job_log::{Chunk, Landing};
 use nfs_base::Stop;
 use outcome::Mem;
@@ -73,6 +74,7 @@ impl Jobs {
         ensures answer { result ≡ table_landing self.old job chunk }
         ensures done { self.new ≡ with_log self.old job (λ log. after_landing log chunk result) }
     {
+        logs_grow();
         match key_of(&self.slots, self.keys.as_slice(), self.boot, job) {
             Some(key) => self.slots[key].log.land(chunk),
             None => Landing::Late,
@@ -84,6 +86,7 @@ impl Jobs {
         requires { is_running self.old job ≡ true }
         ensures { self.new ≡ with_log self.old job (λ log. record (with_entry log Stopped) { cause = Some cause }) }
     {
+        logs_grow();
         if let Some(key) = key_of(&self.slots, self.keys.as_slice(), self.boot, job) {
             self.slots[key].log.stop(cause);
         }
@@ -95,6 +98,7 @@ impl Jobs {
         requires landed { IfSome (job_of self.old job) (λ found. AllowsCommit found.log.entries) }
         ensures { self.new ≡ with_log self.old job (λ log. with_entry log Committed) }
     {
+        logs_grow();
         if let Some(key) = key_of(&self.slots, self.keys.as_slice(), self.boot, job) {
             self.slots[key].log.commit();
         }
@@ -106,6 +110,7 @@ impl Jobs {
         requires not_reported { is_told self.old job ≡ false }
         ensures { self.new ≡ with_log self.old job (λ log. with_entry log Reported) }
     {
+        logs_grow();
         if let Some(key) = key_of(&self.slots, self.keys.as_slice(), self.boot, job) {
             self.slots[key].log.report();
         }
