@@ -149,6 +149,6 @@ module _ (laws : Laws) (s d b : Volume) (c : Copying) (was : Did) (es : List Ent
         };
         copies = refl;
         goes = λ file. goes_on (file_at s file);
-        laws = calm_lawful s d b s dest bare (Some c) (Some after) was (dest_commits laws d b c.plan.dst_file readable) (copies_go_on c after refl ready.live (let grows = ready.grows in omega (arith, long))) landed settles;
+        laws = calm_lawful s d b s dest bare (Some c) (Some after) was (dest_commits laws d b c.plan.dst_file readable) (copies_go_on laws c after refl ready.live (let grows = ready.grows in omega (arith, long))) landed settles;
         marks = stable_lines lines there;
       }

@@ -1,7 +1,7 @@
 -- A copy's entries with one more at the end.
-use Rattle.std.proofs.Common.{◌≡◌, ⊎_elim, Bool, true, false, ◌||◌, None, List, [], ◌∷◌, ◌++◌, refl, ap, ◌∙◌}
+use Rattle.std.proofs.Common.{◌≡◌, Bool, true, false, ◌||◌, None, List, [], ◌∷◌, ◌++◌, refl, ap, ◌∙◌}
 use Rattle.std.specs.List.{list_any}
-use Rattle.std.proofs.lemmas.Bool.{or_cases, or_left, or_right}
+use Rattle.std.proofs.lemmas.Bool.{or_left, or_right}
 use Rattle.std.proofs.lemmas.List.Folds.{list_any-append}
 use Rattle.copy_model.specs.Job.{Entry, Sized, Landed, Stopped, Committed, Reported, size_of}
 
@@ -15,15 +15,6 @@ any_other p es e h = list_any-append p es (e ∷ []) ∙ ap (λ b. list_any p es
     or_nothing : (b : Bool) → (b || (false || false)) ≡ b
     or_nothing true = refl
     or_nothing false = refl
-
--- where one test implies another
-pub any_implies : (p r : Entry → Bool) → ((e : Entry) → p e ≡ true → r e ≡ true) → (es : List Entry) → list_any p es ≡ true → list_any r es ≡ true
-any_implies p r each [] h = h
-any_implies p r each (x ∷ es) h =
-    ⊎_elim
-    (λ here. or_left (r x) (list_any r es) (each x here))
-    (λ later. or_right (r x) (list_any r es) (any_implies p r each es later))
-    (or_cases (p x) (list_any p es) h)
 
 -- the size is that of the first entry that gives one
 pub size_first : (es : List Entry) (e : Entry) → size_of es ≡ None → size_of (es ++ e ∷ []) ≡ size_of (e ∷ [])

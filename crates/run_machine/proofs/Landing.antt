@@ -138,11 +138,11 @@ module _ (laws : Laws) (s d b : Volume) (c : Copying) (was : Did) (es : List Ent
   still_live = any_other is_end es (Landed off len) refl ∙ ready.still
 
   not_durable : (j : ℕ) → (progress_in (Some after) j).durable ≡ true → ⊥
-  not_durable zero durable = both_ways _ (not_committed after.entries still_live) durable
+  not_durable zero durable = both_ways _ (not_committed laws after.entries still_live) durable
   not_durable (suc j) durable = absurd (cc)
 
   copies : CopiesGoOn (Some c) (Some after)
-  copies = copies_go_on c after refl ready.live (let grows = ready.grows in omega (arith, long))
+  copies = copies_go_on laws c after refl ready.live (let grows = ready.grows in omega (arith, long))
 
   step_laws : AreLawful before_moment now_moment (progress_in (Some c)) (progress_in (Some after))
   step_laws =

@@ -2,8 +2,8 @@
 use Rattle.std.specs.Prelude.{◌≡◌, ◌⊎◌, ℕ, ◌+◌, ◌<◌, ◌≤◌, Bool, true, None, Some, List, [], ◌∷◌, ◌++◌, length}
 use Rattle.std.specs.List.{list_any}
 use Rattle.copy_model.specs.Volume.{Volume, file_at, byte_at, bytes_at, with_bytes_at, change_of, written, write, committed, commit}
-use Rattle.copy_model.specs.Job.{Entry, size_of, has_landed, IsChunk, unlanded, FirstUnlanded, AllowsCommit, Allows}
-use Rattle.copy_model.specs.Marks.{len_of, has_byte, AreSound}
+use Rattle.copy_model.specs.Job.{Entry, size_of, has_landed, has_ended, IsChunk, unlanded, FirstUnlanded, AllowsCommit, Allows}
+use Rattle.copy_model.specs.Marks.{len_of, has_byte, is_stopped, is_committed, AreSound}
 use Rattle.copy_model.specs.Effect.{Effect, after}
 
 pub record Laws : Type 0 where
@@ -16,6 +16,8 @@ pub record Laws : Type 0 where
   pub log_sized : (es : List Entry) (e : Entry) (len : ℕ) → size_of es ≡ Some len → size_of (es ++ e ∷ []) ≡ Some len
   pub log_rises : (test : Entry → Bool) (es : List Entry) (e : Entry) → list_any test (es ++ e ∷ []) ≡ true
       → (list_any test es ≡ true) ⊎ (test e ≡ true)
+  pub log_stopped : (es : List Entry) → is_stopped es ≡ true → has_ended es ≡ true
+  pub log_committed : (es : List Entry) → is_committed es ≡ true → has_ended es ≡ true
   pub log_covered : (consecutive : Bool) (es : List Entry) (q : ℕ) → AreSound consecutive es → AllowsCommit es → q < len_of es
       → has_byte es q ≡ true
   pub bytes_within : (bytes : List ℕ) (off : ℕ) (piece : List ℕ) (k : ℕ) → k < length piece

@@ -4,7 +4,7 @@ use Rattle.std.proofs.Common.{◌≡◌, ℕ, zero, suc, ◌+◌, ◌<◌, ◌�
 use Rattle.std.specs.List.{list_any}
 use Rattle.std.proofs.lemmas.Bool.{both_ways, false_from_ne_true, and_parts, leb-true, ltb-true, not_from_true}
 use Rattle.copy_model.specs.Volume.{Volume}
-use Rattle.copy_model.specs.Job.{Entry, Sized, Landed, Stopped, Committed, Reported, has_ended, is_end}
+use Rattle.copy_model.specs.Job.{Entry, Landed, has_ended}
 use Rattle.copy_model.specs.Marks.{len_of, covers, is_stop, is_commit, AreSound}
 use Rattle.copy_model.specs.Moment.{Copy, Did}
 use Rattle.copy_model.specs.Laws.{Progress, MomentLaws}
@@ -13,7 +13,7 @@ use Rattle.run_machine.specs.declared.choice.Choice.{Choice}
 use Rattle.run_machine.specs.Machine.{Copying, no_volume}
 use Rattle.run_machine.specs.History.{Watched, World, unwatched, moment_of, world_after}
 use Rattle.run_machine.proofs.Bytes.{IsStamped}
-use Rattle.run_machine.proofs.Entries.{any_implies}
+use Rattle.run_machine.proofs.Laws.{Laws}
 
 -- a copy as the transcript shows it when these are its entries
 abbrev pub shown : Copying → Watched
@@ -99,27 +99,6 @@ pub record IsSound (sources dests copied : Option ℕ) (s d : Volume) (c : Optio
   pub none : copied ≡ None → c ≡ None
   pub copy : IfSome c (IsSoundCopy d)
 
--- a copy that is stopped or committed has ended
-stop_ends : (e : Entry) → is_stop e ≡ true → is_end e ≡ true
-stop_ends (Sized len) h = h
-stop_ends (Landed off len) h = h
-stop_ends Stopped h = refl
-stop_ends Committed h = refl
-stop_ends Reported h = h
-
-commit_ends : (e : Entry) → is_commit e ≡ true → is_end e ≡ true
-commit_ends (Sized len) h = h
-commit_ends (Landed off len) h = h
-commit_ends Stopped h = refl
-commit_ends Committed h = refl
-commit_ends Reported h = h
-
-pub stopped_ended : (es : List Entry) → list_any is_stop es ≡ true → has_ended es ≡ true
-stopped_ended = any_implies is_stop is_end stop_ends
-
-pub committed_ended : (es : List Entry) → list_any is_commit es ≡ true → has_ended es ≡ true
-committed_ended = any_implies is_commit is_end commit_ends
-
 -- a mark of a copy is that of its entries
 pub stable_durable : (c : Option Copying) (j : ℕ) → (copy_in c j).stable ≡ true → (progress_in c j).durable ≡ true
 stable_durable None j h = h
@@ -136,15 +115,15 @@ durable_completed None j h = h
 durable_completed (Some c) zero h = h
 durable_completed (Some c) (suc j) h = h
 
-completed_ended : (c : Option Copying) (j : ℕ) → (copy_in c j).completed ≡ true → (progress_in c j).live ≡ false
-completed_ended None j h = refl
-completed_ended (Some c) zero h = not_from_true (has_ended c.entries) (committed_ended c.entries h)
-completed_ended (Some c) (suc j) h = refl
+completed_ended : Laws → (c : Option Copying) (j : ℕ) → (copy_in c j).completed ≡ true → (progress_in c j).live ≡ false
+completed_ended laws None j h = refl
+completed_ended laws (Some c) zero h = not_from_true (has_ended c.entries) (laws.log_committed c.entries h)
+completed_ended laws (Some c) (suc j) h = refl
 
-stopped_dead : (c : Option Copying) (j : ℕ) → (copy_in c j).stopped ≡ true → (progress_in c j).live ≡ false
-stopped_dead None j h = refl
-stopped_dead (Some c) zero h = not_from_true (has_ended c.entries) (stopped_ended c.entries h)
-stopped_dead (Some c) (suc j) h = refl
+stopped_dead : Laws → (c : Option Copying) (j : ℕ) → (copy_in c j).stopped ≡ true → (progress_in c j).live ≡ false
+stopped_dead laws None j h = refl
+stopped_dead laws (Some c) zero h = not_from_true (has_ended c.entries) (laws.log_stopped c.entries h)
+stopped_dead laws (Some c) (suc j) h = refl
 
 completed_there : (c : Option Copying) (j : ℕ) → (copy_in c j).completed ≡ true → j < length (copies_of c)
 completed_there None j h = absurd (cc)
@@ -161,14 +140,14 @@ landed_within d None sound j q h = absurd (cc)
 landed_within d (Some c) sound zero q h = sound.entries.within q h
 landed_within d (Some c) sound (suc j) q h = absurd (cc)
 
-pub moment_laws : (s d b : Volume) (c : Option Copying) (did : Did) → IfSome c (IsSoundCopy d)
+pub moment_laws : Laws → (s d b : Volume) (c : Option Copying) (did : Did) → IfSome c (IsSoundCopy d)
     → MomentLaws (moment_of (world_of s d b c did)) (progress_in c)
-moment_laws s d b c did sound =
+moment_laws laws s d b c did sound =
     record {
       stable = stable_durable c;
       durable = durable_completed c;
-      completed = completed_ended c;
-      stopped = stopped_dead c;
+      completed = completed_ended laws c;
+      stopped = stopped_dead laws c;
       completed_made = completed_there c;
       stopped_made = stopped_there c;
       within = landed_within d c sound;
@@ -181,8 +160,8 @@ covers_landing q off len h =
     (leb-true off q parts.0, ltb-true q (off + len) parts.1)
 
 -- a copy that hasn't ended is neither stopped nor committed
-pub not_stopped : (es : List Entry) → has_ended es ≡ false → list_any is_stop es ≡ false
-not_stopped es live = false_from_ne_true (list_any is_stop es) (λ stopped. both_ways (has_ended es) live (stopped_ended es stopped))
+pub not_stopped : Laws → (es : List Entry) → has_ended es ≡ false → list_any is_stop es ≡ false
+not_stopped laws es live = false_from_ne_true (list_any is_stop es) (λ stopped. both_ways (has_ended es) live (laws.log_stopped es stopped))
 
-pub not_committed : (es : List Entry) → has_ended es ≡ false → list_any is_commit es ≡ false
-not_committed es live = false_from_ne_true (list_any is_commit es) (λ committed. both_ways (has_ended es) live (committed_ended es committed))
+pub not_committed : Laws → (es : List Entry) → has_ended es ≡ false → list_any is_commit es ≡ false
+not_committed laws es live = false_from_ne_true (list_any is_commit es) (λ committed. both_ways (has_ended es) live (laws.log_committed es committed))

@@ -11,6 +11,7 @@ use Rattle.sched_text.specs.declared.line.Line.{Line}
 use Rattle.run_machine.specs.Machine.{Copying}
 use Rattle.run_machine.specs.History.{Watched, World, mark_stable}
 use Rattle.run_machine.proofs.Entries.{any_new, any_other}
+use Rattle.run_machine.proofs.Laws.{Laws}
 use Rattle.run_machine.proofs.Progress.{copies_of, world_of, not_stopped, not_committed}
 use Rattle.run_machine.proofs.Steps.{IsGood}
 
@@ -30,9 +31,9 @@ same_marks number plan len len' stopped stopped' completed completed' lens stops
     ap (λ n. seen_as number plan n stopped completed) lens ∙ ap (λ b. seen_as number plan len' b completed) stops ∙ ap (λ b. seen_as number plan len' stopped' b) completes
 
 -- copies that are live have the same marks, but for the length
-pub live_marks : (number : ℕ) (plan : Plan) (es es' : List Entry) (len : ℕ) → has_ended es ≡ false → has_ended es' ≡ false → len_of es' ≡ len
+pub live_marks : Laws → (number : ℕ) (plan : Plan) (es es' : List Entry) (len : ℕ) → has_ended es ≡ false → has_ended es' ≡ false → len_of es' ≡ len
     → seen_as number plan (len_of es') (list_any is_stop es') (list_any is_commit es') ≡ seen_as number plan len (list_any is_stop es) (list_any is_commit es)
-live_marks number plan es es' len live live' lens =
+live_marks laws number plan es es' len live live' lens =
     same_marks
     number
     plan
@@ -43,15 +44,15 @@ live_marks number plan es es' len live live' lens =
     (list_any is_commit es')
     (list_any is_commit es)
     lens
-    (not_stopped es' live' ∙ sym (not_stopped es live))
-    (not_committed es' live' ∙ sym (not_committed es live))
+    (not_stopped laws es' live' ∙ sym (not_stopped laws es live))
+    (not_committed laws es' live' ∙ sym (not_committed laws es live))
 
 -- a copy that is stopped
-pub stopped_marks : (number : ℕ) (plan : Plan) (es es' : List Entry) (len : ℕ) → has_ended es ≡ false → has_ended es' ≡ false
+pub stopped_marks : Laws → (number : ℕ) (plan : Plan) (es es' : List Entry) (len : ℕ) → has_ended es ≡ false → has_ended es' ≡ false
     → len_of (es' ++ Stopped ∷ []) ≡ len
     → seen_as number plan (len_of (es' ++ Stopped ∷ [])) (list_any is_stop (es' ++ Stopped ∷ [])) (list_any is_commit (es' ++ Stopped ∷ []))
     ≡ seen_as number plan len true (list_any is_commit es)
-stopped_marks number plan es es' len live live' lens =
+stopped_marks laws number plan es es' len live live' lens =
     same_marks
     number
     plan
@@ -63,14 +64,14 @@ stopped_marks number plan es es' len live live' lens =
     (list_any is_commit es)
     lens
     (any_new is_stop es' Stopped refl)
-    (any_other is_commit es' Stopped refl ∙ not_committed es' live' ∙ sym (not_committed es live))
+    (any_other is_commit es' Stopped refl ∙ not_committed laws es' live' ∙ sym (not_committed laws es live))
 
 mark_own : (number : ℕ) (w : Watched) → mark_stable number (record w { number = number }) ≡ record w { number = number; copy = record w.copy { stable = true } }
 mark_own number w =
     cond-true (number == number) (record w { number = number; copy = record w.copy { stable = true } }) (record w { number = number }) (eq-eqb number number refl)
 
 -- a copy that is committed and reported
-pub committed_marks : (number : ℕ) (plan : Plan) (es es' : List Entry) (len : ℕ) (stable : Bool) → has_ended es ≡ false → has_ended es' ≡ false → len_of (es' ++ Committed ∷ []) ≡ len
+pub committed_marks : Laws → (number : ℕ) (plan : Plan) (es es' : List Entry) (len : ℕ) (stable : Bool) → has_ended es ≡ false → has_ended es' ≡ false → len_of (es' ++ Committed ∷ []) ≡ len
     → seen_as number plan (len_of (es' ++ Committed ∷ [])) (list_any is_stop (es' ++ Committed ∷ [])) (list_any is_commit (es' ++ Committed ∷ []))
     ≡ map
     (mark_stable number)
@@ -78,7 +79,7 @@ pub committed_marks : (number : ℕ) (plan : Plan) (es es' : List Entry) (len : 
       number = number;
       copy = record { plan = plan; len = len; stopped = list_any is_stop es; completed = true; stable = stable };
     } ∷ [])
-committed_marks number plan es es' len stable live live' lens =
+committed_marks laws number plan es es' len stable live live' lens =
     same_marks
     number
     plan
@@ -89,7 +90,7 @@ committed_marks number plan es es' len stable live live' lens =
     (list_any is_commit (es' ++ Committed ∷ []))
     true
     lens
-    (any_other is_stop es' Committed refl ∙ not_stopped es' live' ∙ sym (not_stopped es live))
+    (any_other is_stop es' Committed refl ∙ not_stopped laws es' live' ∙ sym (not_stopped laws es live))
     (any_new is_commit es' Committed refl)
     ∙ ap (λ x. x ∷ []) (sym (mark_own number (record {
       number = number;

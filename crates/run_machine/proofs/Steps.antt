@@ -18,6 +18,7 @@ use Rattle.run_machine.specs.Machine.{Copying}
 use Rattle.run_machine.specs.History.{World, watched_at, moment_of}
 use Rattle.run_machine.proofs.Bytes.{GoesOn}
 use Rattle.run_machine.proofs.Entries.{any_other}
+use Rattle.run_machine.proofs.Laws.{Laws}
 use Rattle.run_machine.proofs.Progress.{copies_of, copy_in, progress_in, world_of, not_stopped, not_committed, stable_durable, durable_stable, IsSound}
 
 -- two moments as a history
@@ -171,28 +172,28 @@ copies_fresh number plan =
     }
 
 -- a copy that was live and has more entries now
-live_laws : (c c' : Copying) → c'.plan ≡ c.plan → has_ended c.entries ≡ false → len_of c.entries ≤ len_of c'.entries → (j : ℕ) → j < 1
+live_laws : Laws → (c c' : Copying) → c'.plan ≡ c.plan → has_ended c.entries ≡ false → len_of c.entries ≤ len_of c'.entries → (j : ℕ) → j < 1
     → CopyLaws (copy_in (Some c) j) (copy_in (Some c') j) (progress_in (Some c) j) (progress_in (Some c') j)
-live_laws c c' plan live grows zero there =
-    let incomplete = λ (completed : list_any is_commit c.entries ≡ true). both_ways _ (not_committed c.entries live) completed in
+live_laws laws c c' plan live grows zero there =
+    let incomplete = λ (completed : list_any is_commit c.entries ≡ true). both_ways _ (not_committed laws c.entries live) completed in
     record {
       plan = plan;
       grows = grows;
       fixed = λ completed. absurd (incomplete completed);
       completed = λ completed. absurd (incomplete completed);
-      stopped = λ stopped. absurd (both_ways _ (not_stopped c.entries live) stopped);
+      stopped = λ stopped. absurd (both_ways _ (not_stopped laws c.entries live) stopped);
       stable = λ stable. absurd (incomplete stable);
       durable = λ durable. absurd (incomplete durable);
       live = λ later. not_from_false (has_ended c.entries) live;
       intact = λ later. not_from_false (has_ended c.entries) live;
       completes = λ completed. inr (not_from_false (has_ended c.entries) live);
     }
-live_laws c c' plan live grows (suc j) there = absurd (omega arith)
+live_laws laws c c' plan live grows (suc j) there = absurd (omega arith)
 
-pub copies_go_on : (c c' : Copying) → c'.plan ≡ c.plan → has_ended c.entries ≡ false → len_of c.entries ≤ len_of c'.entries
+pub copies_go_on : Laws → (c c' : Copying) → c'.plan ≡ c.plan → has_ended c.entries ≡ false → len_of c.entries ≤ len_of c'.entries
     → CopiesGoOn (Some c) (Some c')
-copies_go_on c c' plan live grows =
-    record { made = omega arith; copies = live_laws c c' plan live grows; fresh = λ j past. past_all (Some c') j past }
+copies_go_on laws c c' plan live grows =
+    record { made = omega arith; copies = live_laws laws c c' plan live grows; fresh = λ j past. past_all (Some c') j past }
 
 -- the last entry doesn't end the copy, or does
 pub still_live : (es : List Entry) (e : Entry) → has_ended es ≡ false → is_end e ≡ false → has_ended (es ++ e ∷ []) ≡ false

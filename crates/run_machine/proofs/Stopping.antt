@@ -110,7 +110,7 @@ copies_stopped : Laws → (dest : Volume) (c : Copying) (es : List Entry) → Is
     → CopiesRest (Some c) (Some (record c { entries = es ++ Stopped ∷ [] }))
 copies_stopped laws dest c es going =
     record {
-      goes = copies_go_on c (record c { entries = es ++ Stopped ∷ [] }) refl going.live (let grows = going.grows in omega (arith, laws.log_len es Stopped refl));
+      goes = copies_go_on laws c (record c { entries = es ++ Stopped ∷ [] }) refl going.live (let grows = going.grows in omega (arith, laws.log_len es Stopped refl));
       landed = landed;
       durable = durable;
     }
@@ -120,7 +120,7 @@ copies_stopped laws dest c es going =
     landed (suc j) q now = now
 
     durable : (j : ℕ) → (progress_in (Some (record c { entries = es ++ Stopped ∷ [] })) j).durable ≡ true → (progress_in (Some c) j).durable ≡ true
-    durable zero now = absurd (both_ways _ (not_committed es going.still) (sym (any_other is_commit es Stopped refl) ∙ now))
+    durable zero now = absurd (both_ways _ (not_committed laws es going.still) (sym (any_other is_commit es Stopped refl) ∙ now))
     durable (suc j) now = now
 
 -- The step that stops a copy is good, where the destination goes on like this, and the transcript showed
@@ -144,7 +144,7 @@ stop_good laws context s d b d' b' c was es len lines sound going lens dest file
     did.Rested
     (seen_as c.number c.plan len true (list_any is_commit c.entries))
     lines
-    (stopped_marks c.number c.plan c.entries es len going.live going.still (laws.log_len es Stopped refl ∙ lens))
+    (stopped_marks laws c.number c.plan c.entries es len going.live going.still (laws.log_len es Stopped refl ∙ lens))
     (calm_good context s d b s d' b' (Some c) (Some (record c { entries = es ++ Stopped ∷ [] })) was lines stopped_sound (λ file. goes_on (file_at s file)) dest (copies_stopped laws d c es going) quiet)
   where
     ended : has_ended (es ++ Stopped ∷ []) ≡ true

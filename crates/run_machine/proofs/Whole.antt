@@ -83,9 +83,9 @@ reached_first =
 abbrev with_len : Plan → ℕ → Copy
 with_len plan len = record (fresh_copy plan) { len = len }
 
-under_way_seen : (c : Option Copying) (plan : Plan) → IsUnderWay c plan → (0 < length (copies_of c)) × ((copy_in c 0).completed ≡ false)
-under_way_seen None plan under_way = absurd under_way
-under_way_seen (Some c) plan under_way = (omega arith, not_committed c.entries under_way.1)
+under_way_seen : Laws → (c : Option Copying) (plan : Plan) → IsUnderWay c plan → (0 < length (copies_of c)) × ((copy_in c 0).completed ≡ false)
+under_way_seen laws None plan under_way = absurd under_way
+under_way_seen laws (Some c) plan under_way = (omega arith, not_committed laws c.entries under_way.1)
 
 module _ (laws : Laws) (choices : List Choice) (events : List Event) (admitted : IsAdmitted at_start events) where
   reached : (k : ℕ) → IsReached (context_after at_start events k) (world_after choices events k)
@@ -104,7 +104,7 @@ module _ (laws : Laws) (choices : List Choice) (events : List Event) (admitted :
       subst
       (λ (l : List Watched). MomentLaws (moment_of (with_copies w l)) (progress_in w.state.copy))
       (sym (reached k).copies)
-      (moment_laws w.state.source w.state.dest w.seen.bare w.state.copy w.seen.did (reached k).sound.copy)
+      (moment_laws laws w.state.source w.state.dest w.seen.bare w.state.copy w.seen.did (reached k).sound.copy)
 
   -- a file of the source goes on over many steps
   goes_far : (file i k : ℕ) → i ≤ k → GoesOn (file_at (world_after choices events i).state.source file) (file_at (world_after choices events k).state.source file)
@@ -131,7 +131,7 @@ module _ (laws : Laws) (choices : List Choice) (events : List Event) (admitted :
   -- a moment at which the copy is under way is during the copy
   under_way_during : (k : ℕ) (plan : Plan) → IsUnderWay (world_after choices events k).state.copy plan → IsDuring (history choices events) 0 k
   under_way_during k plan under_way =
-      let seen = subst (λ (l : List Watched). (0 < length l) × ((slice_index_or l 0 unwatched).copy.completed ≡ false)) (sym (reached k).copies) (under_way_seen (world_after choices events k).state.copy plan under_way) in
+      let seen = subst (λ (l : List Watched). (0 < length l) × ((slice_index_or l 0 unwatched).copy.completed ≡ false)) (sym (reached k).copies) (under_way_seen laws (world_after choices events k).state.copy plan under_way) in
       (seen.0, λ i before. incomplete_before 0 i k (omega arith) seen.1)
 
   -- a copy that has its length has the range that was asked for

@@ -108,7 +108,7 @@ module _ (laws : Laws) (context : Context) (s d b : Volume) (c : Copying) (was :
         (did.Landed 0 off (chunk_len total off))
         _
         _
-        (live_marks c.number c.plan c.entries after len live (any_other is_end es _ refl ∙ going.still) (len_at after (Some total) (laws.log_sized es _ total ready.size) ∙ sym (len_at es (Some total) ready.size) ∙ lens))
+        (live_marks laws c.number c.plan c.entries after len live (any_other is_end es _ refl ∙ going.still) (len_at after (Some total) (laws.log_sized es _ total ready.size) ∙ sym (len_at es (Some total) ready.size) ∙ lens))
         (landing_good laws s d b c was es total off ready first readable context _ sound (silent_before before _ silent refl))
 
     committing_good : (total : ℕ) → IsReady d c es total → unlanded es total ≡ None → IsGoodAfter len before (committing w.state sized)
@@ -124,7 +124,7 @@ module _ (laws : Laws) (context : Context) (s d b : Volume) (c : Copying) (was :
         did.Rested
         _
         _
-        (committed_marks c.number c.plan c.entries es len _ live going.still (len_at after (Some total) (laws.log_sized es Committed total ready.size) ∙ sym (len_at es (Some total) ready.size) ∙ lens))
+        (committed_marks laws c.number c.plan c.entries es len _ live going.still (len_at after (Some total) (laws.log_sized es Committed total ready.size) ∙ sym (len_at es (Some total) ready.size) ∙ lens))
         (commit_good laws s d b c was es total ready all whole.readable whole.certain context _ sound (later_line before _ _ (1, omega arith, refl)))
 
     moves_good : (total : ℕ) (next : Option ℕ) → IsReady d c es total → unlanded es total ≡ next → IsGoodAfter len before (moves w.state choice sized total next)
