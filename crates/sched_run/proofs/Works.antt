@@ -1,12 +1,11 @@
 -- A step of a copy leaves one that can go on.
-use Rattle.std.proofs.Common.{◌≡◌, ℕ, ◌+◌, ◌≤◌, Option, None, Some, List, [], ◌∷◌, ◌++◌, refl, Bool, true, false, if◌then◌else◌, sym, ◌∙◌, subst, arith}
+use Rattle.std.proofs.Common.{◌≡◌, ℕ, ◌+◌, ◌≤◌, None, Some, List, [], ◌∷◌, ◌++◌, refl, Bool, true, false, if◌then◌else◌, sym, ◌∙◌, subst, arith}
 use Rattle.copy_model.specs.Volume.{Volume}
 use Rattle.copy_model.specs.Job.{Entry, Sized, Stopped, size_of}
-use Rattle.nfs_base.specs.declared.job.Stop.{Stop}
-use Rattle.copy_job.specs.Log.{JobLog}
 use Rattle.block_file.specs.Opened.{SameOpening}
 use Rattle.sched_run.specs.declared.copying.Copying.{Copying}
-use Rattle.sched_run.specs.Copy.{CanWork}
+use Rattle.sched_run.specs.Copy.{CanWork, StillWorks}
+use Rattle.sched_run.specs.LoneJob.{JobSeen}
 use Rattle.sched_run.proofs.Sizes.{size_of-stopped, fits_more, fits_sized}
 
 -- nothing is changed of a volume that is as it was
@@ -14,11 +13,11 @@ pub same_volume : (v : Volume) → SameOpening v v
 same_volume v = record { files = refl; capacity = refl; boot = refl }
 
 -- the copy with a longer log, at volumes of as many files that are as long
-can_with : (source now_source dest now_dest : Volume) (c : Copying) (entries : List Entry) (cause : Option Stop) → CanWork source dest c
+can_with : (source now_source dest now_dest : Volume) (c : Copying) (entries : List Entry) → CanWork source dest c
     → SameOpening source now_source → SameOpening dest now_dest
-    → ((t : ℕ) → size_of entries ≡ Some t → c.job.plan.to + t ≤ dest.capacity)
-    → CanWork now_source now_dest (record c { job = record { plan = c.job.plan; entries = entries; cause = cause } })
-can_with source now_source dest now_dest c entries cause can at_source at_dest fits =
+    → ((t : ℕ) → size_of entries ≡ Some t → c.job.plan.dst_off + t ≤ dest.capacity)
+    → CanWork now_source now_dest (record c { job = record c.job { entries = entries } })
+can_with source now_source dest now_dest c entries can at_source at_dest fits =
     let source_files = at_source.files in
     let dest_files = at_dest.files in
     let capacity = at_dest.capacity in
@@ -30,36 +29,49 @@ can_with source now_source dest now_dest c entries cause can at_source at_dest f
       lands_low = can.lands_low;
       lands = omega arith;
       fits = λ t sized. let room = fits t sized in omega arith;
+      capacity_is = can.capacity_is ∙ sym capacity;
     }
 
 -- the volumes may have changed, and the copy not
 pub can_still : (source now_source dest now_dest : Volume) (c : Copying) → CanWork source dest c
     → SameOpening source now_source → SameOpening dest now_dest → CanWork now_source now_dest c
 can_still source now_source dest now_dest c can at_source at_dest =
-    can_with source now_source dest now_dest c c.job.entries c.job.cause can at_source at_dest can.fits
+    can_with source now_source dest now_dest c c.job.entries can at_source at_dest can.fits
 
-pub can_stopped : (source dest : Volume) (c : Copying) (job : JobLog) (cause : Option Stop) → CanWork source dest c
-    → job ≡ record c.job { entries = c.job.entries ++ Stopped ∷ []; cause = cause } → CanWork source dest (record c { job = job })
-can_stopped source dest c job cause can is =
-    let P : JobLog → Type 0 = λ j. CanWork source dest (record c { job = j }) in
-    subst P (sym is) (can_with source source dest dest c (c.job.entries ++ Stopped ∷ []) cause can (same_volume source) (same_volume dest)
+-- the volumes that a step leaves, with the copy that it leaves
+pub still_with : (source dest now_dest : Volume) (c : Copying) → CanWork source dest c → SameOpening dest now_dest → now_dest.writes ≤ dest.writes + 1
+    → StillWorks source source dest now_dest c
+still_with source dest now_dest c can at written =
+    record {
+      can = can_still source source dest now_dest c can (same_volume source) at;
+      source_files = refl;
+      dest_files = at.files;
+      source_written = refl;
+      dest_written = written;
+    }
+
+pub can_stopped : (source dest : Volume) (c : Copying) (job : JobSeen) → CanWork source dest c
+    → job ≡ record c.job { entries = c.job.entries ++ Stopped ∷ [] } → CanWork source dest (record c { job = job })
+can_stopped source dest c job can is =
+    let P : JobSeen → Type 0 = λ j. CanWork source dest (record c { job = j }) in
+    subst P (sym is) (can_with source source dest dest c (c.job.entries ++ Stopped ∷ []) can (same_volume source) (same_volume dest)
     (λ t sized. can.fits t (sym (size_of-stopped c.job.entries) ∙ sized)))
 
-pub can_sized : (source dest : Volume) (c : Copying) (job : JobLog) (len : ℕ)
-    → CanWork source dest c → size_of c.job.entries ≡ None → c.job.plan.to + len ≤ dest.capacity
+pub can_sized : (source dest : Volume) (c : Copying) (job : JobSeen) (len : ℕ)
+    → CanWork source dest c → size_of c.job.entries ≡ None → c.job.plan.dst_off + len ≤ dest.capacity
     → job ≡ record c.job { entries = c.job.entries ++ Sized len ∷ [] } → CanWork source dest (record c { job = job })
 can_sized source dest c job len can none room is =
-    let P : JobLog → Type 0 = λ j. CanWork source dest (record c { job = j }) in
-    subst P (sym is) (can_with source source dest dest c (c.job.entries ++ Sized len ∷ []) c.job.cause can (same_volume source) (same_volume dest)
-    (fits_sized c.job.entries len c.job.plan.to dest.capacity none room))
+    let P : JobSeen → Type 0 = λ j. CanWork source dest (record c { job = j }) in
+    subst P (sym is) (can_with source source dest dest c (c.job.entries ++ Sized len ∷ []) can (same_volume source) (same_volume dest)
+    (fits_sized c.job.entries len c.job.plan.dst_off dest.capacity none room))
 
-pub can_more : (source dest : Volume) (c : Copying) (e : Entry) (job : JobLog) (total : ℕ)
+pub can_more : (source dest : Volume) (c : Copying) (e : Entry) (job : JobSeen) (total : ℕ)
     → CanWork source dest c → size_of c.job.entries ≡ Some total
     → job ≡ record c.job { entries = c.job.entries ++ e ∷ [] } → CanWork source dest (record c { job = job })
 can_more source dest c e job total can sized is =
-    let P : JobLog → Type 0 = λ j. CanWork source dest (record c { job = j }) in
-    subst P (sym is) (can_with source source dest dest c (c.job.entries ++ e ∷ []) c.job.cause can (same_volume source) (same_volume dest)
-    (fits_more c.job.entries e total c.job.plan.to dest.capacity sized (can.fits total sized)))
+    let P : JobSeen → Type 0 = λ j. CanWork source dest (record c { job = j }) in
+    subst P (sym is) (can_with source source dest dest c (c.job.entries ++ e ∷ []) can (same_volume source) (same_volume dest)
+    (fits_more c.job.entries e total c.job.plan.dst_off dest.capacity sized (can.fits total sized)))
 
 -- a write counts once at most
 pub once : (none : Bool) (before now : ℕ) → now ≡ (if none then before else before + 1) → now ≤ before + 1

@@ -1,59 +1,40 @@
 -- The runner's copy and the machine's: the job at the destination, with what the client and the source
 -- know of it.
-use Rattle.std.specs.Prelude.{◌≡◌, ◌⊎◌, ℕ, ◌+◌, ◌<◌, ◌≤◌, false, None, Some, [], length}
+use Rattle.std.specs.Prelude.{◌≡◌, ◌⊎◌, ℕ, ◌+◌, ◌<◌, ◌≤◌, false, Some, [], length}
 use Rattle.copy_model.specs.Volume.{Volume}
-use Rattle.copy_model.specs.Job.{Plan, size_of}
-use Rattle.copy_job.specs.declared.plan.Plan.{Plan as JobPlan}
+use Rattle.copy_model.specs.Job.{size_of}
 use Rattle.nfs_base.specs.declared.copy_spec.CopySpec.{CopySpec}
 use Rattle.sched_run.specs.declared.copying.Copying.{Copying}
 use Rattle.run_machine.specs.declared.choice.Choice.{Choice}
 use Rattle.run_machine.specs.Machine.{State, Step}
 use Rattle.run_machine.specs.Machine as machine
 
--- the plan of a copy: the job's, with the file that it reads
-abbrev pub whole_plan : ℕ → JobPlan → Plan
-whole_plan source_file plan =
-    record {
-      src_file = source_file;
-      src_off = plan.from;
-      dst_file = plan.file;
-      dst_off = plan.to;
-      count = plan.count;
-      consecutive = plan.consecutive;
-    }
-
 abbrev pub copying_of : Copying → machine.Copying
 copying_of c =
     record {
       number = c.number;
-      plan = whole_plan c.source_file c.job.plan;
+      plan = machine.plan_of c.job.plan;
       entries = c.job.entries;
     }
 
--- a copy that was just accepted
-abbrev pub new_copying : ℕ → CopySpec → Copying
-new_copying number spec =
-    record {
-      number = number;
-      source_file = spec.src_file;
-      job = record {
-        plan = record { file = spec.dst_file; from = spec.src_off; to = spec.dst_off; count = spec.count; consecutive = spec.consecutive };
-        entries = [];
-        cause = None;
-      };
-    }
+-- a copy that was just accepted, at a destination of this capacity
+abbrev pub new_copying : ℕ → CopySpec → ℕ → Copying
+new_copying number spec capacity =
+    record { number = number; job = record { plan = spec; capacity = capacity; entries = [] } }
 
 -- the machine's state while there is a copy
 abbrev pub state_of : Volume → Volume → Copying → State
 state_of source dest c = record { source = source; dest = dest; copy = Some (copying_of c) }
 
--- The copy's files are there at both volumes, and its range, once it is sized, fits the destination.
+-- The copy's files are there at both volumes, its job knows the destination's capacity, and its range, once it is
+-- sized, fits.
 pub record CanWork (source dest : Volume) (c : Copying) : Type 0 where
-  pub reads_low : 1 ≤ c.source_file
-  pub reads : c.source_file < length source.files
-  pub lands_low : 1 ≤ c.job.plan.file
-  pub lands : c.job.plan.file < length dest.files
-  pub fits : (total : ℕ) → size_of c.job.entries ≡ Some total → c.job.plan.to + total ≤ dest.capacity
+  pub reads_low : 1 ≤ c.job.plan.src_file
+  pub reads : c.job.plan.src_file < length source.files
+  pub lands_low : 1 ≤ c.job.plan.dst_file
+  pub lands : c.job.plan.dst_file < length dest.files
+  pub fits : (total : ℕ) → size_of c.job.entries ≡ Some total → c.job.plan.dst_off + total ≤ dest.capacity
+  pub capacity_is : c.job.capacity ≡ dest.capacity
 
 -- The step left a copy that can go on, at volumes of as many files that were written to once at most.
 pub record StillWorks (source now_source dest now_dest : Volume) (c : Copying) : Type 0 where

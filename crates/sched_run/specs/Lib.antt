@@ -1,3 +1,4 @@
+pub mod LoneJob
 pub mod Blame
 pub mod Fresh
 pub mod Running

@@ -1,29 +1,28 @@
-ghost use Rattle.std.specs.Prelude.{◌≡◌, ℕ, ◌+◌, ◌-◌, ◌<◌, ◌≤◌, ◌^◌, IfOk, OnErr, Some, None, false, length, [], ◌∷◌};
+ghost use Rattle.std.specs.Prelude.{◌≡◌, ◌⊎◌, ℕ, ◌+◌, ◌-◌, ◌<◌, ◌≤◌, ◌^◌, IfOk, OnErr, Some, None, false, length, [], ◌∷◌};
 ghost use Rattle.copy_model.specs.Volume.{Volume as Files, file_at, fail_write};
 ghost use Rattle.copy_model.specs.Job.{size_of, has_ended, unlanded};
-ghost use Rattle.copy_job.specs.Log.{next_chunk, IsInside};
 ghost use Rattle.run_machine.specs.Machine as machine;
 ghost use Rattle.sched_run.specs.Blame.{Blamed};
-ghost use Rattle.sched_run.specs.Copy.{copying_of, state_of, whole_plan, new_copying, CanWork, StillWorks, IsCut, IsCutAt};
+ghost use Rattle.sched_run.specs.Copy.{copying_of, state_of, new_copying, CanWork, StillWorks, IsCut, IsCutAt};
+ghost use Rattle.sched_run.specs.LoneJob.{next_chunk, IsInside};
 ghost use Rattle.sched_run.specs.Running.{IsStep};
 
+use crate::lone_job::LoneJob;
 use crate::turn::Turn;
 use block_file::{ReadFault, Volume, WriteFault};
-use copy_job::{Chunk, Job, Plan};
 use disk_model::Disk;
+use job_table::Chunk;
 use nfs_base::{CopySpec, JobName, Note, Side, Status, Stop};
 use outcome::Mem;
 use run_machine::Choice;
 use sched_text::Line;
 use std::alloc::Global;
 
-/// The one copy of a run: the client's number of it, the file that it reads at the source, and its job
-/// at the destination.
+/// The one copy of a run: the client's number of it, and its job at the destination.
 #[derive(Drop)]
 pub struct Copying {
     pub number: u8,
-    pub source_file: u32,
-    pub job: Job,
+    pub job: LoneJob,
 }
 
 /// The name of the destination's one job.
@@ -53,44 +52,38 @@ fn stop_status(cause: Stop) -> Status
 
 /// The length of the range to copy, given the source file's size and the capacity of the destination's
 /// files, or why it can't be copied.
-fn sizing(source_file: u32, plan: Plan, size: u64, capacity: u64) -> Result<u64, Stop>
-    ensures sizing { result ≡ machine.sizing (whole_plan source_file plan) size capacity }
-    ensures reads { IfOk result (λ len. plan.from + len ≤ size) }
-    ensures fits { IfOk result (λ len. plan.to + len ≤ capacity) }
-    ensures lands { IfOk result (λ len. plan.to + len < 2 ^ 64) }
+fn sizing(spec: CopySpec, size: u64, capacity: u64) -> Result<u64, Stop>
+    ensures sizing { result ≡ machine.sizing (machine.plan_of spec) size capacity }
+    ensures asked { IfOk result (λ len. (spec.count ≡ 0) ⊎ (len ≡ spec.count)) }
+    ensures reads { IfOk result (λ len. spec.src_off + len ≤ size) }
+    ensures fits { IfOk result (λ len. spec.dst_off + len ≤ capacity) }
+    ensures lands { IfOk result (λ len. spec.dst_off + len < 2 ^ 64) }
 {
-    match plan.from.checked_add(plan.count) {
+    match spec.src_off.checked_add(spec.count) {
         Some(end) if end <= size => {}
         _ => return Err(Stop::PastEnd),
     }
-    let len = if plan.count == 0 {
-        size - plan.from
+    let len = if spec.count == 0 {
+        size - spec.src_off
     } else {
-        plan.count
+        spec.count
     };
-    match plan.to.checked_add(len) {
+    match spec.dst_off.checked_add(len) {
         Some(end) if end <= capacity => Ok(len),
         _ => Err(Stop::NoRoom),
     }
 }
 
 impl Copying {
-    /// A copy that was just accepted.
-    pub fn new(number: u8, spec: CopySpec) -> Copying
-        ensures { result ≡ new_copying number spec }
+    /// A copy that was just accepted, at this destination.
+    pub fn new<D: Disk>(alloc: Global, number: u8, spec: CopySpec, dest: &Volume<D>) -> Mem<Copying>
+        requires { spec.dst_off + spec.count ≤ dest.now.volume.capacity }
+        ensures { IfOk result (λ copying. copying ≡ new_copying number spec dest.now.volume.capacity) }
     {
-        let plan = Plan {
-            file: spec.dst_file,
-            from: spec.src_off,
-            to: spec.dst_off,
-            count: spec.count,
-            consecutive: spec.consecutive,
-        };
-        Copying {
+        Ok(Copying {
             number,
-            source_file: spec.src_file,
-            job: Job::new(plan),
-        }
+            job: LoneJob::new(alloc, spec, dest.boot(), dest.capacity())?,
+        })
     }
 
     /// One step of the destination's worker at this copy.
@@ -153,8 +146,9 @@ impl Copying {
         if source.is_broken() {
             return self.stop(alloc, dest, Choice::Went, Stop::DiskFault);
         }
-        let size = source.file(self.source_file).size;
-        match sizing(self.source_file, self.job.plan(), size, dest.capacity()) {
+        let plan = self.job.plan();
+        let size = source.file(plan.src_file).size;
+        match sizing(plan, size, dest.capacity()) {
             Ok(len) => self.begin_sized(alloc, source, dest, len),
             Err(cause) => self.stop(alloc, dest, Choice::Went, cause),
         }
@@ -172,9 +166,10 @@ impl Copying {
         requires worn { dest.old.volume.writes < 2 ^ 32 - 1 }
         requires not_sized { size_of self.old.job.entries ≡ None }
         requires running { has_ended self.old.job.entries ≡ false }
-        requires reads { self.old.job.plan.from + len < 2 ^ 64 }
-        requires fits { self.old.job.plan.to + len ≤ dest.old.volume.capacity }
-        requires lands { self.old.job.plan.to + len < 2 ^ 64 }
+        requires asked { (self.old.job.plan.count ≡ 0) ⊎ (len ≡ self.old.job.plan.count) }
+        requires reads { self.old.job.plan.src_off + len < 2 ^ 64 }
+        requires fits { self.old.job.plan.dst_off + len ≤ dest.old.volume.capacity }
+        requires lands { self.old.job.plan.dst_off + len < 2 ^ 64 }
         ensures step { D.Told → IfOk result (λ turn. IsStep
             (machine.moves_sized (state_of source.old.volume dest.old.volume self.old) turn.choice (copying_of self.old) len)
             (state_of source.new.volume dest.new.volume self.new)
@@ -194,7 +189,7 @@ impl Copying {
             len,
         };
         let mut first = Turn::one(alloc, sized)?;
-        self.job.size(len);
+        self.job.size(len)?;
         let mut turn = self.go_on(alloc, source, dest, len)?;
         first.lines.append(&mut turn.lines)?;
         Ok(Turn {
@@ -266,7 +261,7 @@ impl Copying {
     {
         let plan = self.job.plan();
         let mut piece = vec![in alloc; 0; chunk.len as usize]?;
-        match source.read(self.source_file, plan.from + chunk.off, &mut piece) {
+        match source.read(plan.src_file, plan.src_off + chunk.off, &mut piece) {
             Ok(()) => self.land(alloc, dest, chunk, &piece, total),
             Err(ReadFault::Broken) => self.stop(alloc, dest, Choice::Went, Stop::DiskFault),
             Err(ReadFault::DiskFailed) => {
@@ -284,9 +279,9 @@ impl Copying {
         piece: &[u8],
         total: u64,
     ) -> Mem<Turn>
-        requires lands_low { 1 ≤ self.old.job.plan.file }
-        requires lands { self.old.job.plan.file < length dest.old.volume.files }
-        requires fits { self.old.job.plan.to + total ≤ dest.old.volume.capacity }
+        requires lands_low { 1 ≤ self.old.job.plan.dst_file }
+        requires lands { self.old.job.plan.dst_file < length dest.old.volume.files }
+        requires fits { self.old.job.plan.dst_off + total ≤ dest.old.volume.capacity }
         requires worn { dest.old.volume.writes < 2 ^ 32 - 1 }
         requires sized { size_of self.old.job.entries ≡ Some total }
         requires running { has_ended self.old.job.entries ≡ false }
@@ -315,7 +310,7 @@ impl Copying {
             len: chunk.len,
         };
         let turn = Turn::one(alloc, landed)?;
-        match dest.write(plan.file, plan.to + chunk.off, piece) {
+        match dest.write(plan.dst_file, plan.dst_off + chunk.off, piece) {
             Ok(()) => {}
             Err(WriteFault::DiskFailed) => {
                 return self.stop(alloc, dest, Choice::FailedAt(Side::Dest), Stop::DiskFault);
@@ -358,7 +353,7 @@ impl Copying {
         let stable = Note::Stable { copy: self.number };
         let mut turn = Turn::one(alloc, committed)?;
         turn.lines.push(Line::Note(stable))?;
-        match dest.commit(self.job.plan().file) {
+        match dest.commit(self.job.plan().dst_file) {
             Ok(()) => {}
             Err(ReadFault::Broken) => {
                 return self.stop(alloc, dest, Choice::Went, Stop::DiskFault);

@@ -7,6 +7,7 @@
 mod client;
 mod copying;
 mod fresh;
+mod lone_job;
 mod server;
 mod system;
 mod turn;

@@ -214,7 +214,8 @@ impl<D: Disk + Drop> System<D> {
                     count: spec.count,
                 };
                 let turn = Turn::one(alloc, accepted)?;
-                self.copy = Some(Copying::new(copy, spec));
+                let copying = Copying::new(alloc, copy, spec, dest)?;
+                self.copy = Some(copying);
                 self.context = next;
                 Ok(turn)
             }

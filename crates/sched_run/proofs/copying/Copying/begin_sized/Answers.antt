@@ -1,9 +1,9 @@
 use Rattle.std.proofs.Common.{◌≡◌, ◌∙◌, inr, ap, Some, [], ◌∷◌, ◌++◌, subst, sym}
 use Rattle.copy_model.specs.Job.{Sized, size_of, unlanded}
-use Rattle.copy_job.specs.Log.{JobLog}
 use Rattle.run_machine.specs.declared.choice.Choice.{Choice}
 use Rattle.run_machine.specs.Machine.{State, moves, moves_sized}
 use Rattle.sched_run.specs.Copy.{copying_of, state_of, IsCut}
+use Rattle.sched_run.specs.LoneJob.{JobSeen}
 use Rattle.sched_run.proofs.Cuts.{on_cut, moves_source, moves_alike}
 use Rattle.sched_run.proofs.Sizes.{size_of-sized}
 use Rattle.sched_run.proofs.Works.{can_sized}
@@ -12,12 +12,12 @@ use Rattle.sched_run.proofs.copying.Copying.begin_sized.Goals as goal
 pub go_on-requires-clause-can : goal.go_on-requires-clause-can
 go_on-requires-clause-can g c =
     can_sized c.args.source.now.volume c.args.dest.now.volume c.args.self.now c.size.new.self c.args.len c.requires.can c.requires.not_sized
-    c.requires.fits c.size.ensures
+    c.requires.fits c.in_ok-size.ensures.ok
 
 pub go_on-requires-clause-sized : goal.go_on-requires-clause-sized
 go_on-requires-clause-sized g c =
-    let P : JobLog → Type 0 = λ j. size_of j.entries ≡ Some c.args.len in
-    subst P (sym c.size.ensures) (size_of-sized c.args.self.now.job.entries c.args.len c.requires.not_sized)
+    let P : JobSeen → Type 0 = λ j. size_of j.entries ≡ Some c.args.len in
+    subst P (sym c.in_ok-size.ensures.ok) (size_of-sized c.args.self.now.job.entries c.args.len c.requires.not_sized)
 
 pub returns-in_err-append-clause-cut : goal.returns-in_err-append-clause-cut
 returns-in_err-append-clause-cut g c = λ told.
@@ -26,10 +26,10 @@ returns-in_err-append-clause-cut g c = λ told.
     let old = c.args.self.now in
     let choice = c.in_ok-turn.turn.choice in
     let step = c.in_ok-turn.ensures.step told in
-    let P : JobLog → Type 0 = λ j. (moves (state_of source dest (record old { job = j })) choice (copying_of (record old { job = j })) c.args.len (unlanded j.entries c.args.len)).state.dest
+    let P : JobSeen → Type 0 = λ j. (moves (state_of source dest (record old { job = j })) choice (copying_of (record old { job = j })) c.args.len (unlanded j.entries c.args.len)).state.dest
     ≡ (moves_sized (state_of source dest old) choice (copying_of old) c.args.len).state.dest in
     let sized = record old.job { entries = old.job.entries ++ Sized c.args.len ∷ [] } in
-    let same = subst P (sym c.size.ensures) (moves_alike source dest (Some (copying_of (record old { job = sized }))) (Some (copying_of old)) choice
+    let same = subst P (sym c.in_ok-size.ensures.ok) (moves_alike source dest (Some (copying_of (record old { job = sized }))) (Some (copying_of old)) choice
     (copying_of (record old { job = sized })) c.args.len (unlanded sized.entries c.args.len)) in
     let one = record old { job = c.size.new.self } in
     let made : IsCut (λ (x : Choice). moves_sized (state_of source dest old) x (copying_of old) c.args.len) source c.go_on.new.source.volume dest c.go_on.new.dest.volume = record {

@@ -27,10 +27,10 @@ pub returns-in-Err-DiskFailed-clause-step : goal.returns-in-Err-DiskFailed-claus
 returns-in-Err-DiskFailed-clause-step g c = λ told.
     let s = state_of c.args.source.now.volume c.args.dest.now.volume c.args.self.now in
     let whole : c.args.dest.now.volume.broken ≡ false = search rules in
-    let failed : c.commit.new.self.volume ≡ fail_commit c.args.dest.now.volume c.args.self.now.job.plan.file = search rules in
+    let failed : c.commit.new.self.volume ≡ fail_commit c.args.dest.now.volume c.args.self.now.job.plan.dst_file = search rules in
     let same = uncommitted_failed s (copying_of c.args.self.now) c.args.total whole in
     stopped_in _ (FailedAt Dest) DiskFault (λ x. moves s x (copying_of c.args.self.now) c.args.total None) c.args.source.now.volume c.args.source.now.volume
-    c.commit.new.self.volume (fail_commit c.args.dest.now.volume c.args.self.now.job.plan.file) c.args.self.now c.stop-in-Err-DiskFailed.new.self
+    c.commit.new.self.volume (fail_commit c.args.dest.now.volume c.args.self.now.job.plan.dst_file) c.args.self.now c.stop-in-Err-DiskFailed.new.self
     refl failed
     c.stop-in-Err-DiskFailed.ensures.choice c.stop-in-Err-DiskFailed.ensures.step same.0 same.1
 
@@ -56,5 +56,5 @@ pub returns-in-Err-DiskFailed-clause-cut : goal.returns-in-Err-DiskFailed-clause
 returns-in-Err-DiskFailed-clause-cut g c = λ told.
     let s = state_of c.args.source.now.volume c.args.dest.now.volume c.args.self.now in
     let whole : c.args.dest.now.volume.broken ≡ false = search rules in
-    let failed : c.commit.new.self.volume ≡ fail_commit c.args.dest.now.volume c.args.self.now.job.plan.file = search rules in
+    let failed : c.commit.new.self.volume ≡ fail_commit c.args.dest.now.volume c.args.self.now.job.plan.dst_file = search rules in
     on_cut _ _ (committing_cut s (copying_of c.args.self.now) c.args.total c.commit.new.self.volume whole failed)

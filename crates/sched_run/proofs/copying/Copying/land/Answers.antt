@@ -1,4 +1,4 @@
-use Rattle.std.proofs.Common.{◌≡◌, true, false, rules, refl, ap, inl, inr, length, ◌==◌}
+use Rattle.std.proofs.Common.{◌≡◌, true, false, rules, refl, ap, inl, inr, length, ◌==◌, arith}
 use Rattle.copy_model.specs.Volume.{fail_write}
 use Rattle.copy_model.specs.Job.{Landed}
 use Rattle.nfs_base.specs.declared.side.Side.TheVariants.{Dest}
@@ -9,7 +9,7 @@ use Rattle.run_machine.specs.Machine.{lands, Step}
 use Rattle.sched_run.specs.Copy.{copying_of, state_of}
 use Rattle.sched_run.proofs.Stops.{stopped_in, unlanded_broken, unlanded_failed}
 use Rattle.sched_run.proofs.Cuts.{on_cut}
-use Rattle.sched_run.proofs.Works.{can_more, can_still, same_volume, once}
+use Rattle.sched_run.proofs.Works.{can_more, still_with, once}
 use Rattle.sched_run.proofs.copying.Copying.land.Goals as goal
 
 pub returns-in-Err-DiskFailed-clause-step : goal.returns-in-Err-DiskFailed-clause-step
@@ -42,7 +42,11 @@ returns-in-Err g c =
           refl (ap (λ (v : Opened g.row.D.Denot). v.volume) kept) c.stop-in-Err.ensures.choice c.stop-in-Err.ensures.step
           (ap (λ (x : Step). x.state) same) (ap (λ (x : Step). x.lines) same);
       source_went = search rules;
-      still = search rules;
+      still = λ source can_work.
+          let kept : c.write.new.self ≡ c.args.dest.now = search rules in
+          let writes = ap (λ (v : Opened g.row.D.Denot). v.volume.writes) kept in
+          still_with source dest c.write.new.self.volume c.stop-in-Err.new.self (c.stop-in-Err.ensures.can source dest can_work)
+          c.write.ensures.opening (omega (arith, writes));
       size = search rules;
       tag = search rules;
       blamed = search rules;
@@ -57,10 +61,4 @@ returns-clause-still g c = λ source can_work.
     let dest = c.args.dest.now.volume in
     let can = can_more source dest c.args.self.now (Landed c.args.chunk.off c.args.chunk.len) c.land.new.self c.args.total
     can_work c.requires.sized c.land.ensures in
-    record {
-      can = can_still source source dest c.write.new.self.volume _ can (same_volume source) c.write.ensures.opening;
-      source_files = refl;
-      dest_files = c.write.ensures.opening.files;
-      source_written = refl;
-      dest_written = once (length c.args.piece.now == 0) dest.writes c.write.new.self.volume.writes (search rules);
-    }
+    still_with source dest c.write.new.self.volume _ can c.write.ensures.opening (once (length c.args.piece.now == 0) dest.writes c.write.new.self.volume.writes (search rules))

@@ -1,4 +1,0 @@
-pub mod Landings
-pub mod Logs
-pub mod Cursors
-pub mod Lawful
