@@ -7,3 +7,4 @@ pub mod MessageLemmas
 pub mod EndLemmas
 pub mod KeptLemmas
 pub mod NamedLemmas
+pub mod GrantedLemmas

@@ -1,6 +1,6 @@
 -- What an acceptor answers to a call of an established context: the first test that fails, in the table's
 -- order (RFC 2203 section 5.3.3, RFC 7861 section 2).
-use Rattle.std.specs.Prelude.{◌≡◌, ℕ, ◌^◌, ◌==◌, ◌||◌, ◌&&◌, Bool, not, nat_lt, nat_le, if◌then◌else◌, List, [], ◌∷◌, map, is_none, Option, Some, None}
+use Rattle.std.specs.Prelude.{◌≡◌, ℕ, ◌^◌, ◌==◌, ◌||◌, ◌&&◌, Bool, not, nat_lt, nat_le, if◌then◌else◌, List, [], ◌∷◌, map, is_none, Option, Some, None, IfSome}
 use Rattle.rpc_msg.specs.declared.call.CallHead.{CallHead}
 use Rattle.rpc_msg.specs.declared.gss_cred.GssCred.{GssCred}
 use Rattle.gss_ctx.specs.declared.context.Entry.{Entry}
@@ -112,3 +112,9 @@ with_use now _ entries = entries
 
 abbrev pub after_verdict : {P : Type 0} → ℕ → Verdict → ContextTable P → ContextTable P
 after_verdict now verdict table = record table { entries = with_use now verdict.answer (with_seen verdict.seen table.entries) }
+
+-- an admission sees its number, and CREATE is admitted under a context that isn't a child
+abbrev pub IsGranted : {P : Type 0} → Option GssCred → List (Entry P) → Option (ℕ × ℕ) → Admit → Type 0
+IsGranted cred entries seen (Admitted number seq args) =
+    (seen ≡ Some (number, seq)) × IfSome cred (λ c. c.gss_proc ≡ RPCSEC_GSS_CREATE → parent_of number entries ≡ None)
+IsGranted cred entries seen _ = Unit {0}

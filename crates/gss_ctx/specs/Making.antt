@@ -1,5 +1,5 @@
 -- How a context is made: by INIT, as a child by CREATE, and for callbacks.
-use Rattle.std.specs.Prelude.{◌≡◌, ℕ, ◌+◌, Bool, true, false, List, Option, Some, None, Result, Ok, Err}
+use Rattle.std.specs.Prelude.{◌≡◌, ℕ, ◌+◌, ◌≤◌, Bool, true, false, List, length, Option, Some, None, Result, Ok, Err}
 use Rattle.wire_xdr.specs.Words.{word_bytes}
 use Rattle.streams.specs.declared.draws.Drawn.{Drawn}
 use Rattle.streams.specs.declared.draws.Drawn.TheVariants.{Got, Failed}
@@ -10,7 +10,7 @@ use Rattle.gss_ctx.specs.declared.making.Inited.{Inited}
 use Rattle.gss_ctx.specs.declared.making.Inited.TheVariants.{Made, Refused}
 use Rattle.gss_ctx.specs.Table.{ContextTable, handle_of, is_full, with_new}
 use Rattle.gss_ctx.specs.Seals.{Mic}
-use Rattle.nfs_base.specs.declared.limits.TheConstants.{WINDOW_SIZE}
+use Rattle.nfs_base.specs.declared.limits.TheConstants.{TOKEN_LIMIT, WINDOW_SIZE}
 use Rattle.gss_mech.specs.declared.mechanism.TheConstants.{ACCEPTOR}
 use Rattle.gss_ctx.specs.declared.numbers.TheConstants.{CHILD_KEY, CALLBACK_KEY}
 
@@ -31,6 +31,11 @@ child_context derived handle parent principal of carry now =
 abbrev pub callback_context : {P : Type 0} → (List ℕ → ℕ → List ℕ → List ℕ) → List ℕ → List ℕ → List ℕ → ℕ → Context P
 callback_context derived handle principal from now =
     record { principal = principal; parent = None; key = derived from CALLBACK_KEY handle; carry = None; used = now }
+
+-- the token that goes back is short enough for the wire
+abbrev pub HasShortToken : Inited → Type 0
+HasShortToken (Made handle window token verifier) = length token ≤ TOKEN_LIMIT
+HasShortToken (Refused minor) = Unit {0}
 
 -- What INIT answers, and what it leaves: the token is tested first, with a nonce of zeros, then the table,
 -- then the draw. That the token is refused with the drawn nonce doesn't come, by the law of mechanisms.

@@ -4,7 +4,7 @@ ghost use Rattle.rpc_msg.specs.Heads.{call};
 ghost use Rattle.rpc_msg.specs.Messages.{IsHead};
 ghost use Rattle.gss_ctx.specs.Table.{context_of, is_named, live_entry, noted_on, used_on, is_number};
 ghost use Rattle.gss_ctx.specs.Seals.{cred_of, header_of};
-ghost use Rattle.gss_ctx.specs.Admission.{is_served, may_create, number_rows, service_rows, first_failing, seen_answer, parent_of, number_of, IsNamed, verdict_of, with_seen, with_use, after_verdict};
+ghost use Rattle.gss_ctx.specs.Admission.{is_served, may_create, number_rows, service_rows, first_failing, seen_answer, parent_of, number_of, IsNamed, IsGranted, verdict_of, with_seen, with_use, after_verdict};
 
 use crate::context::Entry;
 use crate::contexts::{Contexts, entry_of, handle_of, is_live};
@@ -164,7 +164,8 @@ impl<P> Contexts<P> {
     }
 
     /// The first half of [`Contexts::admit`]: the answer to a call, and what is to be seen with it. Nothing is
-    /// changed yet. Where the answer is under a context, this is the live one that the call's handle names.
+    /// changed yet. Where the answer is under a context, this is the live one that the call's handle names. An
+    /// admission sees its number, and CREATE is admitted under a context that isn't a child.
     #[tactic(auto, unfolding(crate::specs::Admission::verdict_of))]
     pub fn weigh<M: Mechanism>(
         &self,
@@ -178,6 +179,7 @@ impl<P> Contexts<P> {
         ensures verdict { IfOk result (λ verdict. verdict ≡ verdict_of M.mic_of now head.now body.now self.now) }
         ensures there { IfOk result (λ verdict. IfSome (number_of verdict.answer) (λ number. IsSome (context_of number self.now.entries))) }
         ensures named { IfOk result (λ verdict. IfSome (number_of verdict.answer) (IsNamed now (cred_of head.now) self.now)) }
+        ensures granted { IfOk result (λ verdict. IsGranted (cred_of head.now) self.now.entries verdict.seen verdict.answer) }
     {
         let Some(cred) = read_cred(alloc, head)? else {
             return Ok(unseen(Admit::Denied(AUTH_BADCRED)));

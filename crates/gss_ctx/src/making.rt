@@ -2,7 +2,7 @@ ghost use Rattle.std.specs.Prelude.{◌≡◌, ◌<◌, ◌≤◌, ◌+◌, IfOk
 ghost use Rattle.std.specs.Option.{option_copied};
 ghost use Rattle.outcome.specs.Causes.{Rose};
 ghost use Rattle.gss_ctx.specs.Table.{handle_of, is_full, is_root, root_of, with_new};
-ghost use Rattle.gss_ctx.specs.Making.{Inits, Adds, MakesChild, MakesChildOf, callback_context};
+ghost use Rattle.gss_ctx.specs.Making.{HasShortToken, Inits, Adds, MakesChild, MakesChildOf, callback_context};
 
 use crate::context::{Context, Entry};
 use crate::contexts::{Contexts, handle_of, is_live};
@@ -33,7 +33,8 @@ pub enum Inited {
 
 impl<P: Drop> Contexts<P> {
     /// Makes a context of a token, and takes out the dead ones. The token is tested first, then the table,
-    /// then the draw. The draws' count of faults never falls, and minor 1 comes only where it rose.
+    /// then the draw. The draws' count of faults never falls, and minor 1 comes only where it rose. The token that
+    /// goes back has at most 4,096 bytes.
     #[tactic(auto, unfolding(wire_xdr::specs::Words::word_bytes))]
     pub fn init<M: Mechanism, W: Draws>(
         &mut self,
@@ -49,6 +50,7 @@ impl<P: Drop> Contexts<P> {
         ensures later { W.faults draws.old ≤ W.faults draws.new }
         ensures drawn { IfOk result (λ answer. answer ≡ Inited.Refused 1 → Rose (W.faults draws.old) (W.faults draws.new)) }
         ensures failing { W.failing draws.new ≡ W.failing draws.old }
+        ensures token { IfOk result HasShortToken }
     {
         if mech.accept(alloc, token, &[0; 32])?.is_none() {
             return Ok(Inited::Refused { minor: 3 });
