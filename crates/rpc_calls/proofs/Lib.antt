@@ -1,0 +1,3 @@
+pub mod JudgingLemmas
+pub mod ChildLemmas
+pub mod ReplyLemmas
