@@ -115,16 +115,7 @@ fn judge_gss<P, M: Mechanism>(
         let what = init_call(alloc, program, &head, &cred, body)?;
         return Ok(without_context(head, what));
     }
-    judge_under(
-        alloc,
-        contexts,
-        head,
-        &cred,
-        body,
-        now,
-        mech,
-        program,
-    )
+    judge_under(alloc, contexts, head, &cred, body, now, mech, program)
 }
 
 /// A call of an established context.
