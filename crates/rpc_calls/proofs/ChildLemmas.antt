@@ -1,12 +1,12 @@
 -- The context that admitted a CREATE is live once the call is counted, and has the key and principal that it had.
-use Rattle.std.specs.Prelude.{◌≡◌, ℕ, ◌-◌, ◌<◌, ◌==◌, ◌||◌, ◌&&◌, Bool, true, false, nat_lt, if◌then◌else◌, List, [], ◌∷◌, map, find, is_none, IsSome, Option, None, Some, option_map, Result, Ok, Err, refl}
+use Rattle.std.specs.Prelude.{◌≡◌, ℕ, ◌-◌, ◌==◌, ◌&&◌, Bool, true, false, nat_lt, if◌then◌else◌, List, [], ◌∷◌, map, find, is_none, IsSome, Option, None, Some, option_map, Result, refl}
 use Rattle.std.specs.Result.{result_ok}
 use Rattle.std.proofs.Common.{sym, ◌∙◌, ap, subst, arith}
 use Rattle.std.proofs.lemmas.Bool.{lt-ltb}
 use Rattle.gss_ctx.specs.Admission.{parent_in, parent_of}
 use Rattle.gss_ctx.specs.Ends.{admission}
 use Rattle.gss_ctx.specs.Making.{MakesChildOf}
-use Rattle.gss_ctx.specs.Table.{ContextTable, context_of, entry_of, is_full, is_number, is_live, is_root, root_of, noted_on, used_on}
+use Rattle.gss_ctx.specs.Table.{ContextTable, context_of, entry_of, is_full, is_live, is_root, root_of, noted_on, used_on}
 use Rattle.gss_ctx.specs.Window.{noted}
 use Rattle.gss_ctx.specs.declared.context.Context.{Context}
 use Rattle.gss_ctx.specs.declared.context.Entry.{Entry}

@@ -1,6 +1,6 @@
 -- What is known of a judged call.
 use Rattle.std.specs.Prelude.{◌≡◌, ℕ, ◌==◌, ◌||◌, Bool, true, false, if◌then◌else◌, List, [], ◌∷◌, Option, None, Some, IfSome, IsSome, refl}
-use Rattle.std.proofs.Common.{sym, subst}
+use Rattle.std.proofs.Common.{subst}
 use Rattle.std.proofs.lemmas.Bool.{eqb-true}
 use Rattle.wire_xdr.specs.All.{value_of}
 use Rattle.rpc_msg.specs.Heads as heads
@@ -14,7 +14,7 @@ use Rattle.rpc_msg.specs.declared.reply.Stat.TheVariants.{ProcUnavail}
 use Rattle.gss_ctx.specs.Forms.{init_token, create}
 use Rattle.gss_ctx.specs.Seals.{cred_of}
 use Rattle.gss_ctx.specs.Table.{ContextTable, context_of}
-use Rattle.gss_ctx.specs.Admission.{IsGranted, IsNamed, number_of, parent_of}
+use Rattle.gss_ctx.specs.Admission.{IsGranted, IsNamed, number_of}
 use Rattle.gss_ctx.specs.declared.admit.Admit.{Admit}
 use Rattle.gss_ctx.specs.declared.admit.Admit.TheVariants.{Admitted, BadBody}
 use Rattle.gss_ctx.specs.declared.admit.Verdict.{Verdict}
@@ -23,7 +23,7 @@ use Rattle.rpc_calls.specs.declared.call.Call.{Call}
 use Rattle.rpc_calls.specs.declared.call.Program.{Program}
 use Rattle.rpc_calls.specs.declared.call.What.{What}
 use Rattle.rpc_calls.specs.declared.call.What.TheVariants as whats
-use Rattle.rpc_calls.specs.Judging.{program_fault, call_fault, unless_fault, with_none, init_with, create_with, data_call, context_call, paired, admitted, by_answer, under_of, by_verdict, without_context, is_init, init_call, plain_call, flavor_call, other_call, IsSayable, IsAdmitted, MayHaveChild, IsReady, IsSound}
+use Rattle.rpc_calls.specs.Judging.{program_fault, call_fault, unless_fault, with_none, init_with, create_with, data_call, context_call, paired, by_answer, under_of, by_verdict, without_context, is_init, init_call, plain_call, flavor_call, other_call, IsSayable, IsAdmitted, MayHaveChild, IsReady, IsSound}
 
 -- ---- what is asked of a call that is carried out, through its tests
 

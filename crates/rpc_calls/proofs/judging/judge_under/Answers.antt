@@ -1,4 +1,4 @@
-use Rattle.std.proofs.Common.{◌≡◌, sym, ap, subst, Some}
+use Rattle.std.proofs.Common.{◌≡◌, ap, subst}
 use Rattle.gss_ctx.specs.declared.admit.Admit.{Admit}
 use Rattle.gss_ctx.specs.declared.admit.Verdict.{Verdict}
 use Rattle.rpc_calls.specs.declared.call.Call.{Call}
