@@ -7,5 +7,6 @@ pub mod Numbered
 pub mod OpNames
 pub mod Ops
 pub mod Results
+pub mod VolumeCalls
 pub mod Walk
 pub mod Whole
