@@ -1,0 +1,3 @@
+pub mod Directed
+pub mod Numbers
+pub mod Short

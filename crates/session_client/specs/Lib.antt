@@ -1,0 +1,6 @@
+pub mod Answers
+pub mod Pending
+pub mod Records
+pub mod Sealing
+pub mod Setup
+pub mod Slots
