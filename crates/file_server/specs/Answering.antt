@@ -1,6 +1,6 @@
 -- How an operation of a server is answered, and the tests that operations share: of the current handle and of a stateid.
 -- RFC 8881 sections 8.2 and 16.2.3.1.
-use Rattle.std.specs.Prelude.{◌≡◌, ℕ, ◌+◌, ◌*◌, ◌<◌, ◌≤◌, ◌==◌, ◌&&◌, Bool, true, false, Option, Some, None, List, [], length, if◌then◌else◌}
+use Rattle.std.specs.Prelude.{◌≡◌, ◌⊎◌, ℕ, ◌+◌, ◌*◌, ◌<◌, ◌≤◌, ◌==◌, ◌&&◌, Bool, true, false, Option, Some, None, List, [], length, if◌then◌else◌}
 use Rattle.wire_xdr.specs.Page.{Added}
 use Rattle.nfs_base.specs.declared.limits.TheConstants.{DATA_LIMIT}
 use Rattle.nfs_base.specs.declared.state_id.StateId.{StateId}
@@ -11,6 +11,9 @@ use Rattle.state_ids.specs.Opens.{OpenTable, check_refusal}
 use Rattle.state_ids.specs.declared.access.Access.{Access}
 use Rattle.server_volume.specs.declared.used.TheConstants.{MOST_CALLS}
 use Rattle.server_volume.specs.Choices.{Grows}
+use Rattle.file_server.specs.declared.extension.Ask.{Ask}
+use Rattle.file_server.specs.declared.extension.Caller.{Caller}
+use Rattle.file_server.specs.declared.extension.Gate.{Gate}
 use Rattle.file_server.specs.declared.held.Held.{Held}
 use Rattle.file_server.specs.declared.progress.TheConstants.{MOST_RESULT}
 use Rattle.file_server.specs.declared.progress.Progress.{Progress}
@@ -90,3 +93,7 @@ pub record Says (old : Progress) (text : List ℕ) (new : Progress) : Type 0 whe
   pub used : new.used ≡ old.used
   pub held : new.held ≡ old.held
   pub has_read : new.has_read ≡ old.has_read
+
+-- what a particular server has is as it was, or as asking it once leaves it
+abbrev pub AsksOnce : {X P : Type 0} → (X → Caller → P → Ask → X × Gate) → X → Caller → P → X → Type 0
+AsksOnce gated old caller carry new = (new ≡ old) ⊎ ((asked : Ask) × (new ≡ (gated old caller carry asked).0))

@@ -7,7 +7,7 @@ ghost use Rattle.wire_xdr.specs.Parts.{list_spell};
 ghost use Rattle.wire_xdr.specs.Words.{word_bytes, hyper_bytes, opaque_bytes};
 ghost use Rattle.file_server.specs.declared.attributes.FileAttributes.{FileAttributes};
 ghost use Rattle.file_server.specs.Machine.{Does};
-ghost use Rattle.file_server.specs.Answering.{Ready, Keeps, Says, going_of};
+ghost use Rattle.file_server.specs.Answering.{Ready, Keeps, Says, AsksOnce, going_of};
 ghost use Rattle.file_server.specs.Attributes.{get_attributes, attributes_file, attributes_at, first_word, wants, served, mask_words, bytes_if, values_of};
 
 use crate::extension::{Ask, Caller, Extension, Gate};
@@ -71,6 +71,7 @@ impl<D: Disk, X> Files<D, X> {
         ensures used { p.new.used ≡ p.old.used }
         ensures volume { self.new.volume ≡ self.old.volume }
         ensures opens { self.new.opens ≡ self.old.opens }
+        ensures asked { AsksOnce X.gated self.old.extra caller.now carry.now self.new.extra }
     {
         match self.current_file(&p.held.current) {
             Err(status) => p.refuse(OP_GETATTR, status),
@@ -96,6 +97,7 @@ impl<D: Disk, X> Files<D, X> {
         ensures used { p.new.used ≡ p.old.used }
         ensures volume { self.new.volume ≡ self.old.volume }
         ensures opens { self.new.opens ≡ self.old.opens }
+        ensures asked { AsksOnce X.gated self.old.extra caller.now carry.now self.new.extra }
     {
         match self.extra.gate(caller, carry, &Ask::Attributes { file }) {
             Gate::Refuse(status) => p.refuse(OP_GETATTR, status),

@@ -10,6 +10,9 @@ pub struct Caller {
     /// The client's ID.
     pub client: u64,
 
+    /// The number of the session.
+    pub session: u32,
+
     /// The number of the context of the call.
     pub context: u32,
 

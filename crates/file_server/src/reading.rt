@@ -5,7 +5,7 @@ ghost use Rattle.nfs_base.specs.declared.limits.TheConstants.{DATA_LIMIT};
 ghost use Rattle.server_volume.specs.Store.{seat_of};
 ghost use Rattle.server_volume.specs.Moments.{Ran};
 ghost use Rattle.file_server.specs.Machine.{Does};
-ghost use Rattle.file_server.specs.Answering.{Ready, Keeps, going_of};
+ghost use Rattle.file_server.specs.Answering.{Ready, Keeps, AsksOnce, going_of};
 ghost use Rattle.file_server.specs.Reading.{read, read_file, read_from, read_bytes, read_refusal, read_length, read_eof};
 
 use crate::extension::{Ask, Caller, Extension, Gate};
@@ -34,6 +34,7 @@ impl<D: Disk, X> Files<D, X> {
         ensures keeps { Keeps p.old p.new }
         ensures ran { D.Told → Ran (seat_of D.size D.fuse D.timeline self.old.volume) (seat_of D.size D.fuse D.timeline self.new.volume) p.old.used p.new.used }
         ensures opens { self.new.opens ≡ self.old.opens }
+        ensures asked { AsksOnce X.gated self.old.extra caller.now carry.now self.new.extra }
     {
         if p.has_read {
             return p.refuse(OP_READ, Status::REP_TOO_BIG);
@@ -63,6 +64,7 @@ impl<D: Disk, X> Files<D, X> {
         ensures keeps { Keeps p.old p.new }
         ensures ran { D.Told → Ran (seat_of D.size D.fuse D.timeline self.old.volume) (seat_of D.size D.fuse D.timeline self.new.volume) p.old.used p.new.used }
         ensures opens { self.new.opens ≡ self.old.opens }
+        ensures asked { AsksOnce X.gated self.old.extra caller.now carry.now self.new.extra }
     {
         let ask = Ask::Read {
             file,
@@ -101,6 +103,7 @@ impl<D: Disk, X> Files<D, X> {
         ensures keeps { Keeps p.old p.new }
         ensures ran { D.Told → Ran (seat_of D.size D.fuse D.timeline self.old.volume) (seat_of D.size D.fuse D.timeline self.new.volume) p.old.used p.new.used }
         ensures opens { self.new.opens ≡ self.old.opens }
+        ensures extra { self.new.extra ≡ self.old.extra }
     {
         let size = self.volume.file(file).size;
         let len = read_length(size, off, count);
@@ -128,6 +131,7 @@ impl<D: Disk, X> Files<D, X> {
         ensures keeps { Keeps p.old p.new }
         ensures ran { D.Told → Ran (seat_of D.size D.fuse D.timeline self.old.volume) (seat_of D.size D.fuse D.timeline self.new.volume) p.old.used p.new.used }
         ensures opens { self.new.opens ≡ self.old.opens }
+        ensures extra { self.new.extra ≡ self.old.extra }
     {
         match call_read(&mut self.volume, &mut p.used, file, off, out) {
             Err(_) => p.refuse(OP_READ, Status::IO),

@@ -26,6 +26,7 @@ impl<D: Disk, X> Files<D, X> {
         ensures keeps { Keeps p.old p.new }
         ensures ran { D.Told → Ran (seat_of D.size D.fuse D.timeline self.old.volume) (seat_of D.size D.fuse D.timeline self.new.volume) p.old.used p.new.used }
         ensures opens { self.new.opens ≡ self.old.opens }
+        ensures extra { self.new.extra ≡ self.old.extra }
     {
         match self.byte_file(&p.held.current) {
             Err(status) => p.refuse(OP_COMMIT, status),
@@ -42,6 +43,7 @@ impl<D: Disk, X> Files<D, X> {
         ensures keeps { Keeps p.old p.new }
         ensures ran { D.Told → Ran (seat_of D.size D.fuse D.timeline self.old.volume) (seat_of D.size D.fuse D.timeline self.new.volume) p.old.used p.new.used }
         ensures opens { self.new.opens ≡ self.old.opens }
+        ensures extra { self.new.extra ≡ self.old.extra }
     {
         match call_commit(&mut self.volume, &mut p.used, file) {
             Err(_) => p.refuse(OP_COMMIT, Status::IO),
@@ -59,6 +61,7 @@ impl<D: Disk, X> Files<D, X> {
         ensures keeps { Keeps p.old p.new }
         ensures ran { D.Told → Ran (seat_of D.size D.fuse D.timeline self.old.volume) (seat_of D.size D.fuse D.timeline self.new.volume) p.old.used p.new.used }
         ensures opens { self.new.opens ≡ self.old.opens }
+        ensures extra { self.new.extra ≡ self.old.extra }
     {
         match self.byte_file(&p.held.current) {
             Err(status) => p.refuse(OP_WRITE, status),
@@ -75,6 +78,7 @@ impl<D: Disk, X> Files<D, X> {
         ensures keeps { Keeps p.old p.new }
         ensures ran { D.Told → Ran (seat_of D.size D.fuse D.timeline self.old.volume) (seat_of D.size D.fuse D.timeline self.new.volume) p.old.used p.new.used }
         ensures opens { self.new.opens ≡ self.old.opens }
+        ensures extra { self.new.extra ≡ self.old.extra }
     {
         match self.check_open(&p.held.id, &args.state_id, file, Access::Write) {
             Err(status) => p.refuse(OP_WRITE, status),
@@ -104,6 +108,7 @@ impl<D: Disk, X> Files<D, X> {
         ensures keeps { Keeps p.old p.new }
         ensures ran { D.Told → Ran (seat_of D.size D.fuse D.timeline self.old.volume) (seat_of D.size D.fuse D.timeline self.new.volume) p.old.used p.new.used }
         ensures opens { self.new.opens ≡ self.old.opens }
+        ensures extra { self.new.extra ≡ self.old.extra }
     {
         match call_write(&mut self.volume, &mut p.used, file, off, bytes) {
             Err(fault) => p.refuse(OP_WRITE, write_status(fault)),
@@ -120,6 +125,7 @@ impl<D: Disk, X> Files<D, X> {
         ensures keeps { CommitKeeps p.old p.new }
         ensures ran { D.Told → Ran (seat_of D.size D.fuse D.timeline self.old.volume) (seat_of D.size D.fuse D.timeline self.new.volume) p.old.used p.new.used }
         ensures opens { self.new.opens ≡ self.old.opens }
+        ensures extra { self.new.extra ≡ self.old.extra }
     {
         match how {
             Stability::Unstable => { p.say_written(count, Stability::Unstable, self.volume.boot()) }
@@ -136,6 +142,7 @@ impl<D: Disk, X> Files<D, X> {
         ensures keeps { CommitKeeps p.old p.new }
         ensures ran { D.Told → Ran (seat_of D.size D.fuse D.timeline self.old.volume) (seat_of D.size D.fuse D.timeline self.new.volume) p.old.used p.new.used }
         ensures opens { self.new.opens ≡ self.old.opens }
+        ensures extra { self.new.extra ≡ self.old.extra }
     {
         match call_commit(&mut self.volume, &mut p.used, file) {
             Err(_) => p.refuse(OP_WRITE, Status::IO),
