@@ -55,10 +55,10 @@ exchange_kept : (known : Option Client) (table : SessionTable) (principal owner 
 exchange_kept (Some c) table principal owner verifier now h = h
 exchange_kept None table principal owner verifier now h = exchange_room (is_full (beside table.clients principal owner) now) table principal owner verifier now refl h
 
-session_kept : (table : SessionTable) (c : Client) (client sequence : ℕ) (back : Option Back) → client_of_id table.clients client ≡ Some c → nat_le MOST_SESSIONS (length table.sessions) ≡ false → IsKept table → IsKept (with_session table c client sequence back)
-session_kept table c client sequence back found room h =
+session_kept : (table : SessionTable) (c : Client) (client sequence : ℕ) (asked : Bool) (back : Option Back) → client_of_id table.clients client ≡ Some c → nat_le MOST_SESSIONS (length table.sessions) ≡ false → IsKept table → IsKept (with_session table c client sequence asked back)
+session_kept table c client sequence asked back found room h =
     let old : List ℕ = option_to_list (old_client table.clients c) in
-    let made : CreatedSession = record { number = table.sessions_made + 1; back = is_some back } in
+    let made : CreatedSession = record { number = table.sessions_made + 1; asked = asked } in
     let added : List Session = table.sessions ++ new_session (table.sessions_made + 1) client back ∷ [] in
     let same = keys_changed (λ (d : Client). d.id) (λ d. d.id == client) (λ d. record d { last = sequence; created = Some made }) table.clients (λ d. refl) in
     record {
@@ -74,15 +74,15 @@ session_kept table c client sequence back found room h =
       paired = paired_create table.clients c client sequence made found h.paired;
     }
 
-create_room : (full : Bool) (table : SessionTable) (c : Client) (client sequence : ℕ) (back : Option Back) → client_of_id table.clients client ≡ Some c → nat_le MOST_SESSIONS (length table.sessions) ≡ full → IsKept table → IsKept (if full then table else with_session table c client sequence back)
-create_room true table c client sequence back found room h = h
-create_room false table c client sequence back found room h = session_kept table c client sequence back found room h
+create_room : (full : Bool) (table : SessionTable) (c : Client) (client sequence : ℕ) (asked : Bool) (back : Option Back) → client_of_id table.clients client ≡ Some c → nat_le MOST_SESSIONS (length table.sessions) ≡ full → IsKept table → IsKept (if full then table else with_session table c client sequence asked back)
+create_room true table c client sequence asked back found room h = h
+create_room false table c client sequence asked back found room h = session_kept table c client sequence asked back found room h
 
-create_kept : (found : Option Client) (table : SessionTable) (client sequence : ℕ) (back : Option Back) → client_of_id table.clients client ≡ found → IsKept table → IsKept (create_table_at found table client sequence back)
-create_kept None table client sequence back is h = h
-create_kept (Some c) table client sequence back is h =
-    elim (sequence == next_number c.last) as (λ b. IsKept (if b then (if nat_le MOST_SESSIONS (length table.sessions) then table else with_session table c client sequence back) else table)) [
-      | true ↦ create_room (nat_le MOST_SESSIONS (length table.sessions)) table c client sequence back is refl h
+create_kept : (found : Option Client) (table : SessionTable) (client sequence : ℕ) (asked : Bool) (back : Option Back) → client_of_id table.clients client ≡ found → IsKept table → IsKept (create_table_at found table client sequence asked back)
+create_kept None table client sequence asked back is h = h
+create_kept (Some c) table client sequence asked back is h =
+    elim (sequence == next_number c.last) as (λ b. IsKept (if b then (if nat_le MOST_SESSIONS (length table.sessions) then table else with_session table c client sequence asked back) else table)) [
+      | true ↦ create_room (nat_le MOST_SESSIONS (length table.sessions)) table c client sequence asked back is refl h
       | false ↦ h
     ]
 
@@ -101,7 +101,7 @@ ends_kept (Some c) table client false h = without_kept (client ∷ []) table h
 
 one_kept : (table : SessionTable) (call : TableCall) → IsKept table → IsKept (after_one table call)
 one_kept table (Exchanges principal owner verifier now) h = exchange_kept (known_client table.clients principal owner verifier) table principal owner verifier now h
-one_kept table (Creates client sequence back) h = create_kept (client_of_id table.clients client) table client sequence back refl h
+one_kept table (Creates client sequence asked back) h = create_kept (client_of_id table.clients client) table client sequence asked back refl h
 one_kept table (Destroys id) h = record {
   most = let fewer = filter_most (λ (s : Session). not (has_id table.boot id s)) table.sessions in omega (arith, fewer, h.most);
   clients = h.clients;

@@ -104,21 +104,21 @@ abbrev pub new_session : ℕ → ℕ → Option Back → Session
 new_session number client back =
     record { number = number; client = client; back = back; slots = replicate SLOTS fresh_slot }
 
--- what CREATE_SESSION meets at a client: its answer again, or a refusal, or a session that is to be made
+-- What CREATE_SESSION meets at a client; `asked` tells whether it asks for a back channel: its answer again, or a refusal, or a session that is to be made
 abbrev pub again_answer : Option CreatedSession → ℕ → ℕ → Created
 again_answer None boot sequence = create_refused SEQ_MISORDERED
-again_answer (Some made) boot sequence = Made (session_id boot made.number) sequence None made.back
+again_answer (Some made) boot sequence = Made (session_id boot made.number) sequence None made.asked
 
 abbrev pub create_answer_at : Option Client → SessionTable → ℕ → Bool → Created
-create_answer_at None table sequence back = create_refused STALE_CLIENTID
-create_answer_at (Some c) table sequence back =
+create_answer_at None table sequence asked = create_refused STALE_CLIENTID
+create_answer_at (Some c) table sequence asked =
     if sequence == next_number c.last then
     (if nat_le MOST_SESSIONS (length table.sessions) then create_refused DELAY
-    else Made (session_id table.boot (table.sessions_made + 1)) sequence (old_client table.clients c) back)
+    else Made (session_id table.boot (table.sessions_made + 1)) sequence (old_client table.clients c) asked)
     else (if sequence == c.last then again_answer c.created table.boot sequence else create_refused SEQ_MISORDERED)
 
 abbrev pub create_answer : SessionTable → ℕ → ℕ → Bool → Created
-create_answer table client sequence back = create_answer_at (client_of_id table.clients client) table sequence back
+create_answer table client sequence asked = create_answer_at (client_of_id table.clients client) table sequence asked
 
 -- the client has a session of this sequence
 abbrev pub confirmed_by : ℕ → ℕ → CreatedSession → List Client → List Client
@@ -126,33 +126,33 @@ confirmed_by client sequence made clients =
     changed (λ c. c.id == client) (λ c. record c { last = sequence; created = Some made }) clients
 
 -- the table with a session more: its client is confirmed
-abbrev pub session_added : SessionTable → ℕ → ℕ → Option Back → SessionTable
-session_added table client sequence back =
+abbrev pub session_added : SessionTable → ℕ → ℕ → Bool → Option Back → SessionTable
+session_added table client sequence asked back =
     let number = table.sessions_made + 1 in
     record table {
-      clients = confirmed_by client sequence (record { number = number; back = is_some back }) table.clients;
+      clients = confirmed_by client sequence (record { number = number; asked = asked }) table.clients;
       sessions = table.sessions ++ new_session number client back ∷ [];
       sessions_made = number;
     }
 
 -- the same, and the pair's old client has ended
-abbrev pub with_session : SessionTable → Client → ℕ → ℕ → Option Back → SessionTable
-with_session table c client sequence back =
-    without (option_to_list (old_client table.clients c)) (session_added table client sequence back)
+abbrev pub with_session : SessionTable → Client → ℕ → ℕ → Bool → Option Back → SessionTable
+with_session table c client sequence asked back =
+    without (option_to_list (old_client table.clients c)) (session_added table client sequence asked back)
 
-abbrev pub create_table_at : Option Client → SessionTable → ℕ → ℕ → Option Back → SessionTable
-create_table_at None table client sequence back = table
-create_table_at (Some c) table client sequence back =
+abbrev pub create_table_at : Option Client → SessionTable → ℕ → ℕ → Bool → Option Back → SessionTable
+create_table_at None table client sequence asked back = table
+create_table_at (Some c) table client sequence asked back =
     if sequence == next_number c.last then
-    (if nat_le MOST_SESSIONS (length table.sessions) then table else with_session table c client sequence back)
+    (if nat_le MOST_SESSIONS (length table.sessions) then table else with_session table c client sequence asked back)
     else table
 
 -- the back channel that a request asks for: with a handle there is one
 abbrev pub asked_back : ℕ → ℕ → Option (List ℕ) → Option Back
 asked_back conn program back = option_map (λ handle. record { conn = conn; program = program; handle = handle }) back
 
-abbrev pub create_table : SessionTable → ℕ → ℕ → Option Back → SessionTable
-create_table table client sequence back = create_table_at (client_of_id table.clients client) table client sequence back
+abbrev pub create_table : SessionTable → ℕ → ℕ → Bool → Option Back → SessionTable
+create_table table client sequence asked back = create_table_at (client_of_id table.clients client) table client sequence asked back
 
 -- ---- DESTROY_SESSION, RECLAIM_COMPLETE, DESTROY_CLIENTID
 

@@ -12,7 +12,7 @@ no_clients boot = record { boot = boot; clients = []; sessions = []; clients_mad
 -- a call that may change the tables
 pub data TableCall : Type 0 where
   Exchanges : List ℕ → List ℕ → List ℕ → ℕ → TableCall
-  Creates : ℕ → ℕ → Option Back → TableCall
+  Creates : ℕ → ℕ → Bool → Option Back → TableCall
   Destroys : List ℕ → TableCall
   Finishes : Place → ℕ → List ℕ → ℕ → TableCall
   Reclaims : ℕ → TableCall
@@ -20,7 +20,7 @@ pub data TableCall : Type 0 where
 
 abbrev pub after_one : SessionTable → TableCall → SessionTable
 after_one table (Exchanges principal owner verifier now) = exchange_table table principal owner verifier now
-after_one table (Creates client sequence back) = create_table table client sequence back
+after_one table (Creates client sequence asked back) = create_table table client sequence asked back
 after_one table (Destroys id) = destroy_table table id
 after_one table (Finishes place root reply now) = finished table place root reply now
 after_one table (Reclaims client) = reclaim_table table client

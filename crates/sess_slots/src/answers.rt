@@ -99,12 +99,12 @@ pub enum Exchanged {
 #[derive(Debug, Drop)]
 pub enum Created {
     /// The session's ID, the sequence that was asked with, the pair's old client, where this call ended one, and
-    /// whether the session was made with a back channel.
+    /// whether the call that made the session asked for a back channel.
     Made {
         session: [u8; 16],
         sequence: u32,
         ended: Option<u64>,
-        back: bool,
+        asked: bool,
     },
 
     Refused(Status),

@@ -30,12 +30,12 @@ pub struct Client {
     pub used: u64,
 }
 
-/// What CREATE_SESSION answered, for a call that comes again: the session's number, and whether it was made with a
-/// back channel.
+/// What CREATE_SESSION answered, for a call that comes again: the session's number, and whether it asked for a back
+/// channel.
 #[derive(Clone, Copy, Debug, PartialEq, Eq)]
 pub struct CreatedSession {
     pub number: u32,
-    pub back: bool,
+    pub asked: bool,
 }
 
 impl Client {

@@ -16,4 +16,4 @@ mod slot;
 
 pub use answers::{Back, Begin, ClientIds, Created, Exchanged, Place};
 pub use sessions::Sessions;
-pub use slot::{Kept, Slot};
+pub use slot::{Kept, MOST_REPLY, Slot};

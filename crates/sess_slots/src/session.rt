@@ -1,7 +1,7 @@
 ghost use Rattle.std.specs.Prelude.{◌≡◌, ◌==◌, ◌<◌, ◌≤◌, IfOk, filter, length, not, position};
 ghost use Rattle.sess_slots.specs.Table.{is_among, session_id, has_id};
 ghost use Rattle.nfs_base.specs.declared.limits.TheConstants.{SLOTS};
-ghost use Rattle.rpc_msg.specs.declared.records.TheConstants.{RECORD_LIMIT};
+ghost use Rattle.sess_slots.specs.declared.slot.TheConstants.{MOST_REPLY};
 ghost use Rattle.sess_slots.specs.Begins.{reply_kept};
 ghost use Rattle.sess_slots.specs.Clients.{new_session};
 
@@ -71,7 +71,7 @@ pub(crate) fn end_session(sessions: &mut Vec<Session>, boot: u32, id: &[u8; 16])
 /// Moves the number of a place's slot, and keeps the reply with its root context.
 pub(crate) fn keep(sessions: &mut Vec<Session>, place: Place, root: u32, reply: Octets)
     requires slot { place.slot < SLOTS }
-    requires short { length reply ≤ RECORD_LIMIT }
+    requires short { length reply ≤ MOST_REPLY }
     ensures { sessions.new.items ≡ reply_kept place root reply sessions.old.items }
 {
     if let Some(at) = place_of(sessions.as_slice(), place.session) {

@@ -1,6 +1,6 @@
 ghost use Rattle.std.specs.Prelude.{◌≡◌, ◌==◌, ◌+◌, ◌<◌, ◌≤◌, ◌^◌, [], ℕ, length, Some, IsSome, IfOk, option_copied};
 ghost use Rattle.nfs_base.specs.declared.limits.TheConstants.{SLOTS};
-ghost use Rattle.rpc_msg.specs.declared.records.TheConstants.{RECORD_LIMIT};
+ghost use Rattle.sess_slots.specs.declared.slot.TheConstants.{MOST_REPLY};
 ghost use Rattle.sess_slots.specs.Table.{SessionTable, numbers_made, client_of_id, session_numbered, session_of_id, without};
 ghost use Rattle.sess_slots.specs.Begins.{IsThere, begin_of, client_at, reply_at, back_at, finished, has_lapsed};
 
@@ -85,11 +85,11 @@ impl Sessions {
     }
 
     /// Notes that a new number was executed: moves its slot's number, keeps the reply with its root context, and
-    /// renews the client's lease. A reply is at most a record.
+    /// renews the client's lease. A reply has at most [`MOST_REPLY`](crate::MOST_REPLY) bytes.
     pub fn finish(&mut self, place: Place, root: u32, kept: Octets, now: u64)
         requires there { IsSome (client_at self.old place.session) }
         requires slot { place.slot < SLOTS }
-        requires short { length kept ≤ RECORD_LIMIT }
+        requires short { length kept ≤ MOST_REPLY }
         ensures { self.new ≡ finished self.old place root kept now }
     {
         let client = self.client_of(place);
@@ -102,7 +102,7 @@ impl Sessions {
         requires slot { place.slot < SLOTS }
         requires kept { IsSome (reply_at self.now place) }
         ensures reply { reply_at self.now place ≡ Some result.now }
-        ensures short { length result.now ≤ RECORD_LIMIT }
+        ensures short { length result.now ≤ MOST_REPLY }
     {
         let session = self.session(place.session).unwrap();
         session.slots.kept(place.slot).unwrap().as_slice()

@@ -1,6 +1,5 @@
 ghost use Rattle.std.specs.Prelude.{◌≡◌, ◌+◌, ◌<◌, ◌≤◌, IfOk, IfSome, length, replicate, option_map, option_copied};
 ghost use Rattle.nfs_base.specs.declared.limits.TheConstants.{SLOTS};
-ghost use Rattle.rpc_msg.specs.declared.records.TheConstants.{RECORD_LIMIT};
 ghost use Rattle.sess_slots.specs.Slots.{next_number, fresh_slot, begin_at, slot_at, slots_after};
 
 use crate::{Begin, Place};
@@ -10,6 +9,10 @@ use std::alloc::Global;
 use std::marker::Model;
 use std::mem;
 use wire_xdr::Octets;
+
+/// How many bytes the reply to a COMPOUND has at most: behind its head and under its seal it is a record of no more
+/// than 73,728.
+pub const MOST_REPLY: usize = 73_100;
 
 /// A reply, kept for retries from one root context.
 #[derive(Debug, Drop)]
@@ -96,7 +99,7 @@ impl Slots {
     /// Moves the slot's number, and keeps the reply with its root.
     pub(crate) fn finish(&mut self, slot: u32, root: u32, reply: Octets)
         requires slot { slot < SLOTS }
-        requires short { length reply ≤ RECORD_LIMIT }
+        requires short { length reply ≤ MOST_REPLY }
         ensures { self.new ≡ slots_after self.old slot root reply }
     {
         let slot = &mut self.slots[slot as usize];
@@ -108,7 +111,7 @@ impl Slots {
     pub(crate) fn kept(&self, slot: u32) -> Option<&Octets>
         requires { slot < SLOTS }
         ensures kept { option_copied result ≡ option_map (λ k. k.reply) (slot_at self.now slot).kept }
-        ensures short { IfSome result (λ reply. length reply.now ≤ RECORD_LIMIT) }
+        ensures short { IfSome result (λ reply. length reply.now ≤ MOST_REPLY) }
     {
         match &self.slots[slot as usize].kept {
             None => None,

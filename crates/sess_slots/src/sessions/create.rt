@@ -1,4 +1,4 @@
-ghost use Rattle.std.specs.Prelude.{◌≡◌, ◌==◌, ◌+◌, ◌-◌, ◌<◌, ◌^◌, if◌then◌else◌, IfOk, OnOk, OnErr, ◌&&◌, find, is_some, option_copied, option_to_list};
+ghost use Rattle.std.specs.Prelude.{◌≡◌, ◌==◌, ◌+◌, ◌-◌, ◌<◌, ◌^◌, if◌then◌else◌, IfOk, OnOk, OnErr, ◌&&◌, find, option_copied, option_to_list};
 ghost use Rattle.nfs_base.specs.declared.status.TheConstants.Status.{SEQ_MISORDERED};
 ghost use Rattle.sess_slots.specs.Table.{numbers_made, session_id, without};
 ghost use Rattle.sess_slots.specs.Clients.{old_client, again_answer, create_answer, create_table, asked_back, is_of, is_confirmed, session_added};
@@ -15,19 +15,21 @@ impl Sessions {
     /// CREATE_SESSION (RFC 8881 section 18.36). An unknown client is STALE_CLIENTID. The client's last sequence
     /// is answered as it was, its next one makes a session, and another one is SEQ_MISORDERED; DELAY at 32
     /// sessions. A client's first session confirms it, and ends the client that this pair had confirmed, with
-    /// its sessions. `back` is the handle of a back channel on connection `conn` for the callback program.
+    /// its sessions. `asked` tells whether the call asks for a back channel, and `back` is the handle of the one that
+    /// it can have, on connection `conn` for the callback program.
     pub fn create(
         &mut self,
         client: u64,
         sequence: u32,
         conn: u32,
         program: u32,
+        asked: bool,
         back: Option<[u8; 8]>,
         _now: u64,
     ) -> Mem<Created>
         requires { numbers_made self.old < 2 ^ 32 - 1 }
-        ensures answer { IfOk result (λ answer. answer ≡ create_answer self.old client sequence (is_some back)) }
-        ensures done { OnOk result (self.new ≡ create_table self.old client sequence (asked_back conn program back)) }
+        ensures answer { IfOk result (λ answer. answer ≡ create_answer self.old client sequence asked) }
+        ensures done { OnOk result (self.new ≡ create_table self.old client sequence asked (asked_back conn program back)) }
         ensures err { OnErr result (self.new ≡ self.old) }
     {
         let table = &*self;
@@ -42,12 +44,12 @@ impl Sessions {
         }
         let ended = table.old_client(found);
         let back = asked_back(conn, program, back);
-        let session = self.replace(client, ended, sequence, back)?;
+        let session = self.replace(client, ended, sequence, asked, back)?;
         Ok(Created::Made {
             session,
             sequence,
             ended,
-            back: back.is_some(),
+            asked,
         })
     }
 
@@ -60,7 +62,7 @@ impl Sessions {
                 session: session_id(self.boot, made.number),
                 sequence,
                 ended: None,
-                back: made.back,
+                asked: made.asked,
             },
             _ => Created::Refused(Status::SEQ_MISORDERED),
         }
@@ -86,18 +88,21 @@ impl Sessions {
     }
 
     /// Makes a session of a client, which this confirms.
-    fn add_session(&mut self, client: u64, sequence: u32, back: Option<Back>) -> Mem<[u8; 16]>
+    fn add_session(
+        &mut self,
+        client: u64,
+        sequence: u32,
+        asked: bool,
+        back: Option<Back>,
+    ) -> Mem<[u8; 16]>
         requires { numbers_made self.old < 2 ^ 32 - 1 }
         ensures id { IfOk result (λ id. id ≡ session_id self.old.boot (self.old.sessions_made + 1)) }
-        ensures done { OnOk result (self.new ≡ session_added self.old client sequence back) }
+        ensures done { OnOk result (self.new ≡ session_added self.old client sequence asked back) }
         ensures err { OnErr result (self.new ≡ self.old) }
     {
         let number = self.sessions_made + 1;
         let alloc = *self.sessions.allocator();
-        let made = CreatedSession {
-            number,
-            back: back.is_some(),
-        };
+        let made = CreatedSession { number, asked };
         let session = Session::new(alloc, number, client, back)?;
         self.sessions.push(session)?;
         self.sessions_made = number;
@@ -111,14 +116,15 @@ impl Sessions {
         client: u64,
         old: Option<u64>,
         sequence: u32,
+        asked: bool,
         back: Option<Back>,
     ) -> Mem<[u8; 16]>
         requires { numbers_made self.old < 2 ^ 32 - 1 }
         ensures id { IfOk result (λ id. id ≡ session_id self.old.boot (self.old.sessions_made + 1)) }
-        ensures done { OnOk result (self.new ≡ without (option_to_list old) (session_added self.old client sequence back)) }
+        ensures done { OnOk result (self.new ≡ without (option_to_list old) (session_added self.old client sequence asked back)) }
         ensures err { OnErr result (self.new ≡ self.old) }
     {
-        let session = self.add_session(client, sequence, back)?;
+        let session = self.add_session(client, sequence, asked, back)?;
         self.end_old(old);
         Ok(session)
     }

@@ -1,0 +1,49 @@
+use crate::label::Label;
+use crate::note::NoteList;
+use nfs_base::{End, Seal};
+use server_volume::CallList;
+use wire_xdr::{Items, Octets};
+
+/// To whom a record goes.
+#[derive(Clone, Copy, Debug, PartialEq, Eq)]
+pub enum To {
+    /// The other end of a connection, by its number.
+    Conn(u32),
+
+    /// The source, on the connection of a worker.
+    Source(u8),
+
+    /// A server.
+    Server(End),
+}
+
+/// A record that is sent.
+#[derive(Debug, Drop)]
+pub struct Outgoing {
+    pub to: To,
+    pub bytes: Octets,
+
+    /// Under what it was sealed. None of denials and failed calls.
+    pub seal: Option<Seal>,
+
+    pub label: Label,
+}
+
+/// What a step gives.
+#[derive(Debug, Drop)]
+pub struct Outbox {
+    /// The records that are sent, in order.
+    pub sent: Items<Outgoing>,
+
+    /// What is to be told, in order, before what is sent.
+    pub notes: NoteList,
+
+    /// Under what the record that was taken was admitted or accepted.
+    pub accepted: Option<Seal>,
+
+    /// The calls on the volume, in order.
+    pub used: CallList,
+
+    /// Whether a draw failed.
+    pub undrawn: bool,
+}
