@@ -1,49 +1,64 @@
-use crate::vectors::{CB_OFFLOAD, INIT_AT_DEST};
-use gss_ctx::{Admit, Contexts, admitted_once, ends_meet, sealed_once};
-use gss_mech::{Mechanism, Realm, tokens_agree};
-use nfs_base::{End, Seal};
+//! A recorded callback of the destination, and the client's reply to it.
+
+use crate::told::{add_where, bytes_at, part};
+use gss_ctx::{Admit, Contexts};
+use gss_mech::{Mechanism, Realm};
+use nfs_base::End;
 use rpc_msg::read_call;
 use std::alloc::Global;
-use std::test::Fail;
-use two_ends::{Wrong, realm, same, same_bytes};
+use two_ends::{Wrong, realm};
 
-/// The key of the client's context at the destination, by the tokens that were recorded.
+/// The key of the client's context at the destination, by the tokens of INIT and its reply.
 fn key_at_dest(mech: &Realm, call: &[u8], reply: &[u8]) -> Result<[u8; 32], Wrong> {
-    let (Some(drawn), Some(token)) = (call.get(72..104), reply.get(84..148)) else {
-        return Err(Wrong::Lacks("tokens"));
-    };
+    let drawn = part(call, 72, 104)?;
     let mut nonce = [0; 32];
     if drawn.len() != 32 {
         return Err(Wrong::Lacks("a nonce"));
     }
     nonce.copy_from_slice(drawn);
-    match mech.finish(b"user", &nonce, token) {
+    match mech.finish(b"user", &nonce, part(reply, 84, 148)?) {
         Some(key) => Ok(key),
         None => Err(Wrong::Lacks("a key")),
     }
 }
 
-/// The client's contexts for callbacks: 1 for the source and 2 for the destination, from this key.
-fn callback_contexts(alloc: Global, mech: &Realm, key: &[u8; 32]) -> Result<Contexts<u8>, Wrong> {
-    let mut contexts = Contexts::new(alloc, End::Client, 0)?;
-    for (number, principal, from) in [(1, b"source".as_slice(), &[0; 32]), (2, b"dest", key)] {
-        if contexts.made() == u32::MAX {
-            return Err(Wrong::Lacks("a number"));
-        }
-        let added = contexts.add(alloc, principal, from, 0, mech)?;
-        same(alloc, 0, &added, &Some(number))?;
+/// Adds the client's context for the callbacks of a principal, which has to have this number.
+fn add(
+    alloc: Global,
+    contexts: &mut Contexts<u8>,
+    mech: &Realm,
+    (number, principal, key): (u32, &[u8], &[u8; 32]),
+) -> Result<(), Wrong> {
+    if contexts.made() == u32::MAX {
+        return Err(Wrong::Lacks("a number"));
     }
-    Ok(contexts)
+    match contexts.add(alloc, principal, key, 0, mech)? {
+        Some(given) if given == number => Ok(()),
+        _ => Err(Wrong::Lacks("a context")),
+    }
 }
 
-/// The destination's callback is admitted under context 2, and answered by the call that seals at once.
-fn check_callback(
+/// `callback INIT REPLY CALL REPLY`: the destination's callback under context 2 of the client, whose key is that of the
+/// first exchange, and the reply to it by the call that seals at once.
+pub fn callback(alloc: Global, words: &[&str]) -> Result<String, Wrong> {
+    let mech = realm(alloc)?;
+    let (init, made) = (bytes_at(alloc, words, 1)?, bytes_at(alloc, words, 2)?);
+    let key = key_at_dest(&mech, &init, &made)?;
+    let mut contexts = Contexts::new(alloc, End::Client, 0)?;
+    add(alloc, &mut contexts, &mech, (1, b"source", &[0; 32]))?;
+    add(alloc, &mut contexts, &mech, (2, b"dest", &key))?;
+    let (sent, answered) = (bytes_at(alloc, words, 3)?, bytes_at(alloc, words, 4)?);
+    answer(alloc, &mech, &mut contexts, &sent, &answered)
+}
+
+/// The seal of the callback, and whether its arguments and the reply are those of the records.
+fn answer(
     alloc: Global,
     mech: &Realm,
     contexts: &mut Contexts<u8>,
     sent: &[u8],
     answered: &[u8],
-) -> Result<(), Wrong> {
+) -> Result<String, Wrong> {
     let Ok((head, body)) = read_call(alloc, sent)? else {
         return Err(Wrong::Lacks("a call"));
     };
@@ -51,43 +66,16 @@ fn check_callback(
     let Admit::Admitted { number, seq, args } = admit else {
         return Err(Wrong::Lacks("an admission"));
     };
-    same(alloc, 0, &(number, seq), &(2, 1))?;
-    let (Some(wanted), Some(result_)) = (sent.get(108..228), answered.get(64..124)) else {
-        return Err(Wrong::Lacks("a body"));
-    };
-    same_bytes(alloc, 1, args.as_slice(), wanted)?;
-    let seal = Seal {
-        owner: End::Client,
-        boot: 0,
-        number: 2,
-        seq: 1,
-    };
-    same(alloc, 2, &contexts.seal(number, seq), &seal)?;
-    if result_.len() > 60 || contexts.context(number).is_none() {
+    let given = part(answered, 64, 124)?;
+    if given.len() > 60 || contexts.context(number).is_none() {
         return Err(Wrong::Lacks("a short result of a context"));
     }
-    let sealed = contexts.seal_reply(alloc, number, seq, &head, result_, mech)?;
-    same_bytes(alloc, 3, sealed.as_slice(), answered)
-}
-
-#[test]
-fn a_callback_from_the_destination(rt: HostRuntime) -> Result<(), Fail> {
-    let alloc = rt.alloc();
-    let mech = realm(alloc)?;
-    let call = hex::decode(alloc, INIT_AT_DEST.call)?;
-    let reply = hex::decode(alloc, INIT_AT_DEST.reply)?;
-    let key = key_at_dest(&mech, &call, &reply)?;
-    let mut contexts = callback_contexts(alloc, &mech, &key)?;
-    let sent = hex::decode(alloc, CB_OFFLOAD.call)?;
-    let answered = hex::decode(alloc, CB_OFFLOAD.reply)?;
-    check_callback(alloc, &mech, &mut contexts, &sent, &answered)?;
-    Ok(())
-}
-
-#[test]
-fn laws_are_called() {
-    tokens_agree::<Realm>();
-    admitted_once::<u8, Realm>();
-    sealed_once::<Realm>();
-    ends_meet::<u8, Realm>();
+    let seal = contexts.seal(number, seq);
+    let (owner, boot) = (seal.owner, seal.boot);
+    let mut text = format!(in alloc; "{owner:?} {boot} {} {}; ", seal.number, seal.seq)?;
+    let same = args.as_slice() == part(sent, 108, 228)?;
+    add_where(same, &mut text, "its arguments; ")?;
+    let sealed = contexts.seal_reply(alloc, number, seq, &head, given, mech)?;
+    add_where(sealed.as_slice() == answered, &mut text, "the reply")?;
+    Ok(text)
 }

@@ -76,7 +76,7 @@ fn put_code(bytes: &mut Vec<u8>, code: &[u8; 32]) -> Mem<()> {
 }
 
 /// The code of bytes: the HMAC of the side, which is 0 for the initiator, and the bytes.
-pub fn code_of(alloc: Global, key: &[u8; 32], side: u8, bytes: &[u8]) -> Mem<[u8; 32]> {
+fn code_of(alloc: Global, key: &[u8; 32], side: u8, bytes: &[u8]) -> Mem<[u8; 32]> {
     let mut text = vec![in alloc; side]?;
     text.extend_from_slice(bytes)?;
     Ok(hmac_sha256(key, text.as_slice()))

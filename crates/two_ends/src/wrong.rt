@@ -1,22 +1,14 @@
 use outcome::NoMemory;
-use std::alloc::{AllocError, Global};
-use std::fmt::Debug;
+use std::alloc::AllocError;
 
-/// Why a row of a table isn't met.
-#[derive(Debug, Drop)]
+/// Why a step isn't made.
+#[derive(Clone, Copy, Debug, PartialEq, Eq)]
 pub enum Wrong {
     /// Memory was refused.
     NoMemory,
 
-    /// What the row needs isn't there.
+    /// What the step needs isn't there.
     Lacks(&'static str),
-
-    /// One value stands where the row has another.
-    Differs {
-        row: usize,
-        given: String,
-        wanted: String,
-    },
 }
 
 impl From<NoMemory> for Wrong {
@@ -29,33 +21,4 @@ impl From<AllocError> for Wrong {
     fn from(_: AllocError) -> Wrong {
         Wrong::NoMemory
     }
-}
-
-/// Whether a row has the value that was given.
-pub fn same<T: PartialEq + Debug>(
-    alloc: Global,
-    row: usize,
-    given: &T,
-    wanted: &T,
-) -> Result<(), Wrong> {
-    if given == wanted {
-        return Ok(());
-    }
-    Err(Wrong::Differs {
-        row,
-        given: format!(in alloc; "{given:?}")?,
-        wanted: format!(in alloc; "{wanted:?}")?,
-    })
-}
-
-/// The same of bytes.
-pub fn same_bytes(alloc: Global, row: usize, given: &[u8], wanted: &[u8]) -> Result<(), Wrong> {
-    if given == wanted {
-        return Ok(());
-    }
-    Err(Wrong::Differs {
-        row,
-        given: format!(in alloc; "{given:?}")?,
-        wanted: format!(in alloc; "{wanted:?}")?,
-    })
 }
