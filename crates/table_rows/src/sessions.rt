@@ -60,7 +60,7 @@ fn create(
     sequence: u32,
 ) -> Result<(u8, u64), Fail> {
     assert!(rt; sessions.made() < u32::MAX);
-    match sessions.create(client, sequence, 5, 6, Some([7; 8]), 0)? {
+    match sessions.create(client, sequence, 5, 6, true, Some([7; 8]), 0)? {
         Created::Made { session, ended, .. } => Ok((session[7], ended.unwrap_or(0))),
         Created::Refused(status) => Ok((0, u64::from(status.number))),
     }
@@ -121,17 +121,19 @@ fn id(number: u8) -> [u8; 16] {
 fn a_repeated_call_has_the_first_answer(rt: HostRuntime) -> Result<(), Fail> {
     let mut sessions = Sessions::new(rt.alloc(), 2)?;
     exchange(&rt, &mut sessions, 1, 1, 0)?;
-    for (sequence, back, wanted) in [
-        (1, Some([7; 8]), true),
-        (1, None, true),
-        (2, None, false),
-        (2, Some([7; 8]), false),
+    for (sequence, asked, wanted) in [
+        (1, true, true),
+        (1, false, true),
+        (2, false, false),
+        (2, true, false),
     ] {
         assert!(rt; sessions.made() < u32::MAX);
-        let Created::Made { back, .. } = sessions.create(FIRST, sequence, 5, 6, back, 0)? else {
+        let Created::Made { asked, .. } =
+            sessions.create(FIRST, sequence, 5, 6, asked, Some([7; 8]), 0)?
+        else {
             panic!(rt; "a session is answered");
         };
-        assert_eq!(rt; back, wanted);
+        assert_eq!(rt; asked, wanted);
     }
     Ok(())
 }
