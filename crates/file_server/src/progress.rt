@@ -1,6 +1,6 @@
 //! How far a compound is in code: the page of its results, and all room that its operations need.
 
-ghost use Rattle.std.specs.Prelude.{◌≡◌, ◌+◌, ◌≤◌, ◌++◌, length, IfOk, Some, None};
+ghost use Rattle.std.specs.Prelude.{◌≡◌, ◌+◌, ◌*◌, ◌≤◌, ◌++◌, length, IfOk, Some, None};
 ghost use Rattle.nfs_base.specs.Forms.{stability};
 ghost use Rattle.nfs_base.specs.declared.limits.TheConstants.{DATA_LIMIT, HANDLE_LIMIT, MOST_OPERATIONS};
 ghost use Rattle.wire_xdr.specs.Words.{word_bytes, hyper_bytes, flag_bytes, opaque_bytes};
@@ -40,6 +40,7 @@ impl Progress {
         requires { operations ≤ MOST_OPERATIONS }
         ensures ready { IfOk result (λ p. Ready p operations) }
         ensures empty { IfOk result IsNew }
+        ensures room { IfOk result (λ p. p.page.room ≡ DATA_LIMIT + operations * MOST_RESULT) }
     {
         let page = Page::new(
             alloc,
