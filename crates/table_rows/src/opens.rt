@@ -1,122 +1,89 @@
+//! Opens, all of one client.
+
 use nfs_base::StateId;
+use outcome::Mem;
+use row_text::{number, word};
 use state_ids::{Access, Full, Opens};
-use std::process::Abort;
-use std::test::Fail;
+use std::alloc::Global;
 use wire_xdr::Octets;
 
 const CLIENT: u64 = 7;
 
-/// What OPEN answers: the seqid and the number, or zeros where the table is full.
-fn open_file(
-    rt: &impl Abort,
-    opens: &mut Opens,
-    owner: u8,
-    access: u32,
-) -> Result<(u32, u32), Fail> {
-    assert!(rt; opens.made() < u32::MAX);
-    match opens.open(CLIENT, &[owner], 1, access)? {
-        Ok(id) => Ok((id.seqid, id.number)),
-        Err(Full) => Ok((0, 0)),
+/// The answers to `open OWNER ACCESS` of file 1, and `open_taken`, by the call that takes its owner over; `opened`, with
+/// how often; `check SEQID KIND BOOT NUMBER FILE NEED`, with 0 or a status; `close SEQID KIND BOOT NUMBER FILE`; `holds
+/// CLIENT`; and `end CLIENT`.
+pub fn told(alloc: Global, opens: &mut Opens, words: &[&str]) -> Mem<String> {
+    match word(words, 0) {
+        "open" => open(alloc, opens, words),
+        "open_taken" => open_taken(alloc, opens, words),
+        "check" => check(alloc, opens, words),
+        "close" => match opens.close(&id(words), number(words, 5)) {
+            Ok(id) => shown(alloc, id),
+            Err(status) => Ok(format!(in alloc; "{}", status.number)?),
+        },
+        "opened" => Ok(format!(in alloc; "{}", opens.made())?),
+        "holds" => {
+            let holds = opens.holds(u64::from(number(words, 1)));
+            Ok(format!(in alloc; "{holds}")?)
+        }
+        "end" => {
+            opens.end(u64::from(number(words, 1)));
+            Ok(format!(in alloc; "ended")?)
+        }
+        _ => Ok(format!(in alloc; "no such call")?),
     }
 }
 
-/// The status of a check, and 0 where the stateid is good.
-fn check(opens: &Opens, id: StateId, file: u32, need: Access) -> u32 {
-    match opens.check(&id, file, need) {
-        Ok(()) => 0,
-        Err(status) => status.number,
+fn id(words: &[&str]) -> StateId {
+    StateId {
+        seqid: number(words, 1),
+        kind: number(words, 2),
+        boot: number(words, 3),
+        number: number(words, 4),
     }
 }
 
-const SECOND: StateId = StateId {
-    seqid: 2,
-    kind: 1,
-    boot: 3,
-    number: 1,
-};
-
-#[test]
-fn tests_in_order(rt: HostRuntime) -> Result<(), Fail> {
-    let mut opens = Opens::new(rt.alloc(), 3)?;
-    assert_eq!(rt; open_file(&rt, &mut opens, 1, 1)?, (1, 1));
-    assert_eq!(rt;
-        check(&opens, StateId { seqid: 1, ..SECOND }, 1, Access::Read),
-        0
-    );
-    assert_eq!(rt;
-        check(&opens, StateId { seqid: 1, ..SECOND }, 1, Access::Write),
-        10038
-    );
-    assert_eq!(rt; open_file(&rt, &mut opens, 1, 2)?, (2, 1));
-    for (id, file, wanted) in [
-        (SECOND, 1, 0),
-        (StateId { seqid: 0, ..SECOND }, 1, 0),
-        (StateId { seqid: 1, ..SECOND }, 1, 10024),
-        (StateId { seqid: 3, ..SECOND }, 1, 10025),
-        (SECOND, 2, 10025),
-        (StateId { boot: 2, ..SECOND }, 1, 10025),
-        (StateId { kind: 2, ..SECOND }, 1, 10025),
-        (
-            StateId {
-                number: 2,
-                ..SECOND
-            },
-            1,
-            10025,
-        ),
-        (
-            StateId {
-                seqid: 1,
-                boot: 2,
-                ..SECOND
-            },
-            1,
-            10025,
-        ),
-    ] {
-        assert_eq!(rt; check(&opens, id, file, Access::Write), wanted);
-        assert_eq!(rt; check(&opens, id, file, Access::Read), wanted);
-    }
-    assert_eq!(rt; opens.made(), 2);
-
-    let old = StateId { seqid: 1, ..SECOND };
-    assert!(rt; opens.close(&old, 1).is_err());
-    assert!(rt; opens.holds(CLIENT));
-    let closed = opens.close(&SECOND, 1).ok().expect(&rt, "a good stateid");
-    assert_eq!(rt; closed.seqid, u32::MAX);
-    assert_eq!(rt; (closed.kind, closed.boot, closed.number), (0, 0, 0));
-    assert_eq!(rt; check(&opens, SECOND, 1, Access::Read), 10025);
-    assert!(rt; !opens.holds(CLIENT));
-    Ok(())
+fn shown(alloc: Global, id: StateId) -> Mem<String> {
+    let StateId {
+        seqid,
+        kind,
+        boot,
+        number,
+    } = id;
+    Ok(format!(in alloc; "{seqid} {kind} {boot} {number}")?)
 }
 
-#[test]
-fn at_most_64(rt: HostRuntime) -> Result<(), Fail> {
-    let mut opens = Opens::new(rt.alloc(), 3)?;
-    for owner in 0..64 {
-        open_file(&rt, &mut opens, owner, 1)?;
+fn opened(alloc: Global, answer: Result<StateId, Full>) -> Mem<String> {
+    match answer {
+        Ok(id) => shown(alloc, id),
+        Err(Full) => Ok(format!(in alloc; "full")?),
     }
-    assert_eq!(rt; open_file(&rt, &mut opens, 64, 1)?, (0, 0));
-    assert_eq!(rt; open_file(&rt, &mut opens, 5, 1)?, (2, 6));
-    assert!(rt; opens.made() < u32::MAX);
-    let owner = Octets::from_slice(rt.alloc(), &[6])?;
-    let Ok(again) = opens.open_taken(CLIENT, owner, 1, 2) else {
-        panic!(rt; "the owner has the file open");
+}
+
+fn open(alloc: Global, opens: &mut Opens, words: &[&str]) -> Mem<String> {
+    if opens.made() == u32::MAX {
+        return Ok(format!(in alloc; "no number is left")?);
+    }
+    let owner = number(words, 1).to_be_bytes();
+    let answer = opens.open(CLIENT, &owner, 1, number(words, 2))?;
+    opened(alloc, answer)
+}
+
+fn open_taken(alloc: Global, opens: &mut Opens, words: &[&str]) -> Mem<String> {
+    if opens.made() == u32::MAX {
+        return Ok(format!(in alloc; "no number is left")?);
+    }
+    let owner = Octets::from_slice(alloc, &number(words, 1).to_be_bytes())?;
+    opened(alloc, opens.open_taken(CLIENT, owner, 1, number(words, 2)))
+}
+
+fn check(alloc: Global, opens: &Opens, words: &[&str]) -> Mem<String> {
+    let need = match word(words, 6) {
+        "write" => Access::Write,
+        _ => Access::Read,
     };
-    assert_eq!(rt;
-        (again.seqid, again.kind, again.boot, again.number),
-        (2, 1, 3, 7)
-    );
-    let fifth = StateId {
-        seqid: 0,
-        kind: 1,
-        boot: 3,
-        number: 5,
-    };
-    assert!(rt; opens.close(&fifth, 1).is_ok());
-    assert_eq!(rt; open_file(&rt, &mut opens, 64, 1)?, (1, 65));
-    assert!(rt; !opens.holds(CLIENT + 1));
-    opens.end(CLIENT);
-    assert!(rt; !opens.holds(CLIENT));
-    Ok(())
+    match opens.check(&id(words), number(words, 5), need) {
+        Ok(()) => Ok(format!(in alloc; "0")?),
+        Err(status) => Ok(format!(in alloc; "{}", status.number)?),
+    }
 }
