@@ -1,8 +1,10 @@
-use crate::fields;
+use crate::creates;
+use crate::fields::{key, location, octets};
 use copy_grants::{Ask, Full, Grants, Permit, status_of};
 use gss_mech::Realm;
 use nfs_base::StateId;
 use outcome::Mem;
+use row_text::{number, word, words};
 use std::alloc::Global;
 
 /// A table of grants, with the codes of a realm.
@@ -33,66 +35,71 @@ impl GrantLines {
 
     /// The answer to a call: `notify NOW FILE LOC USER SECRET`, whose answer is a number or `full`;
     /// `permit NOW BOOT NUMBER FILE LOC CONFIRMED USER CODE KEY`, whose answer is `permitted` or a cause and a status;
-    /// `shows NOW FILE LOC USER CODE KEY`, whose answer is `yes` or `no`; and `cancel BOOT NUMBER`, whose answer is a
-    /// status.
+    /// `shows NOW FILE LOC USER CODE KEY`, whose answer is `yes` or `no`; `cancel BOOT NUMBER`, whose answer is a status;
+    /// `made`, with how many grants were made; `notify_taken`, as `notify`, by the call that takes over what it keeps; and
+    /// those of `src/creates.rt`.
     pub fn answer(&mut self, alloc: Global, call: &str) -> Mem<String> {
-        let words = fields::words(alloc, call)?;
+        let words = words(alloc, call)?;
         let words = words.as_slice();
-        match fields::word(words, 0) {
+        match word(words, 0) {
             "notify" => self.notify(alloc, words),
+            "notify_taken" => self.notify_taken(alloc, words),
             "permit" => self.permit(alloc, words),
             "shows" => self.shows(alloc, words),
             "cancel" => self.cancel(alloc, words),
-            _ => Ok(format!(in alloc; "no call")?),
+            "made" => {
+                let made = self.grants.made();
+                Ok(format!(in alloc; "{made}")?)
+            }
+            _ => creates::answer(alloc, words),
         }
     }
 
     fn notify(&mut self, alloc: Global, words: &[&str]) -> Mem<String> {
-        let Some(destination) = fields::location(alloc, fields::word(words, 3))? else {
+        let Some(destination) = location(alloc, words, 3)? else {
             return Ok(format!(in alloc; "no location")?);
         };
         if self.grants.made() == u32::MAX {
             return Ok(format!(in alloc; "worn")?);
         }
-        let user = fields::bytes(alloc, fields::word(words, 4));
-        let secret = fields::bytes(alloc, fields::word(words, 5));
-        let now = u64::from(fields::number(words, 1));
-        let file = fields::number(words, 2);
-        let answer = self.grants.notify(
-            now,
-            file,
-            &destination,
-            user.as_slice(),
-            secret.as_slice(),
-        )?;
-        match answer {
-            Ok(
-                StateId {
-                    seqid: 1,
-                    kind: StateId::COPY_NOTIFY,
-                    number,
-                    ..
-                },
-            ) => Ok(format!(in alloc; "{number}")?),
-            Ok(_) => Ok(format!(in alloc; "another stateid")?),
-            Err(Full) => Ok(format!(in alloc; "full")?),
+        let user = octets(alloc, words, 4)?;
+        let secret = octets(alloc, words, 5)?;
+        let now = u64::from(number(words, 1));
+        let file = number(words, 2);
+        let (user, secret) = (user.as_slice(), secret.as_slice());
+        let answer = self.grants.notify(now, file, &destination, user, secret)?;
+        given(alloc, answer)
+    }
+
+    fn notify_taken(&mut self, alloc: Global, words: &[&str]) -> Mem<String> {
+        let Some(destination) = location(alloc, words, 3)? else {
+            return Ok(format!(in alloc; "no location")?);
+        };
+        if self.grants.made() == u32::MAX {
+            return Ok(format!(in alloc; "worn")?);
         }
+        let (user, secret) = (octets(alloc, words, 4)?, octets(alloc, words, 5)?);
+        let now = u64::from(number(words, 1));
+        let answer = self
+            .grants
+            .notify_taken(now, number(words, 2), destination, user, secret);
+        given(alloc, answer)
     }
 
     fn permit(&mut self, alloc: Global, words: &[&str]) -> Mem<String> {
-        let peer = fields::location(alloc, fields::word(words, 5))?;
-        let user = fields::bytes(alloc, fields::word(words, 7));
-        let code = fields::bytes(alloc, fields::word(words, 8));
+        let peer = location(alloc, words, 5)?;
+        let user = octets(alloc, words, 7)?;
+        let code = octets(alloc, words, 8)?;
         let ask = Ask {
-            id: id(fields::number(words, 2), fields::number(words, 3)),
-            file: fields::number(words, 4),
+            id: id(number(words, 2), number(words, 3)),
+            file: number(words, 4),
             peer: peer.as_ref(),
-            confirmed: fields::word(words, 6) == "yes",
+            confirmed: word(words, 6) == "yes",
             user: user.as_slice(),
             code: code.as_slice(),
-            key: &fields::key(fields::word(words, 9)),
+            key: &key(words, 9),
         };
-        let now = u64::from(fields::number(words, 1));
+        let now = u64::from(number(words, 1));
         match self.grants.permit(now, &ask, &self.realm) {
             Permit::Permitted => Ok(format!(in alloc; "permitted")?),
             Permit::Denied(cause) => {
@@ -103,19 +110,19 @@ impl GrantLines {
     }
 
     fn shows(&self, alloc: Global, words: &[&str]) -> Mem<String> {
-        let peer = fields::location(alloc, fields::word(words, 3))?;
-        let user = fields::bytes(alloc, fields::word(words, 4));
-        let code = fields::bytes(alloc, fields::word(words, 5));
+        let peer = location(alloc, words, 3)?;
+        let user = octets(alloc, words, 4)?;
+        let code = octets(alloc, words, 5)?;
         let ask = Ask {
             id: id(0, 0),
-            file: fields::number(words, 2),
+            file: number(words, 2),
             peer: peer.as_ref(),
             confirmed: true,
             user: user.as_slice(),
             code: code.as_slice(),
-            key: &fields::key(fields::word(words, 6)),
+            key: &key(words, 6),
         };
-        let now = u64::from(fields::number(words, 1));
+        let now = u64::from(number(words, 1));
         match self.grants.shows(now, &ask, &self.realm) {
             true => Ok(format!(in alloc; "yes")?),
             false => Ok(format!(in alloc; "no")?),
@@ -123,11 +130,27 @@ impl GrantLines {
     }
 
     fn cancel(&mut self, alloc: Global, words: &[&str]) -> Mem<String> {
-        let id = id(fields::number(words, 1), fields::number(words, 2));
+        let id = id(number(words, 1), number(words, 2));
         match self.grants.cancel(&id) {
             Ok(()) => Ok(format!(in alloc; "0")?),
             Err(status) => Ok(format!(in alloc; "{status}")?),
         }
+    }
+}
+
+/// The number of the grant that was given.
+fn given(alloc: Global, answer: Result<StateId, Full>) -> Mem<String> {
+    match answer {
+        Ok(
+            StateId {
+                seqid: 1,
+                kind: StateId::COPY_NOTIFY,
+                number,
+                ..
+            },
+        ) => Ok(format!(in alloc; "{number}")?),
+        Ok(_) => Ok(format!(in alloc; "another stateid")?),
+        Err(Full) => Ok(format!(in alloc; "full")?),
     }
 }
 

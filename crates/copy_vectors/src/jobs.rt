@@ -1,7 +1,8 @@
-use crate::fields::{long, number, word, words};
+use crate::fields::long;
 use job_table::{Chunk, JobId, Jobs, Landing, Plan, Refused};
 use nfs_base::{Handle, StateId, Status, Stop};
 use outcome::Mem;
+use row_text::{number, word, words};
 use std::alloc::Global;
 use wire_xdr::Octets;
 

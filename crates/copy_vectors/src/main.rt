@@ -1,19 +1,24 @@
 //! Tables of privileges, grants and jobs, from standard input: each line is a call and its answer, made by another
-//! program than this one. Prints each line whose answer is another here, and then how many lines there were.
+//! program than this one or written down from RFC 7862 and `docs/protocol.md`. Prints each line whose answer is another
+//! here, and then how many lines there were.
 //!
 //! A line of privileges is `NAME BYTES ANSWER` (`src/privileges.rt`); a line of grants is `CALL = ANSWER`
-//! (`src/grants.rt`), and so is one of jobs (`src/jobs.rt`), behind a line that begins with `# layer jobs`. Bytes are
-//! hex, and `-` is none. Empty lines and other lines that begin with `#` are passed over.
+//! (`src/grants.rt`, and `src/creates.rt` on what CREATE takes), and so is one of jobs (`src/jobs.rt`), behind a line
+//! that begins with `# layer jobs`. Bytes are hex, and `-` is none. Empty lines and other lines that begin with `#` are
+//! passed over.
 #![tactic(auto)]
 
+mod creates;
 mod fields;
 mod grants;
 mod jobs;
 mod privileges;
 
+use crate::fields::long;
 use crate::grants::GrantLines;
 use crate::jobs::JobLines;
 use outcome::Mem;
+use row_text::{number, word, words};
 use std::alloc::Global;
 use std::io;
 
@@ -43,7 +48,7 @@ impl Tables {
 
     /// Whether the answer of a line is that of the call.
     fn is_met(&mut self, alloc: Global, line: &str) -> Mem<bool> {
-        let words = fields::words(alloc, line)?;
+        let words = words(alloc, line)?;
         let words = words.as_slice();
         if self.in_jobs {
             return self.is_met_by_jobs(alloc, line, words);
@@ -52,13 +57,13 @@ impl Tables {
             let given = self.grants.answer(alloc, call)?;
             return Ok(given.as_str() == wanted);
         }
-        match fields::word(words, 0) {
+        match word(words, 0) {
             "case" => {
-                self.grants.begin(alloc, fields::number(words, 1))?;
+                self.grants.begin(alloc, number(words, 1))?;
                 Ok(true)
             }
             "expire" => {
-                self.grants.expire(u64::from(fields::number(words, 1)));
+                self.grants.expire(u64::from(number(words, 1)));
                 Ok(true)
             }
             _ => privileges::is_met(alloc, line),
@@ -66,8 +71,8 @@ impl Tables {
     }
 
     fn is_met_by_jobs(&mut self, alloc: Global, line: &str, words: &[&str]) -> Mem<bool> {
-        if fields::word(words, 0) == "case" {
-            self.jobs.begin(alloc, fields::long(words, 1))?;
+        if word(words, 0) == "case" {
+            self.jobs.begin(alloc, long(words, 1))?;
             return Ok(true);
         }
         if let Some((call, wanted)) = line.split_once(" = ") {

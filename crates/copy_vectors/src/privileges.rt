@@ -1,23 +1,22 @@
-use crate::fields;
+use crate::fields::octets;
 use copy_privs::{PrivFault, Privilege, read_privilege, write_privilege};
 use outcome::Mem;
+use row_text::words;
 use std::alloc::Global;
 use wire_xdr::Octets;
 
 /// Whether a line `NAME BYTES ANSWER` is met. The answer is `from SECRET USER`, `to SECRET N USER` with the number
 /// of sources, `confirm CODE USER`, `unknown`, or `bad AT`. What was read is written again, to the same bytes.
 pub fn is_met(alloc: Global, line: &str) -> Mem<bool> {
-    let Some((name, rest)) = line.split_once(' ') else {
+    let Some((_, rest)) = line.split_once(' ') else {
         return Ok(false);
     };
-    let Some((bytes, wanted)) = rest.split_once(' ') else {
+    let Some((_, wanted)) = rest.split_once(' ') else {
         return Ok(false);
     };
-    let given = answer(
-        alloc,
-        fields::bytes(alloc, name).as_slice(),
-        fields::bytes(alloc, bytes).as_slice(),
-    )?;
+    let words = words(alloc, line)?;
+    let (name, bytes) = (octets(alloc, &words, 0)?, octets(alloc, &words, 1)?);
+    let given = answer(alloc, name.as_slice(), bytes.as_slice())?;
     Ok(given.as_str() == wanted)
 }
 
