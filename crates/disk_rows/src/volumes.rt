@@ -24,13 +24,22 @@ fn counted(alloc: Global, blocks: u32, off: u64, bytes: &[u8], calls: usize) -> 
         Ok(volume) => volume,
         Err(_refused) => return Err(Fail::new("the volume wasn't opened")),
     };
-    if calls >= 1 && volume.write(1, off, bytes).is_err() {
+    if calls == 0 {
+        return Ok(volume.hand_back().counts());
+    }
+    if volume.write(1, off, bytes).is_err() {
         return Err(Fail::new("the bytes weren't written"));
     }
-    if calls >= 2 && volume.commit(1).is_err() {
+    if calls == 1 {
+        return Ok(volume.hand_back().counts());
+    }
+    if volume.commit(1).is_err() {
         return Err(Fail::new("the commit failed"));
     }
-    if calls >= CALLS && volume.read(1, 0, &mut [0]).is_err() {
+    if calls == 2 {
+        return Ok(volume.hand_back().counts());
+    }
+    if volume.read(1, 0, &mut [0]).is_err() {
         return Err(Fail::new("the byte wasn't read"));
     }
     Ok(volume.hand_back().counts())
