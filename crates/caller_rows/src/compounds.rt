@@ -8,13 +8,13 @@ use crate::records::{
     CHANGE, COPY, CREATE_SESSION, EXCHANGE_ID, Exchange, NOTIFY, OPEN, PLAIN_SESSION, READ,
     RECLAIM_COMPLETE, SIZE, WRITE,
 };
+use crate::wrong::{Wrong, same, same_bytes};
 use nfs_base::{Handle, NetLoc, StateId};
 use nfs_compound::{Compound, read_reply_body, write_compound};
 use outcome::Mem;
 use session_calls::{BackChannel, CopyRange, FileCall, SlotCall, SlotUse, SoleCall, is_answer};
 use std::alloc::Global;
 use std::test::Fail;
-use two_ends::{Wrong, same, same_bytes};
 use wire_xdr::Octets;
 
 /// The ID of the client, and that of its session; the destination's are the next ones.

@@ -8,3 +8,5 @@ mod compounds;
 mod records;
 #[cfg(test)]
 mod setups;
+#[cfg(test)]
+mod wrong;

@@ -2,6 +2,7 @@ ghost use Rattle.session_calls.specs.Calls.{IsSendable, SlotCallFits};
 
 use crate::compounds::{CLIENT, OPENED, SESSION, file, slot};
 use crate::records::{CREATE_SESSION, EXCHANGE_ID, Exchange, INIT, OPEN, RECLAIM_COMPLETE, WRITE};
+use crate::wrong::{Wrong, same, same_bytes};
 use gss_ctx::{Begun, Caller};
 use gss_mech::Realm;
 use nfs_base::End;
@@ -11,7 +12,7 @@ use session_client::{PendingCompound, PendingInit, Setup, SlotNumbers, Taken};
 use std::alloc::Global;
 use std::test::Fail;
 use streams::CountDraws;
-use two_ends::{Wrong, drawn, realm, same, same_bytes};
+use two_ends::{drawn, realm};
 use wire_xdr::Octets;
 
 /// The answer to INIT, which is called and sent again as recorded.
