@@ -67,20 +67,25 @@ fn fill(alloc: Global, volume: &mut Volume<FileDisk>, blocks: u32) -> Result<()>
     Ok(())
 }
 
+// Reads bytes of the last file into a piece. The last of them is answered.
+fn read_piece(volume: &mut Volume<FileDisk>, off: u64, piece: &mut [u8]) -> Result<u8> {
+    let file = volume.files();
+    volume.read(file, off, piece)?;
+    Ok(piece.last().copied().unwrap_or(0))
+}
+
 // Reads all bytes of the last file. The last one is answered.
-fn read(alloc: Global, volume: &mut Volume<FileDisk>, blocks: u32) -> Result<u8>
+fn read(volume: &mut Volume<FileDisk>, blocks: u32) -> Result<u8>
     requires { blocks ≤ MOST_BLOCKS }
 {
-    let mut piece = vec![in alloc; 0; PIECE as usize]?;
+    let mut piece = [0; PIECE as usize];
     let end = u64::from(blocks) * BLOCK_BYTES;
     let mut last = 0;
     for number in 0..u64::from(blocks) / 16 + 1 {
         let off = number * PIECE;
         if off < end {
             let len = (end - off).min(PIECE) as usize;
-            let file = volume.files();
-            volume.read(file, off, &mut piece[..len])?;
-            last = piece[len - 1];
+            last = read_piece(volume, off, &mut piece[..len])?;
         }
     }
     Ok(last)
@@ -134,7 +139,7 @@ fn main(rt: HostRuntime) -> Result<()> {
         touch(&mut volume, blocks)?;
     }
     if all || work.as_str() == "read" {
-        let byte = read(rt.alloc(), &mut volume, blocks)?;
+        let byte = read(&mut volume, blocks)?;
         println!(rt; "read {byte}")?;
     }
     if all {
