@@ -1,0 +1,9 @@
+pub mod Executed
+pub mod Outside
+pub mod Pages
+pub mod Replies
+pub mod Steps
+pub mod Suited
+pub mod Telling
+pub mod Uncalled
+pub mod Walks

@@ -1,0 +1,13 @@
+use Rattle.std.proofs.Common.{◌≡◌, ℕ, List, ◌++◌, length, sym, ap, ◌∙◌, append-nil}
+use Rattle.std.specs.Prelude.{replicate}
+use Rattle.wire_xdr.specs.Words.{fixed_bytes, padding}
+use Rattle.compound_server.proofs.Pages.{added_as}
+use Rattle.compound_server.proofs.replying.put_session.Goals as goal
+
+-- sixteen bytes have no padding
+whole : (bytes : List ℕ) → length bytes ≡ 16 → bytes ≡ fixed_bytes bytes
+unfolding fixed_bytes
+whole bytes is = sym (ap (λ (n : ℕ). bytes ++ replicate (padding n) 0) is ∙ append-nil bytes)
+
+pub returns-clause-added : goal.returns-clause-added
+returns-clause-added c = added_as (whole c.args.session.now c.told-session) c.append.ensures.added

@@ -1,0 +1,9 @@
+pub mod Clients
+pub mod Compounds
+pub mod Course
+pub mod Performing
+pub mod Preparing
+pub mod Refusals
+pub mod Serves
+pub mod State
+pub mod Walking

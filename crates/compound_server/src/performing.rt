@@ -1,0 +1,178 @@
+//! One operation behind SEQUENCE.
+
+ghost use Rattle.std.specs.Prelude.{◌≡◌, ◌+◌, ◌-◌, ◌^◌, ◌<◌, ◌≤◌};
+ghost use Rattle.file_server.specs.Answering.{Ready, Keeps};
+ghost use Rattle.server_volume.specs.Moments.{Ran};
+ghost use Rattle.server_volume.specs.Store.{seat_of};
+ghost use Rattle.sess_slots.specs.Table.{numbers_made};
+ghost use Rattle.compound_server.specs.Course.{Performs, course_of};
+ghost use Rattle.compound_server.specs.Performing.{perform, gated, done, file_done, asks_later};
+ghost use Rattle.nfs_compound.specs.Ops.{op_number};
+ghost use Rattle.compound_server.specs.Preparing.{op_of, IsSuited};
+
+use crate::preparing::Prepared;
+use crate::refusing::place_refusal;
+use crate::server::Server;
+use crate::serving::Serving;
+use disk_model::Disk;
+use file_ops::{
+    FileArg, OP_CREATE_SESSION, OP_DESTROY_CLIENTID, OP_DESTROY_SESSION, OP_EXCHANGE_ID,
+    OP_GETATTR, OP_ILLEGAL, OP_READ, OP_RECLAIM_COMPLETE, OP_SEQUENCE,
+};
+use file_server::{Ask, Caller, Gate, Progress};
+use nfs_base::Status;
+
+impl<D: Disk, X> Server<D, X> {
+    /// Answers an operation behind SEQUENCE. `next` is the number of the one behind it.
+    #[tactic(auto, unfolding(crate::specs::Performing::perform))]
+    pub(crate) fn perform<C>(
+        &mut self,
+        caller: &Caller,
+        carry: &Option<C>,
+        next: Option<u32>,
+        one: Prepared<X::Room>,
+        p: &mut Progress,
+    ) -> Status
+    where
+        X: Serving<C>,
+        requires ready { Ready p.old 1 }
+        requires suited { IsSuited X.suits carry.now one }
+        requires opens { self.old.files.opens.made < 2 ^ 32 - 1 }
+        requires given { X.given self.old.files.extra < 2 ^ 32 - 1 }
+        ensures performs { D.Told → Performs (λ choice. perform (record { gate = X.gated; serve = X.serves }) choice caller.now carry.now next (op_of one) (course_of D.size self.old p.old)) p.old.page.bytes (course_of D.size self.new p.new) p.new.page.bytes result.number }
+        ensures keeps { Keeps p.old p.new }
+        ensures ran { D.Told → Ran (seat_of D.size D.fuse D.timeline self.old.files.volume) (seat_of D.size D.fuse D.timeline self.new.files.volume) p.old.used p.new.used }
+        ensures opens { self.new.files.opens.made ≤ self.old.files.opens.made + 1 }
+        ensures given { X.given self.new.files.extra ≤ X.given self.old.files.extra + 1 }
+        ensures seats { self.new.sessions.sessions ≡ self.old.sessions.sessions }
+        ensures numbers { numbers_made self.new.sessions ≡ numbers_made self.old.sessions }
+    {
+        let op = one.number();
+        match place_refusal(op) {
+            Some(status) => p.refuse(op, status),
+            None => self.gated(caller, carry, next, one, p),
+        }
+    }
+
+    fn gated<C>(
+        &mut self,
+        caller: &Caller,
+        carry: &Option<C>,
+        next: Option<u32>,
+        one: Prepared<X::Room>,
+        p: &mut Progress,
+    ) -> Status
+    where
+        X: Serving<C>,
+        requires ready { Ready p.old 1 }
+        requires suited { IsSuited X.suits carry.now one }
+        requires opens { self.old.files.opens.made < 2 ^ 32 - 1 }
+        requires given { X.given self.old.files.extra < 2 ^ 32 - 1 }
+        ensures performs { D.Told → Performs (λ choice. gated (asks_later (op_number (op_of one))) (record { gate = X.gated; serve = X.serves }) choice caller.now carry.now next (op_of one) (course_of D.size self.old p.old)) p.old.page.bytes (course_of D.size self.new p.new) p.new.page.bytes result.number }
+        ensures keeps { Keeps p.old p.new }
+        ensures ran { D.Told → Ran (seat_of D.size D.fuse D.timeline self.old.files.volume) (seat_of D.size D.fuse D.timeline self.new.files.volume) p.old.used p.new.used }
+        ensures opens { self.new.files.opens.made ≤ self.old.files.opens.made + 1 }
+        ensures given { X.given self.new.files.extra ≤ X.given self.old.files.extra + 1 }
+        ensures seats { self.new.sessions.sessions ≡ self.old.sessions.sessions }
+        ensures numbers { numbers_made self.new.sessions ≡ numbers_made self.old.sessions }
+    {
+        let op = one.number();
+        if asks_later(op) {
+            return self.done(caller, carry, next, one, p);
+        }
+        match self
+            .files
+            .extra
+            .gate(caller, carry, &Ask::Operation { number: op })
+        {
+            Gate::Refuse(status) => p.refuse(op, status),
+            Gate::Serve => self.done(caller, carry, next, one, p),
+            Gate::Usual => self.done(caller, carry, next, one, p),
+        }
+    }
+
+    fn done<C>(
+        &mut self,
+        caller: &Caller,
+        carry: &Option<C>,
+        next: Option<u32>,
+        one: Prepared<X::Room>,
+        p: &mut Progress,
+    ) -> Status
+    where
+        X: Serving<C>,
+        requires ready { Ready p.old 1 }
+        requires suited { IsSuited X.suits carry.now one }
+        requires opens { self.old.files.opens.made < 2 ^ 32 - 1 }
+        requires given { X.given self.old.files.extra < 2 ^ 32 - 1 }
+        ensures performs { D.Told → Performs (λ choice. done (record { gate = X.gated; serve = X.serves }) choice caller.now carry.now next (op_of one) (course_of D.size self.old p.old)) p.old.page.bytes (course_of D.size self.new p.new) p.new.page.bytes result.number }
+        ensures keeps { Keeps p.old p.new }
+        ensures ran { D.Told → Ran (seat_of D.size D.fuse D.timeline self.old.files.volume) (seat_of D.size D.fuse D.timeline self.new.files.volume) p.old.used p.new.used }
+        ensures opens { self.new.files.opens.made ≤ self.old.files.opens.made + 1 }
+        ensures given { X.given self.new.files.extra ≤ X.given self.old.files.extra + 1 }
+        ensures seats { self.new.sessions.sessions ≡ self.old.sessions.sessions }
+        ensures numbers { numbers_made self.new.sessions ≡ numbers_made self.old.sessions }
+    {
+        match one {
+            Prepared::File(arg) => self.file_done(caller, carry, next, arg, p),
+            Prepared::Copy { op, room } => X::serve(&mut self.files, caller, carry, op, room, p),
+        }
+    }
+
+    #[tactic(auto, unfolding(crate::specs::Performing::file_done))]
+    fn file_done<C>(
+        &mut self,
+        caller: &Caller,
+        carry: &Option<C>,
+        next: Option<u32>,
+        arg: FileArg,
+        p: &mut Progress,
+    ) -> Status
+    where
+        X: Serving<C>,
+        requires ready { Ready p.old 1 }
+        requires opens { self.old.files.opens.made < 2 ^ 32 - 1 }
+        ensures performs { D.Told → Performs (λ choice. file_done (record { gate = X.gated; serve = X.serves }) choice caller.now carry.now next arg (course_of D.size self.old p.old)) p.old.page.bytes (course_of D.size self.new p.new) p.new.page.bytes result.number }
+        ensures keeps { Keeps p.old p.new }
+        ensures ran { D.Told → Ran (seat_of D.size D.fuse D.timeline self.old.files.volume) (seat_of D.size D.fuse D.timeline self.new.files.volume) p.old.used p.new.used }
+        ensures opens { self.new.files.opens.made ≤ self.old.files.opens.made + 1 }
+        ensures given { X.given self.new.files.extra ≤ X.given self.old.files.extra + 1 }
+        ensures seats { self.new.sessions.sessions ≡ self.old.sessions.sessions }
+        ensures numbers { numbers_made self.new.sessions ≡ numbers_made self.old.sessions }
+    {
+        match arg {
+            FileArg::Close(args) => self.files.close(&args, p),
+            FileArg::Commit(_) => self.files.commit(p),
+            FileArg::GetAttr(asked) => {
+                self.files
+                    .get_attributes(caller, carry, asked.as_slice(), p)
+            }
+            FileArg::GetFh => self.files.get(p),
+            FileArg::Lookup(name) => self.files.lookup(name.as_slice(), p),
+            FileArg::Open(args) => self.files.open_by_name(caller, args, p),
+            FileArg::PutFh(handle) => self.files.put(next, &handle, p),
+            FileArg::PutRootFh => self.files.put_root(p),
+            FileArg::Read(args) => self.files.read(caller, carry, &args, p),
+            FileArg::RestoreFh => self.files.restore(p),
+            FileArg::SaveFh => self.files.save(p),
+            FileArg::Write(args) => self.files.write(&args, p),
+            FileArg::ReclaimComplete(_) => {
+                let status = self.sessions.reclaim(caller.client);
+                p.refuse(OP_RECLAIM_COMPLETE, status)
+            }
+            FileArg::Illegal => p.refuse(OP_ILLEGAL, Status::OP_ILLEGAL),
+            FileArg::ExchangeId(_) => p.refuse(OP_EXCHANGE_ID, Status::NOT_ONLY_OP),
+            FileArg::CreateSession(_) => p.refuse(OP_CREATE_SESSION, Status::NOT_ONLY_OP),
+            FileArg::DestroySession(_) => p.refuse(OP_DESTROY_SESSION, Status::NOT_ONLY_OP),
+            FileArg::Sequence(_) => p.refuse(OP_SEQUENCE, Status::SEQUENCE_POS),
+            FileArg::DestroyClientId(_) => p.refuse(OP_DESTROY_CLIENTID, Status::NOT_ONLY_OP),
+        }
+    }
+}
+
+/// Whether an operation asks the extension by itself, once it knows the file.
+fn asks_later(op: u32) -> bool
+    ensures { result ≡ asks_later op }
+{
+    op == OP_READ || op == OP_GETATTR
+}
