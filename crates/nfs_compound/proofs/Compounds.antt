@@ -63,6 +63,10 @@ compound_found bytes c fits e =
     subst (λ (compound : Compound). IsCompound compound bytes) (ok_is {E = ℕ} (made h.0.0 body.0) c body.2)
     (record { behind = h.0.1; head = t.0; body = b; count = t.1.1.1; fits = record { tag = t.1.0; minor = t.1.1.0; ops = (ops, f.0) } })
 
+-- no more operations are read than are counted
+pub compound_is_few : (bytes : List ℕ) (c : Compound) → IsCompound c bytes → length c.ops ≤ c.count
+compound_is_few bytes c h = (body_fits operation (one_at op_class op_arg) op_is_cut c.count 0 h.behind c.ops c.tail h.body).1
+
 pub compound_again : (bytes : List ℕ) (c : Compound) → IsBytes bytes → IsCompound c bytes → compound_of bytes ≡ Ok c
 unfolding compound_at made
 compound_again bytes c fits h =

@@ -1,6 +1,7 @@
 //! The arguments of a COMPOUND.
 
-ghost use Rattle.std.specs.Prelude.{◌≡◌, IfOk};
+ghost use Rattle.std.specs.Prelude.{◌≡◌, ◌≤◌, IfOk, length};
+ghost use Rattle.nfs_base.specs.declared.limits.TheConstants.{TEXT_LIMIT};
 ghost use Rattle.nfs_compound.specs.declared.tail.Tail.TheVariants.{Whole};
 ghost use Rattle.nfs_compound.specs.Compounds.{compound_at, compound_of, compound_bytes, CompoundFits, IsFound};
 ghost use Rattle.nfs_compound.specs.Whole.{IsTold, Answers};
@@ -28,12 +29,15 @@ pub struct Compound {
 
 /// Reads a COMPOUND, which is all of the bytes. It is refused exactly where the tag, the minor version or the
 /// number of operations can't be read, at the item that can't, also at the length of a tag that is longer than
-/// 1,024 bytes, and where bytes follow the last operation, at the first of them. Otherwise its operations are read up to the first that can't be read or isn't served,
-/// however many there are, and the tail says where that stands and why. Behind an operation that is cut nothing
-/// is looked at. What was read may be written again, where the tail is `Whole`.
+/// 1,024 bytes, and where bytes follow the last operation, at the first of them. Otherwise its operations are read up
+/// to the first that can't be read or isn't served, so at most as many as are counted, and the tail says where that
+/// stands and why. Behind an operation that is cut nothing is looked at. What was read may be written again, where
+/// the tail is `Whole`.
 pub fn read_compound(alloc: Global, bytes: &[u8]) -> Mem<Result<Compound, BadXdr>>
     ensures exact { IfOk result (Answers (compound_of bytes.now)) }
     ensures found { IfOk result (IsFound bytes.now) }
+    ensures tag { IfOk result (λ told. IfOk told (λ compound. length compound.tag ≤ TEXT_LIMIT)) }
+    ensures few { IfOk result (λ told. IfOk told (λ compound. length compound.ops ≤ compound.count)) }
 {
     let mut reader = Reader::new(bytes);
     let _rest = reader.rest();
