@@ -28,7 +28,7 @@ pub enum CallLabel {
 pub enum Label {
     Call(CallLabel),
 
-    /// A result: the call's name and the status, of INIT and CREATE the major status.
+    /// A result: the call's name and the status, of INIT and CREATE the major status, of DESTROY and NULL 0.
     Reply { to: CallLabel, status: u32 },
 
     /// A denial with this auth_stat (RFC 5531 section 9).

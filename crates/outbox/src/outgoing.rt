@@ -10,7 +10,7 @@ pub enum To {
     /// The other end of a connection, by its number.
     Conn(u32),
 
-    /// The source, on the connection of a worker.
+    /// The source, on the connection of a worker, by the worker's number.
     Source(u8),
 
     /// A server.
@@ -23,7 +23,7 @@ pub struct Outgoing {
     pub to: To,
     pub bytes: Octets,
 
-    /// Under what it was sealed. None of denials and failed calls.
+    /// Under what it was sealed, where it was: denials and failed calls have no seal.
     pub seal: Option<Seal>,
 
     pub label: Label,
