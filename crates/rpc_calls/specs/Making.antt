@@ -51,7 +51,12 @@ abbrev pub init_reply : ℕ → Inited → List ℕ
 init_reply xid answer = reply.spell (Accepted xid (init_verifier answer) Success) ++ init_result.spell (init_told answer)
 
 abbrev pub init_answer : ℕ → ℕ → Inited → InitAnswer
-init_answer xid number answer = record { bytes = init_reply xid answer; made = init_made number answer; draw_failed = has_failed_draw answer }
+init_answer xid number answer = record {
+  bytes = init_reply xid answer;
+  major = (init_told answer).major;
+  made = init_made number answer;
+  draw_failed = has_failed_draw answer;
+}
 
 -- What the contexts say of the token is told in the reply; the number is the next one.
 pub record AnswersInit {P W : Type 0} (mic : Mic) (accepted : List ℕ → Option mechanism.Accepted) (gives : W → Drawn → W → Type 0) (now xid : ℕ)

@@ -28,6 +28,10 @@ const INIT_ROOM: usize = 4224;
 #[derive(Debug, Drop)]
 pub struct InitAnswer {
     pub bytes: Octets,
+
+    /// The major status that the record says, 0 where a context was made.
+    pub major: u32,
+
     pub made: Option<u32>,
     pub draw_failed: bool,
 }
@@ -81,11 +85,13 @@ fn init_answer(mut page: Page, xid: u32, number: u32, answer: &Inited) -> InitAn
     match answer {
         Inited::Made { .. } => InitAnswer {
             bytes,
+            major: GSS_S_COMPLETE,
             made: Some(number),
             draw_failed: false,
         },
         Inited::Refused { minor } => InitAnswer {
             bytes,
+            major: refused_major(*minor),
             made: None,
             draw_failed: *minor == MINOR_DRAW_FAILED,
         },
