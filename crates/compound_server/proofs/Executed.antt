@@ -2,9 +2,8 @@
 use Rattle.std.proofs.Common.{◌≡◌, ℕ, ◌+◌, List, [], ◌∷◌, ◌++◌, length, Result, Ok, Err, IfOk, refl, sym, ap, subst, ◌∙◌, append_assoc, arith}
 use Rattle.std.specs.List.{flat_map}
 use Rattle.file_ops.specs.declared.sessions.SequenceArgs.{SequenceArgs}
-use Rattle.nfs_base.specs.declared.status.Status.{Status}
 use Rattle.nfs_compound.specs.declared.res.Res.{Res}
-use Rattle.nfs_compound.specs.Results.{outcome, reply, res_status}
+use Rattle.nfs_compound.specs.Results.{outcome, reply}
 use Rattle.nfs_compound.specs.Walk.{last_status}
 use Rattle.server_volume.specs.declared.used.Used.{Used}
 use Rattle.server_volume.specs.Moments.{Ran}
@@ -12,16 +11,14 @@ use Rattle.server_volume.specs.MomentLaws.{ran_none}
 use Rattle.server_volume.specs.Store.{Seat}
 use Rattle.sess_slots.specs.declared.answers.Place.{Place}
 use Rattle.sess_slots.specs.Begins.{finished}
-use Rattle.sess_slots.specs.Table.{SessionTable}
 use Rattle.wire_xdr.specs.Words.{word_bytes, opaque_bytes}
 use Rattle.compound_server.specs.declared.compounds.Reply.{Reply}
 use Rattle.compound_server.specs.declared.server.Server.{Server}
 use Rattle.compound_server.specs.declared.who.Who.{Who}
 use Rattle.compound_server.specs.Compounds.{executed, sequence_done}
-use Rattle.compound_server.specs.Course.{Course}
 use Rattle.compound_server.specs.State.{Given, given_of}
 use Rattle.compound_server.specs.Walking.{Walked, Results, results_of}
-use Rattle.compound_server.proofs.Replies.{reply_text, reply_spelled}
+use Rattle.compound_server.proofs.Replies.{reply_spelled}
 
 -- a reply of SEQUENCE and the results behind it, as it is put together
 abbrev pub sequence_text : (tag : List ℕ) → SequenceArgs → (bytes : List ℕ) → (status count : ℕ) → List ℕ

@@ -1,5 +1,5 @@
 -- Several texts written onto a page one behind the other.
-use Rattle.std.proofs.Common.{◌≡◌, ℕ, List, ◌++◌, sym, ap, ◌∙◌, append_assoc}
+use Rattle.std.proofs.Common.{◌≡◌, ℕ, List, ◌++◌, ap, ◌∙◌, append_assoc}
 use Rattle.wire_xdr.specs.Page.{Written, Added}
 
 pub added_then : {a b c : Written} {x y : List ℕ} → Added a x b → Added b y c → Added a (x ++ y) c

@@ -1,16 +1,15 @@
 -- The operations of a compound one after the other.
-use Rattle.std.proofs.Common.{◌≡◌, ℕ, ◌+◌, Bool, true, false, List, [], ◌∷◌, ◌++◌, length, refl, sym, ap, ◌∙◌, append_assoc, append-nil, arith}
+use Rattle.std.proofs.Common.{◌≡◌, ℕ, ◌+◌, Bool, false, List, [], ◌∷◌, ◌++◌, length, refl, sym, ap, ◌∙◌, append_assoc, append-nil, arith}
 use Rattle.std.specs.Prelude.{◌==◌, Option, Some, None, if◌then◌else◌}
 use Rattle.std.specs.List.{flat_map}
 use Rattle.file_server.specs.declared.extension.Caller.{Caller}
-use Rattle.nfs_base.specs.declared.status.Status.{Status}
 use Rattle.nfs_compound.specs.declared.op.Op.{Op}
 use Rattle.nfs_compound.specs.declared.res.Res.{Res}
 use Rattle.nfs_compound.specs.declared.tail.Tail.{Tail}
 use Rattle.nfs_compound.specs.Results.{outcome, res_status}
 use Rattle.nfs_compound.specs.Walk.{last_status, next_number}
 use Rattle.server_volume.specs.Choices.{Choice}
-use Rattle.compound_server.specs.Course.{Course, Performed, Seen, Service, seen}
+use Rattle.compound_server.specs.Course.{Course, Performed, Service, seen}
 use Rattle.compound_server.specs.Performing.{perform}
 use Rattle.compound_server.specs.declared.refusing.TailRefusal.{TailRefusal}
 use Rattle.compound_server.specs.Refusals.{refused, tail_refusal}

@@ -1,16 +1,14 @@
 -- One operation of a compound behind its SEQUENCE. Its tests in their order: where it stands, what the server's extension
 -- says, and then its own. RFC 8881 sections 2.10.6.2, 16.2 and 18.
 use Rattle.std.specs.Prelude.{ℕ, ◌==◌, ◌||◌, Bool, true, false, Option, Some, None}
-use Rattle.copy_ops.specs.declared.arg.CopyArg.{CopyArg}
 use Rattle.file_ops.specs.declared.args.FileArg.{FileArg}
 use Rattle.file_ops.specs.declared.args.FileArg.TheVariants as args
 use Rattle.file_ops.specs.declared.operation.TheConstants.{OP_READ, OP_GETATTR, OP_EXCHANGE_ID, OP_CREATE_SESSION, OP_DESTROY_SESSION, OP_SEQUENCE, OP_DESTROY_CLIENTID, OP_ILLEGAL}
-use Rattle.file_ops.specs.Args.{file_arg_number}
 use Rattle.file_server.specs.declared.extension.Ask.TheVariants.{Operation}
 use Rattle.file_server.specs.declared.extension.Caller.{Caller}
 use Rattle.file_server.specs.declared.extension.Gate.{Gate}
 use Rattle.file_server.specs.declared.extension.Gate.TheVariants as gate
-use Rattle.file_server.specs.Machine.{Going, Rules, with_extra}
+use Rattle.file_server.specs.Machine.{Rules, with_extra}
 use Rattle.file_server.specs.Attributes.{get_attributes}
 use Rattle.file_server.specs.Closing.{close}
 use Rattle.file_server.specs.Names.{lookup}

@@ -1,6 +1,6 @@
-use Rattle.std.proofs.Common.{rules, ◌≡◌, map, List, [], ◌∷◌, ◌++◌, refl, ap, ◌∙◌}
+use Rattle.std.proofs.Common.{[], ◌∷◌, ◌++◌, ap, ◌∙◌}
 use Rattle.std.proofs.lemmas.List.{map-append}
-use Rattle.compound_server.specs.Preparing.{op_of, IsSuited, AreSuited}
+use Rattle.compound_server.specs.Preparing.{op_of}
 use Rattle.compound_server.proofs.Suited.{suited_behind}
 use Rattle.compound_server.proofs.preparing.prepare.Goals as goal
 

@@ -1,9 +1,6 @@
-use Rattle.std.proofs.Common.{rules, ◌≡◌, ◌+◌, ℕ, Bool, List, [], ◌∷◌, ◌++◌, map, refl, sym, ap, ◌∙◌, arith}
-use Rattle.file_server.specs.declared.held.Held.{Held}
+use Rattle.std.proofs.Common.{◌≡◌, ℕ, List, ◌++◌, map, sym, ap, ◌∙◌}
 use Rattle.file_server.specs.Answering.{machine_of}
-use Rattle.file_ops.specs.declared.sessions.SequenceArgs.{SequenceArgs}
 use Rattle.nfs_compound.specs.Results.{outcome}
-use Rattle.server_volume.specs.declared.used.Used.{Used}
 use Rattle.sess_slots.specs.Begins.{finished}
 use Rattle.sess_slots.specs.Table.{SessionTable}
 use Rattle.wire_xdr.specs.Page.{Written}
@@ -11,9 +8,9 @@ use Rattle.wire_xdr.specs.Words.{word_bytes, opaque_bytes}
 use Rattle.compound_server.specs.Compounds.{executed, sequence_done}
 use Rattle.compound_server.specs.Course.{Course, Service, course_of}
 use Rattle.compound_server.specs.Preparing.{op_of}
-use Rattle.compound_server.specs.State.{Given, begun, state_of}
-use Rattle.compound_server.specs.Walking.{Walked, Results, results_of, walk}
-use Rattle.compound_server.proofs.Executed.{executed_as, left_by, sequence_text}
+use Rattle.compound_server.specs.State.{Given}
+use Rattle.compound_server.specs.Walking.{Walked, results_of, walk}
+use Rattle.compound_server.proofs.Executed.{executed_as, sequence_text}
 use Rattle.compound_server.proofs.Pages.{added_then}
 use Rattle.compound_server.proofs.Steps.{begun_as}
 use Rattle.compound_server.proofs.server.Server.carry_out.Goals as goal

@@ -1,5 +1,4 @@
 use Rattle.std.proofs.Common.{ap, ◌∙◌}
-use Rattle.compound_server.specs.declared.preparing.Prepared.{Prepared}
 use Rattle.compound_server.specs.Course.{course_of, seen}
 use Rattle.compound_server.specs.Performing.{done}
 use Rattle.compound_server.specs.Preparing.{op_of}

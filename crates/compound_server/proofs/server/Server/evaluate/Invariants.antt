@@ -1,4 +1,4 @@
-use Rattle.std.proofs.Common.{◌≡◌, ℕ, ◌+◌, ◌<◌, ◌≤◌, ◌^◌, length, map}
+use Rattle.std.proofs.Common.{◌≡◌, ◌+◌, ◌<◌, ◌≤◌, ◌^◌, length, map}
 use Rattle.file_server.specs.Answering.{Ready}
 use Rattle.nfs_base.specs.declared.limits.TheConstants.{MOST_OPERATIONS}
 use Rattle.server_volume.specs.Choices.{Choice, Agrees}
