@@ -17,7 +17,7 @@ ghost use Rattle.compound_server.specs.Walking.{walk};
 
 use crate::preparing::{PreparedOps, prepare};
 use crate::refusing::{stands_alone, tail_refusal};
-use crate::replying::{HEAD_ROOM, put_head, put_refusal, put_sequence};
+use crate::replying::{HEAD_ROOM, REFUSAL_ROOM, put_head, put_refusal, put_sequence};
 use crate::server::Server;
 use crate::serving::Serving;
 use crate::who::Who;
@@ -136,7 +136,7 @@ impl<D: Disk, X> Server<D, X> {
         ensures counted { IsCounted X.given self.old self.new }
     {
         let used = CallList::new(alloc)?;
-        let mut page = Page::new(alloc, HEAD_ROOM + tag.len() + 8)?;
+        let mut page = Page::new(alloc, HEAD_ROOM + tag.len() + REFUSAL_ROOM)?;
         put_refusal(&mut page, status, tag, op);
         self.files.extra.lapse(who.second);
         Ok(Reply {

@@ -12,8 +12,11 @@ use file_ops::{OP_SEQUENCE, SequenceArgs};
 use nfs_base::{SLOTS, Status};
 use wire_xdr::Page;
 
-/// How many bytes stand before a reply's results, the tag apart.
+/// How many bytes stand before a reply's results at most, the tag's own apart.
 pub(crate) const HEAD_ROOM: usize = 15;
+
+/// How many bytes a result has that is a status alone: its operation's number, and the status.
+pub(crate) const REFUSAL_ROOM: usize = 8;
 
 /// Begins a reply: its status, the call's tag, and how many results there are.
 pub(crate) fn put_head(page: &mut Page, status: Status, tag: &[u8], count: u32)
@@ -57,9 +60,9 @@ pub(crate) fn put_sequence(page: &mut Page, args: &SequenceArgs)
 pub(crate) fn put_refusal(page: &mut Page, status: Status, tag: &[u8], op: u32)
     requires short { length tag.now ≤ TEXT_LIMIT }
     requires empty { page.old.bytes ≡ [] }
-    requires room { HEAD_ROOM + length tag.now + 8 ≤ page.old.room }
+    requires room { HEAD_ROOM + length tag.now + REFUSAL_ROOM ≤ page.old.room }
     ensures bytes { page.new.bytes ≡ refusal_bytes tag.now op status }
-    ensures len { length page.new.bytes ≤ HEAD_ROOM + length tag.now + 8 }
+    ensures len { length page.new.bytes ≤ HEAD_ROOM + length tag.now + REFUSAL_ROOM }
 {
     put_head(page, status, tag, 1);
     page.u32(op);
