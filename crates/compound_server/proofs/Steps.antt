@@ -1,11 +1,11 @@
 -- An operation in code: what it said behind the results, and what it leaves.
-use Rattle.std.proofs.Common.{rules, ◌≡◌, ℕ, ◌+◌, ◌≤◌, Bool, true, false, List, [], ◌∷◌, ◌++◌, length, refl, sym, ap, subst, ◌∙◌, arith, inl, inr}
+use Rattle.std.proofs.Common.{rules, ◌≡◌, ℕ, Bool, true, false, List, [], ◌∷◌, ◌++◌, refl, sym, ap, subst, ◌∙◌}
 use Rattle.std.specs.Prelude.{◌==◌, Option, Some, if◌then◌else◌}
 use Rattle.std.proofs.lemmas.Bool.{eqb-true}
 use Rattle.copy_ops.specs.Forms.{copy_res, copy_answer}
-use Rattle.file_ops.specs.Results.{file_res, file_res_status}
-use Rattle.file_server.specs.Answering.{Says, AsksOnce, IsNew, going_of}
-use Rattle.file_server.specs.declared.extension.Ask.{Ask}
+use Rattle.file_ops.specs.Results.{file_res}
+use Rattle.file_ops.specs.declared.args.FileArg.{FileArg}
+use Rattle.file_server.specs.Answering.{Says, IsNew}
 use Rattle.file_server.specs.declared.extension.Ask.TheVariants.{Operation}
 use Rattle.file_server.specs.declared.extension.Caller.{Caller}
 use Rattle.file_server.specs.declared.extension.Gate.{Gate}
@@ -26,30 +26,19 @@ use Rattle.server_volume.specs.Moments.{Ran}
 use Rattle.server_volume.specs.Store.{Seat}
 use Rattle.sess_slots.specs.Table.{SessionTable}
 use Rattle.wire_xdr.specs.Words.{word_bytes}
-use Rattle.compound_server.specs.Course.{Course, Performed, Seen, Service, seen, of_file, of_copy}
-use Rattle.compound_server.specs.Performing.{asks_later, gated, perform, placed, refuse, unless_refused, with_state}
+use Rattle.compound_server.specs.Course.{Course, Seen, Service, seen, of_file, of_copy}
+use Rattle.compound_server.specs.Performing.{asks_later, file_done, gated, perform, placed, refuse, unless_refused, with_state}
 use Rattle.compound_server.specs.Refusals.{Refusing, refusings, refused_among, refused, place_refusal}
 use Rattle.compound_server.specs.Serves.{Served, told_of}
 use Rattle.compound_server.specs.State.{begun}
 
 -- no call was made
-pub ran_still : (seat : Seat) (used more : List Used) → more ≡ used → Ran seat seat used more
-ran_still seat used more same = subst (λ (us : List Used). Ran seat seat used us) (sym same) (ran_none seat used)
+pub ran_still : {seat : Seat} {used more : List Used} → more ≡ used → Ran seat seat used more
+ran_still {seat} {used} {more} same = subst (λ (us : List Used). Ran seat seat used us) (sym same) (ran_none seat used)
 
 -- nor anything else done to the volume
-pub ran_kept : {V : Type 0} (seat : V → Seat) (old new : V) (used more : List Used) → new ≡ old → more ≡ used → Ran (seat old) (seat new) used more
-ran_kept seat old new used more same still = subst (λ v. Ran (seat old) (seat v) used more) (sym same) (ran_still (seat old) used more still)
-
--- ---- what a particular server gave out
-
--- asking it whether an operation may go on gives no number
-pub given_asked : {X P : Type 0} (gated : X → Caller → P → Ask → X × Gate) (given : X → ℕ) (old new : X) (caller : Caller) (carry : P)
-    → ((x : X) (who : Caller) (what : P) (asked : Ask) → given (gated x who what asked).0 ≤ given x)
-    → AsksOnce gated old caller carry new → given new ≤ given old + 1
-given_asked gated given old new caller carry steady asks = elim asks [
-  | inl same ↦ omega (arith, ap given same)
-  | inr asked ↦ omega (arith, ap given asked.1, steady old caller carry asked.0)
-]
+pub ran_kept : {V : Type 0} (seat : V → Seat) {old new : V} {used more : List Used} → new ≡ old → more ≡ used → Ran (seat old) (seat new) used more
+ran_kept seat {old} {new} {used} {more} same still = subst (λ v. Ran (seat old) (seat v) used more) (sym same) (ran_still still)
 
 -- ---- refusals
 
@@ -162,6 +151,23 @@ pub performs_file : {X : Type 0} (sessions : SessionTable) (a : Answered X) (bef
 unfolding outcome res_body
 performs_file sessions a before g after number e =
     ap (λ s. seen_as (record { going = s.going; sessions = sessions }) s.bytes s.status) e
+
+-- the same, by what the operation is
+pub performs_known : {X C : Type 0} (s : Service X C) (choice : Choice) (caller : Caller) (carry : Option C) (next : Option ℕ) {arg known : FileArg} (c : Course X) (before : List ℕ) (a : Answered X) (g : Going X) (after : List ℕ) (number : ℕ)
+    → arg ≡ known → shown a before ≡ record { going = g; bytes = after; status = number } → file_done s choice caller carry next known c ≡ of_file c.sessions a
+    → seen (file_done s choice caller carry next arg c) before ≡ record { course = record { going = g; sessions = c.sessions }; bytes = after; status = number }
+performs_known s choice caller carry next {arg} {known} c before a g after number is e done =
+    ap (λ (f : FileArg). seen (file_done s choice caller carry next f c) before) is ∙ ap (λ p. seen p before) done
+    ∙ performs_file c.sessions a before g after number e
+
+-- an operation that doesn't come there is refused
+pub refuses_known : {X C : Type 0} (s : Service X C) (choice : Choice) (caller : Caller) (carry : Option C) (next : Option ℕ) {arg known : FileArg} (m : Machine X) (sessions : SessionTable) (q : Progress) {r : Progress} (op : ℕ) (said : Status) {answered : Status}
+    → arg ≡ known → Says q (word_bytes op ++ word_bytes said.number) r → answered ≡ said
+    → file_done s choice caller carry next known (course_at m sessions q) ≡ refuse op said (course_at m sessions q)
+    → seen (file_done s choice caller carry next arg (course_at m sessions q)) q.page.bytes ≡ seen_as (course_at m sessions r) r.page.bytes answered.number
+refuses_known s choice caller carry next {arg} {known} m sessions q {r} op said {answered} is says same done =
+    ap (λ (f : FileArg). seen (file_done s choice caller carry next f (course_at m sessions q)) q.page.bytes) is ∙ ap (λ p. seen p q.page.bytes) done
+    ∙ performs_refused m sessions op said said answered q r says refl same
 
 -- an operation of the server's own
 pub performs_own : {X : Type 0} (sessions : SessionTable) (a : Served X) (before : List ℕ) (g : Going X) (after : List ℕ) (number : ℕ)

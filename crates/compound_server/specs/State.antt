@@ -79,3 +79,17 @@ pub record IsCounted {D X : Type 0} (given : X → ℕ) (old new : Server D X) :
   pub opens : new.files.opens.made ≤ old.files.opens.made + MOST_OPERATIONS
   pub own : given new.files.extra ≤ given old.files.extra + MOST_OPERATIONS
   pub clients : numbers_made new.sessions ≤ numbers_made old.sessions + 1
+
+-- How many numbers so many operations behind SEQUENCE give out at most. The sessions with their slots stay.
+pub record AreCounted {D X : Type 0} (given : X → ℕ) (operations : ℕ) (old new : Server D X) : Type 0 where
+  pub opens : new.files.opens.made ≤ old.files.opens.made + operations
+  pub own : given new.files.extra ≤ given old.files.extra + operations
+  pub sessions : new.sessions.sessions ≡ old.sessions.sessions
+  pub numbers : numbers_made new.sessions ≡ numbers_made old.sessions
+
+-- What a client's end leaves as it was, the opens and the server's own apart: of these no number is given out.
+pub record LeavesRest {D X : Type 0} (given : X → ℕ) (old new : Server D X) : Type 0 where
+  pub volume : new.files.volume ≡ old.files.volume
+  pub sessions : new.sessions ≡ old.sessions
+  pub opens : new.files.opens.made ≡ old.files.opens.made
+  pub own : given new.files.extra ≤ given old.files.extra

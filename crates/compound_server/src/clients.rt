@@ -6,7 +6,7 @@ ghost use Rattle.sess_slots.specs.Table.{numbers_made};
 ghost use Rattle.compound_server.specs.Clients.{exchange_id, create_session, destroy_session, destroy_clientid, by_exchanged, by_created, exchange_done, exchange_flags, create_done, channel, granted_flags, left_if, asks_back, back_handle, handle_in, is_usable};
 ghost use Rattle.sess_slots.specs.Clients.{exchange_answer, exchange_table};
 ghost use Rattle.file_ops.specs.Parms.{channel_attrs};
-ghost use Rattle.compound_server.specs.State.{state_of, given_of, with_own, with_sessions, without_one, without_all, IsCounted};
+ghost use Rattle.compound_server.specs.State.{state_of, given_of, with_own, with_sessions, without_one, without_all, IsCounted, LeavesRest};
 ghost use Rattle.nfs_compound.specs.declared.res.Res.TheVariants.{File};
 ghost use Rattle.nfs_compound.specs.Results.{outcome};
 ghost use Rattle.file_ops.specs.declared.results.FileRes.TheVariants as results;
@@ -15,7 +15,7 @@ ghost use Rattle.wire_xdr.specs.Page.{Added};
 ghost use Rattle.wire_xdr.specs.Words.{hyper_bytes};
 
 use crate::compounds::Reply;
-use crate::replying::{HEAD_ROOM, put_head, put_refusal, put_session};
+use crate::replying::{HEAD_ROOM, REFUSAL_ROOM, put_head, put_refusal, put_session};
 use crate::server::Server;
 use crate::serving::Serving;
 use crate::who::Who;
@@ -75,9 +75,7 @@ impl<D: Disk, X> Server<D, X> {
             Protection::Unprotected(_) => self.exchange_client(alloc, who, principal, tag, args),
         }
     }
-}
 
-impl<D: Disk, X> Server<D, X> {
     fn exchange_client<C>(
         &mut self,
         alloc: Global,
@@ -123,10 +121,7 @@ impl<D: Disk, X> Server<D, X> {
         requires unused { used ≡ [] }
         ensures gives { given_of D.size self.new result ≡ by_exchanged answer (record { leave = X.leaves; lapse = X.lapses }) tag.now (state_of D.size self.old) }
         ensures short { length result.body ≤ HEAD_ROOM + length tag.now + MOST_EXCHANGED }
-        ensures volume { self.new.files.volume ≡ self.old.files.volume }
-        ensures sessions { self.new.sessions ≡ self.old.sessions }
-        ensures opens { self.new.files.opens.made ≡ self.old.files.opens.made }
-        ensures own { X.given self.new.files.extra ≤ X.given self.old.files.extra }
+        ensures rest { LeavesRest X.given self.old self.new }
     {
         match answer {
             Exchanged::Refused(status) => {
@@ -198,10 +193,7 @@ impl<D: Disk, X> Server<D, X> {
         requires unused { used ≡ [] }
         ensures gives { given_of D.size self.new result ≡ by_created answer (record { leave = X.leaves; lapse = X.lapses }) tag.now (state_of D.size self.old) }
         ensures short { length result.body ≤ HEAD_ROOM + length tag.now + MOST_CREATED }
-        ensures volume { self.new.files.volume ≡ self.old.files.volume }
-        ensures sessions { self.new.sessions ≡ self.old.sessions }
-        ensures opens { self.new.files.opens.made ≡ self.old.files.opens.made }
-        ensures own { X.given self.new.files.extra ≤ X.given self.old.files.extra }
+        ensures rest { LeavesRest X.given self.old self.new }
     {
         match answer {
             Created::Refused(status) => {
@@ -243,7 +235,7 @@ impl<D: Disk, X> Server<D, X> {
         ensures counted { IsCounted X.given self.old self.new }
     {
         let used = CallList::new(alloc)?;
-        let mut page = Page::new(alloc, HEAD_ROOM + tag.len() + 8)?;
+        let mut page = Page::new(alloc, HEAD_ROOM + tag.len() + REFUSAL_ROOM)?;
         let status = self.sessions.destroy(session);
         self.files.extra.lapse(who.second);
         put_refusal(&mut page, status, tag, OP_DESTROY_SESSION);
@@ -272,7 +264,7 @@ impl<D: Disk, X> Server<D, X> {
         ensures counted { IsCounted X.given self.old self.new }
     {
         let used = CallList::new(alloc)?;
-        let mut page = Page::new(alloc, HEAD_ROOM + tag.len() + 8)?;
+        let mut page = Page::new(alloc, HEAD_ROOM + tag.len() + REFUSAL_ROOM)?;
         let holds = self.files.opens.holds(client);
         let status = self.sessions.destroy_client(client, holds);
         self.files.extra.lapse(who.second);
@@ -288,10 +280,7 @@ impl<D: Disk, X> Server<D, X> {
     where
         X: Serving<C>,
         ensures left { state_of D.size self.new ≡ left_if ended (record { leave = X.leaves; lapse = X.lapses }) client (state_of D.size self.old) }
-        ensures volume { self.new.files.volume ≡ self.old.files.volume }
-        ensures sessions { self.new.sessions ≡ self.old.sessions }
-        ensures opens { self.new.files.opens.made ≡ self.old.files.opens.made }
-        ensures own { X.given self.new.files.extra ≤ X.given self.old.files.extra }
+        ensures rest { LeavesRest X.given self.old self.new }
     {
         if ended {
             self.end_client(client);
@@ -302,10 +291,7 @@ impl<D: Disk, X> Server<D, X> {
     where
         X: Serving<C>,
         ensures left { state_of D.size self.new ≡ without_one (record { leave = X.leaves; lapse = X.lapses }) client (state_of D.size self.old) }
-        ensures volume { self.new.files.volume ≡ self.old.files.volume }
-        ensures sessions { self.new.sessions ≡ self.old.sessions }
-        ensures opens { self.new.files.opens.made ≡ self.old.files.opens.made }
-        ensures own { X.given self.new.files.extra ≤ X.given self.old.files.extra }
+        ensures rest { LeavesRest X.given self.old self.new }
     {
         self.files.opens.end(client);
         self.files.extra.leave(client);
@@ -316,10 +302,7 @@ impl<D: Disk, X> Server<D, X> {
     where
         X: Serving<C>,
         ensures left { state_of D.size self.new ≡ without_all (record { leave = X.leaves; lapse = X.lapses }) clients.now (state_of D.size self.old) }
-        ensures volume { self.new.files.volume ≡ self.old.files.volume }
-        ensures sessions { self.new.sessions ≡ self.old.sessions }
-        ensures opens { self.new.files.opens.made ≡ self.old.files.opens.made }
-        ensures own { X.given self.new.files.extra ≤ X.given self.old.files.extra }
+        ensures rest { LeavesRest X.given self.old self.new }
     {
         if let [client, rest @ ..] = clients {
             self.end_client(*client);
@@ -332,10 +315,7 @@ impl<D: Disk, X> Server<D, X> {
     where
         X: Serving<C>,
         ensures left { state_of D.size self.new ≡ without_all (record { leave = X.leaves; lapse = X.lapses }) (option_to_list client) (state_of D.size self.old) }
-        ensures volume { self.new.files.volume ≡ self.old.files.volume }
-        ensures sessions { self.new.sessions ≡ self.old.sessions }
-        ensures opens { self.new.files.opens.made ≡ self.old.files.opens.made }
-        ensures own { X.given self.new.files.extra ≤ X.given self.old.files.extra }
+        ensures rest { LeavesRest X.given self.old self.new }
     {
         if let Some(client) = client {
             self.end_client(client);

@@ -6,9 +6,9 @@ ghost use Rattle.nfs_base.specs.declared.limits.TheConstants.{MOST_OPERATIONS};
 ghost use Rattle.nfs_compound.specs.Walk.{next_number};
 ghost use Rattle.server_volume.specs.Moments.{Ran};
 ghost use Rattle.server_volume.specs.Store.{seat_of};
-ghost use Rattle.sess_slots.specs.Table.{numbers_made};
 ghost use Rattle.compound_server.specs.Course.{course_of};
 ghost use Rattle.compound_server.specs.Preparing.{op_of, AreSuited};
+ghost use Rattle.compound_server.specs.State.{AreCounted};
 ghost use Rattle.compound_server.specs.Walking.{walk, Walks};
 
 use crate::preparing::{Prepared, PreparedOps};
@@ -52,10 +52,7 @@ impl<D: Disk, X> Server<D, X> {
         ensures room { p.new.page.room ≡ p.old.page.room }
         ensures fits { length p.new.page.bytes ≤ p.old.page.room }
         ensures ran { D.Told → Ran (seat_of D.size D.fuse D.timeline self.old.files.volume) (seat_of D.size D.fuse D.timeline self.new.files.volume) p.old.used p.new.used }
-        ensures opens { self.new.files.opens.made ≤ self.old.files.opens.made + length ops }
-        ensures given { X.given self.new.files.extra ≤ X.given self.old.files.extra + length ops }
-        ensures seats { self.new.sessions.sessions ≡ self.old.sessions.sessions }
-        ensures numbers { numbers_made self.new.sessions ≡ numbers_made self.old.sessions }
+        ensures counted { AreCounted X.given (length ops) self.old self.new }
     {
         let mut rest = ops.into_deque();
         let mut count = count;

@@ -4,11 +4,11 @@ ghost use Rattle.std.specs.Prelude.{◌≡◌, ◌+◌, ◌-◌, ◌^◌, ◌<�
 ghost use Rattle.file_server.specs.Answering.{Ready, Keeps};
 ghost use Rattle.server_volume.specs.Moments.{Ran};
 ghost use Rattle.server_volume.specs.Store.{seat_of};
-ghost use Rattle.sess_slots.specs.Table.{numbers_made};
 ghost use Rattle.compound_server.specs.Course.{Performs, course_of};
 ghost use Rattle.compound_server.specs.Performing.{perform, gated, done, file_done, asks_later};
 ghost use Rattle.nfs_compound.specs.Ops.{op_number};
 ghost use Rattle.compound_server.specs.Preparing.{op_of, IsSuited};
+ghost use Rattle.compound_server.specs.State.{AreCounted};
 
 use crate::preparing::Prepared;
 use crate::refusing::place_refusal;
@@ -42,10 +42,7 @@ impl<D: Disk, X> Server<D, X> {
         ensures performs { D.Told → Performs (λ choice. perform (record { gate = X.gated; serve = X.serves }) choice caller.now carry.now next (op_of one) (course_of D.size self.old p.old)) p.old.page.bytes (course_of D.size self.new p.new) p.new.page.bytes result.number }
         ensures keeps { Keeps p.old p.new }
         ensures ran { D.Told → Ran (seat_of D.size D.fuse D.timeline self.old.files.volume) (seat_of D.size D.fuse D.timeline self.new.files.volume) p.old.used p.new.used }
-        ensures opens { self.new.files.opens.made ≤ self.old.files.opens.made + 1 }
-        ensures given { X.given self.new.files.extra ≤ X.given self.old.files.extra + 1 }
-        ensures seats { self.new.sessions.sessions ≡ self.old.sessions.sessions }
-        ensures numbers { numbers_made self.new.sessions ≡ numbers_made self.old.sessions }
+        ensures counted { AreCounted X.given 1 self.old self.new }
     {
         let op = one.number();
         match place_refusal(op) {
@@ -71,10 +68,7 @@ impl<D: Disk, X> Server<D, X> {
         ensures performs { D.Told → Performs (λ choice. gated (asks_later (op_number (op_of one))) (record { gate = X.gated; serve = X.serves }) choice caller.now carry.now next (op_of one) (course_of D.size self.old p.old)) p.old.page.bytes (course_of D.size self.new p.new) p.new.page.bytes result.number }
         ensures keeps { Keeps p.old p.new }
         ensures ran { D.Told → Ran (seat_of D.size D.fuse D.timeline self.old.files.volume) (seat_of D.size D.fuse D.timeline self.new.files.volume) p.old.used p.new.used }
-        ensures opens { self.new.files.opens.made ≤ self.old.files.opens.made + 1 }
-        ensures given { X.given self.new.files.extra ≤ X.given self.old.files.extra + 1 }
-        ensures seats { self.new.sessions.sessions ≡ self.old.sessions.sessions }
-        ensures numbers { numbers_made self.new.sessions ≡ numbers_made self.old.sessions }
+        ensures counted { AreCounted X.given 1 self.old self.new }
     {
         let op = one.number();
         if asks_later(op) {
@@ -108,10 +102,7 @@ impl<D: Disk, X> Server<D, X> {
         ensures performs { D.Told → Performs (λ choice. done (record { gate = X.gated; serve = X.serves }) choice caller.now carry.now next (op_of one) (course_of D.size self.old p.old)) p.old.page.bytes (course_of D.size self.new p.new) p.new.page.bytes result.number }
         ensures keeps { Keeps p.old p.new }
         ensures ran { D.Told → Ran (seat_of D.size D.fuse D.timeline self.old.files.volume) (seat_of D.size D.fuse D.timeline self.new.files.volume) p.old.used p.new.used }
-        ensures opens { self.new.files.opens.made ≤ self.old.files.opens.made + 1 }
-        ensures given { X.given self.new.files.extra ≤ X.given self.old.files.extra + 1 }
-        ensures seats { self.new.sessions.sessions ≡ self.old.sessions.sessions }
-        ensures numbers { numbers_made self.new.sessions ≡ numbers_made self.old.sessions }
+        ensures counted { AreCounted X.given 1 self.old self.new }
     {
         match one {
             Prepared::File(arg) => self.file_done(caller, carry, next, arg, p),
@@ -135,10 +126,7 @@ impl<D: Disk, X> Server<D, X> {
         ensures performs { D.Told → Performs (λ choice. file_done (record { gate = X.gated; serve = X.serves }) choice caller.now carry.now next arg (course_of D.size self.old p.old)) p.old.page.bytes (course_of D.size self.new p.new) p.new.page.bytes result.number }
         ensures keeps { Keeps p.old p.new }
         ensures ran { D.Told → Ran (seat_of D.size D.fuse D.timeline self.old.files.volume) (seat_of D.size D.fuse D.timeline self.new.files.volume) p.old.used p.new.used }
-        ensures opens { self.new.files.opens.made ≤ self.old.files.opens.made + 1 }
-        ensures given { X.given self.new.files.extra ≤ X.given self.old.files.extra + 1 }
-        ensures seats { self.new.sessions.sessions ≡ self.old.sessions.sessions }
-        ensures numbers { numbers_made self.new.sessions ≡ numbers_made self.old.sessions }
+        ensures counted { AreCounted X.given 1 self.old self.new }
     {
         match arg {
             FileArg::Close(args) => self.files.close(&args, p),

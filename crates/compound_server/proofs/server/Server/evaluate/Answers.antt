@@ -1,15 +1,11 @@
-use Rattle.std.proofs.Common.{rules, ◌≡◌, ℕ, ◌+◌, ◌<◌, ◌≤◌, length, map, Bool, false, Option, List, [], ◌∷◌, ◌++◌, refl, sym, ap, subst, ◌∙◌, arith}
-use Rattle.std.specs.Prelude.{◌==◌}
-use Rattle.file_server.specs.Answering.{Ready, machine_of}
-use Rattle.nfs_compound.specs.Walk.{next_number}
-use Rattle.server_volume.specs.Choices.{Choice, Agrees}
+use Rattle.std.proofs.Common.{rules, ◌≡◌, ℕ, map, Option, List, [], refl, sym, ap, subst, ◌∙◌, arith}
+use Rattle.file_server.specs.Answering.{machine_of}
+use Rattle.server_volume.specs.Choices.{Agrees}
 use Rattle.server_volume.specs.declared.used.Used.{Used}
 use Rattle.server_volume.specs.MomentLaws.{ran_none, ran_on}
-use Rattle.sess_slots.specs.Table.{numbers_made}
 use Rattle.compound_server.specs.Course.{Service, course_of, seen}
 use Rattle.compound_server.specs.Performing.{perform}
-use Rattle.compound_server.specs.Preparing.{op_of, AreSuited}
-use Rattle.compound_server.specs.Walking.{results_of, walk}
+use Rattle.compound_server.specs.Preparing.{op_of}
 use Rattle.compound_server.proofs.Steps.{performs_refused}
 use Rattle.compound_server.proofs.Walks.{walk_on, walk_stops, walk_ends, walk_refuses}
 use Rattle.compound_server.proofs.server.Server.evaluate.Goals as goal
@@ -47,14 +43,6 @@ returns-then-status-ne0-clause-walks g c = rw (← c.into_deque-rest.ensures) (�
 pub returns-then-status-ne0-clause-ran : goal.returns-then-status-ne0-clause-ran
 returns-then-status-ne0-clause-ran g c told = ran_on _ _ _ _ _ _ (c.operations.invariant.ran told) (c.perform-status.ensures.ran told)
 
--- src/evaluating.rt:67:17
-pub returns-then-status-ne0-clause-seats : goal.returns-then-status-ne0-clause-seats
-returns-then-status-ne0-clause-seats g c = c.perform-status.ensures.seats ∙ c.operations.invariant.seats
-
--- src/evaluating.rt:67:17
-pub returns-then-status-ne0-clause-numbers : goal.returns-then-status-ne0-clause-numbers
-returns-then-status-ne0-clause-numbers g c = c.perform-status.ensures.numbers ∙ c.operations.invariant.numbers
-
 -- src/evaluating.rt:62:9
 pub operations-preserved : goal.operations-preserved
 operations-preserved g c =
@@ -74,8 +62,8 @@ operations-preserved g c =
     let kept = performed.ensures.keeps.page in
     let same = performed.ensures.keeps.room in
     let calls = performed.ensures.keeps.used in
-    let one_open = performed.ensures.opens in
-    let one_given = performed.ensures.given in
+    let one_open = performed.ensures.counted.opens in
+    let one_given = performed.ensures.counted.own in
     record {
       ready = record { page = omega arith; used = omega arith };
       suited = suited.1;
@@ -84,8 +72,8 @@ operations-preserved g c =
       given = omega arith;
       opened = omega arith;
       gave = omega arith;
-      seats = performed.ensures.seats ∙ c.operations.invariant.seats;
-      numbers = performed.ensures.numbers ∙ c.operations.invariant.numbers;
+      seats = performed.ensures.counted.sessions ∙ c.operations.invariant.seats;
+      numbers = performed.ensures.counted.numbers ∙ c.operations.invariant.numbers;
       room = performed.ensures.keeps.room ∙ c.operations.invariant.room;
       ran = λ told. ran_on _ _ _ _ _ _ (c.operations.invariant.ran told) (performed.ensures.ran told);
       walks = λ told choice agrees.
@@ -103,14 +91,6 @@ returns-in-None-clause-walks g c = rw (← c.into_deque-rest.ensures) (λ told c
     c.operations.invariant.walks told choice agrees
     ∙ rw none (walk_ends s choice c.args.caller.now c.args.carry.now c.args.tail (course_of g.D.Disk.size c.operations.self c.operations.p) c.operations.p.page.bytes c.operations.count (sym c.tail_refusal.ensures ∙ c.in-None.is)))
 
--- src/evaluating.rt:59:5
-pub returns-in-None-clause-seats : goal.returns-in-None-clause-seats
-returns-in-None-clause-seats g c = c.operations.invariant.seats
-
--- src/evaluating.rt:59:5
-pub returns-in-None-clause-numbers : goal.returns-in-None-clause-numbers
-returns-in-None-clause-numbers g c = c.operations.invariant.numbers
-
 -- src/evaluating.rt:35:5
 pub returns-clause-walks : goal.returns-clause-walks
 returns-clause-walks g c = rw (← c.into_deque-rest.ensures) (λ told choice agrees.
@@ -122,11 +102,3 @@ returns-clause-walks g c = rw (← c.into_deque-rest.ensures) (λ told choice ag
     ∙ rw none (walk_refuses s choice c.args.caller.now c.args.carry.now c.args.tail (course_of g.D.Disk.size c.operations.self c.operations.p) (course_of g.D.Disk.size c.operations.self c.refuse.new.self)
     c.operations.p.page.bytes c.refuse.new.self.page.bytes c.operations.count c.refuse.result.number r (sym c.tail_refusal.ensures ∙ c.in-Some-tail_refusal.is)
     (performs_refused (machine_of g.D.Disk.size c.operations.self.files) c.operations.self.sessions r.op r.status r.status c.refuse.result c.operations.p c.refuse.new.self c.refuse.ensures.says refl c.refuse.ensures.status)))
-
--- src/evaluating.rt:35:5
-pub returns-clause-seats : goal.returns-clause-seats
-returns-clause-seats g c = c.operations.invariant.seats
-
--- src/evaluating.rt:35:5
-pub returns-clause-numbers : goal.returns-clause-numbers
-returns-clause-numbers g c = c.operations.invariant.numbers

@@ -1,6 +1,5 @@
 use Rattle.std.proofs.Common.{refl, sym, ap, ◌∙◌}
 use Rattle.file_server.specs.Answering.{machine_of}
-use Rattle.server_volume.specs.Store.{seat_of}
 use Rattle.compound_server.specs.Course.{course_of, seen}
 use Rattle.compound_server.specs.Preparing.{op_of}
 use Rattle.compound_server.proofs.Steps.{placed_refuses, performs_refused, ran_still}
@@ -17,6 +16,4 @@ returns-in-Some-clause-performs g c = λ told choice agrees.
     c.args.p.now c.refuse.new.self c.refuse.ensures.says refl c.refuse.ensures.status
 
 pub returns-in-Some-clause-ran : goal.returns-in-Some-clause-ran
-returns-in-Some-clause-ran g c = λ told.
-    let D = g.D.Disk in
-    ran_still (seat_of D.size D.fuse D.timeline c.args.self.now.files.volume) c.args.p.now.used c.refuse.new.self.used c.refuse.ensures.says.used
+returns-in-Some-clause-ran g c = λ told. ran_still c.refuse.ensures.says.used

@@ -25,5 +25,5 @@ returns-clause-gives g c =
           c.requires.unused
           (c.finish.ensures ∙ ap (λ page. page.bytes) w.page-is ∙ (added_then w.put_head.ensures.added w.put_exchanged.ensures.added).is
           ∙ ap (λ (bytes : List ℕ). bytes ++ done_text tag (exchanged_res w.tag.result id sequence confirmed)) c.requires.empty
-          ∙ ap (λ (n : ℕ). done_text tag (exchanged_res n id sequence confirmed)) (w.tag.ensures ∙ ap (λ volume. volume.tag) w.end_clients.ensures.volume))
+          ∙ ap (λ (n : ℕ). done_text tag (exchanged_res n id sequence confirmed)) (w.tag.ensures ∙ ap (λ volume. volume.tag) w.end_clients.ensures.rest.volume))
     ]
