@@ -58,6 +58,18 @@ impl Xdr for CommitArgs {
     }
 }
 
+/// The bit of the type of a file, attribute 1 (RFC 8881 section 5.8.1.2).
+pub const ATTR_TYPE: u32 = 2;
+
+/// The bit of the change attribute, number 3 (RFC 8881 section 5.8.1.4).
+pub const ATTR_CHANGE: u32 = 8;
+
+/// The bit of the size in bytes, attribute 4 (RFC 8881 section 5.8.1.5).
+pub const ATTR_SIZE: u32 = 16;
+
+/// The bit of the lease time in seconds, attribute 10 (RFC 8881 section 5.8.1.11).
+pub const ATTR_LEASE_TIME: u32 = 1024;
+
 /// Attributes of a file, fattr4 (RFC 8881 section 3.3.8): which ones, and their values one after the other.
 #[derive(Drop)]
 pub struct Attributes {

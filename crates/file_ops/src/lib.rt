@@ -26,7 +26,10 @@ pub use callbacks::{
     CbSeq, CbSeqDone, ReferringCall, ReferringCalls, cb_seq_has_one_spelling, read_cb_seq,
     read_cb_seq_res, write_cb_seq, write_cb_seq_res,
 };
-pub use files::{Attributes, CloseArgs, CommitArgs, ReadArgs, ReadDone, WriteArgs, WriteDone};
+pub use files::{
+    ATTR_CHANGE, ATTR_LEASE_TIME, ATTR_SIZE, ATTR_TYPE, Attributes, CloseArgs, CommitArgs,
+    ReadArgs, ReadDone, WriteArgs, WriteDone,
+};
 pub use lengths::{callbacks_have_lengths, operations_have_lengths};
 pub use opening::{Claim, OpenArgs, OpenDone, OpenHow};
 pub use operation::{

@@ -4,7 +4,7 @@ use Rattle.std.specs.Prelude.{if◌then◌else◌}
 use Rattle.nfs_base.specs.declared.limits.TheConstants.{LEASE_SECONDS}
 use Rattle.wire_xdr.specs.Words.{word_bytes, hyper_bytes, fixed_bytes, opaque_bytes, padding}
 use Rattle.file_server.specs.declared.attributes.FileAttributes.{FileAttributes}
-use Rattle.file_server.specs.declared.attributes.TheConstants.{ATTR_TYPE, ATTR_CHANGE, ATTR_SIZE, ATTR_LEASE_TIME}
+use Rattle.file_ops.specs.declared.files.TheConstants.{ATTR_TYPE, ATTR_CHANGE, ATTR_SIZE, ATTR_LEASE_TIME}
 use Rattle.file_server.specs.Attributes.{bytes_if, values_of, wants}
 
 abbrev pub length_if : Bool → ℕ → ℕ

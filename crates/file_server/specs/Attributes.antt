@@ -7,9 +7,10 @@ use Rattle.nfs_base.specs.declared.limits.TheConstants.{LEASE_SECONDS}
 use Rattle.nfs_base.specs.declared.status.Status.{Status}
 use Rattle.wire_xdr.specs.Words.{word_bytes, hyper_bytes}
 use Rattle.file_ops.specs.declared.files.Attributes.{Attributes}
+use Rattle.file_ops.specs.declared.files.TheConstants.{ATTR_TYPE, ATTR_CHANGE, ATTR_SIZE, ATTR_LEASE_TIME}
 use Rattle.file_ops.specs.declared.results.FileRes.TheVariants as results
 use Rattle.file_server.specs.declared.attributes.FileAttributes.{FileAttributes}
-use Rattle.file_server.specs.declared.attributes.TheConstants.{ATTR_TYPE, ATTR_CHANGE, ATTR_SIZE, ATTR_LEASE_TIME, ATTRS_SERVED, TYPE_FILE, TYPE_DIRECTORY}
+use Rattle.file_server.specs.declared.attributes.TheConstants.{ATTRS_SERVED, TYPE_FILE, TYPE_DIRECTORY}
 use Rattle.file_server.specs.declared.extension.Ask.TheVariants as ask
 use Rattle.file_server.specs.declared.extension.Caller.{Caller}
 use Rattle.file_server.specs.declared.extension.Gate.{Gate}

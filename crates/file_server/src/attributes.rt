@@ -14,21 +14,9 @@ use crate::extension::{Ask, Caller, Extension, Gate};
 use crate::files::Files;
 use crate::progress::Progress;
 use disk_model::Disk;
-use file_ops::OP_GETATTR;
+use file_ops::{ATTR_CHANGE, ATTR_LEASE_TIME, ATTR_SIZE, ATTR_TYPE, OP_GETATTR};
 use nfs_base::{LEASE_SECONDS, Status};
 use wire_xdr::Page;
-
-/// The bit of the type of a file, attribute 1 (RFC 8881 section 5.8.1.2).
-pub const ATTR_TYPE: u32 = 2;
-
-/// The bit of the change attribute, number 3 (RFC 8881 section 5.8.1.4).
-pub const ATTR_CHANGE: u32 = 8;
-
-/// The bit of the size in bytes, attribute 4 (RFC 8881 section 5.8.1.5).
-pub const ATTR_SIZE: u32 = 16;
-
-/// The bit of the lease time in seconds, attribute 10 (RFC 8881 section 5.8.1.11).
-pub const ATTR_LEASE_TIME: u32 = 1024;
 
 /// The bits of all attributes that are served.
 pub const ATTRS_SERVED: u32 = ATTR_TYPE | ATTR_CHANGE | ATTR_SIZE | ATTR_LEASE_TIME;

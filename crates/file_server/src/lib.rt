@@ -21,10 +21,7 @@ mod progress;
 mod reading;
 mod writing;
 
-pub use attributes::{
-    ATTR_CHANGE, ATTR_LEASE_TIME, ATTR_SIZE, ATTR_TYPE, ATTRS_SERVED, FileAttributes,
-    TYPE_DIRECTORY, TYPE_FILE,
-};
+pub use attributes::{ATTRS_SERVED, FileAttributes, TYPE_DIRECTORY, TYPE_FILE};
 pub use extension::{Ask, Caller, Extension, Gate};
 pub use files::Files;
 pub use held::Held;

@@ -16,7 +16,8 @@ use Rattle.nfs_compound.specs.declared.res.Res.{Res}
 use Rattle.nfs_compound.specs.declared.res.Res.TheVariants as answers
 use Rattle.nfs_compound.specs.Ops.{op_number}
 use Rattle.nfs_compound.specs.Results.{res_number, res_status}
-use Rattle.session_calls.specs.declared.answer.TheConstants.{ATTR_CHANGE, ATTRS_CHANGE_AND_SIZE}
+use Rattle.file_ops.specs.declared.files.TheConstants.{ATTR_CHANGE}
+use Rattle.session_calls.specs.declared.answer.TheConstants.{ATTRS_CHANGE_AND_SIZE}
 
 -- ---- a result of GETATTR (section 18.7): the attributes are those that were asked for, with their bytes
 

@@ -21,7 +21,8 @@ use Rattle.nfs_compound.specs.declared.compound.Compound.{Compound}
 use Rattle.nfs_compound.specs.declared.op.Op.{Op}
 use Rattle.nfs_compound.specs.declared.op.Op.TheVariants.{Copy, File}
 use Rattle.nfs_compound.specs.declared.tail.Tail.TheVariants.{Whole}
-use Rattle.session_calls.specs.declared.answer.TheConstants.{ATTR_CHANGE, ATTRS_CHANGE_AND_SIZE}
+use Rattle.file_ops.specs.declared.files.TheConstants.{ATTR_CHANGE}
+use Rattle.session_calls.specs.declared.answer.TheConstants.{ATTRS_CHANGE_AND_SIZE}
 use Rattle.nfs_compound.specs.Compounds.{CompoundFits, compound_bytes}
 use Rattle.session_calls.specs.declared.compound.TheConstants.{LONGEST_CALL, MINOR_VERSION}
 use Rattle.session_calls.specs.declared.slot_call.TheConstants.{HIGHEST_SLOT, ACCESS_BOTH}

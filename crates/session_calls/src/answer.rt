@@ -3,17 +3,11 @@
 ghost use Rattle.std.specs.Prelude.{◌≡◌};
 ghost use Rattle.session_calls.specs.Answers as answers;
 
-use file_ops::{Attributes, FileArg, FileRes};
+use file_ops::{ATTR_CHANGE, ATTR_SIZE, Attributes, FileArg, FileRes};
 use nfs_base::{Answer, Status};
 use nfs_compound::{Op, Reply, Res};
 
-/// The bit of the change attribute, number 3 (RFC 8881 section 5.8.1.4).
-pub const ATTR_CHANGE: u32 = 8;
-
-/// The bit of the size in bytes, attribute 4 (RFC 8881 section 5.8.1.5).
-pub const ATTR_SIZE: u32 = 16;
-
-/// The bits of both.
+/// The bits of the change attribute and of the size.
 pub(crate) const ATTRS_CHANGE_AND_SIZE: u32 = ATTR_CHANGE | ATTR_SIZE;
 
 /// Whether a reply answers a call of these operations, as `specs/Answers.antt` has it.

@@ -12,7 +12,7 @@ mod laws;
 mod slot_call;
 mod sole_call;
 
-pub use answer::{ATTR_CHANGE, ATTR_SIZE, is_answer};
+pub use answer::is_answer;
 pub use compound::{LONGEST_CALL, MINOR_VERSION};
 pub use laws::calls_are_simple;
 pub use slot_call::{CopyRange, FileCall, HIGHEST_SLOT, SlotCall, SlotUse};

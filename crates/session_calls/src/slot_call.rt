@@ -11,11 +11,12 @@ ghost use Rattle.nfs_compound.specs.declared.op.Op.TheVariants.{File};
 ghost use Rattle.file_ops.specs.declared.args.FileArg.TheVariants.{PutFh, PutRootFh, GetFh, SaveFh, ReclaimComplete};
 ghost use Rattle.session_calls.specs.Calls.{sequence_op, file_op, open_op, attributes_op, notify_op, copy_op, slot_ops, slot_compound, FileCallFits, SlotCallFits, IsSendable};
 
-use crate::answer::{ATTR_CHANGE, ATTRS_CHANGE_AND_SIZE};
+use crate::answer::ATTRS_CHANGE_AND_SIZE;
 use crate::compound::whole;
 use copy_ops::{CopyArg, CopyArgs, NotifyArgs};
 use file_ops::{
-    Claim, CloseArgs, CommitArgs, FileArg, OpenArgs, OpenHow, ReadArgs, SequenceArgs, WriteArgs,
+    ATTR_CHANGE, Claim, CloseArgs, CommitArgs, FileArg, OpenArgs, OpenHow, ReadArgs, SequenceArgs,
+    WriteArgs,
 };
 use nfs_base::{Handle, NetLoc, SLOTS, Stability, StateId};
 use nfs_compound::{Compound, Op};
