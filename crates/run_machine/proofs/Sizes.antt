@@ -64,21 +64,8 @@ sized_right plan size room total =
 
 -- the line says a copy's length
 abbrev says_length : Line → Bool
-says_length (line.Note (note.Permit cause)) = false
-says_length (line.Note (note.Privilege cause)) = false
-says_length (line.Note (note.Accepted job file to count)) = false
 says_length (line.Note (note.Sized job len)) = true
-says_length (line.Note (note.Landed job off len)) = false
-says_length (line.Note (note.Stopped job cause)) = false
-says_length (line.Note (note.Committed job)) = false
-says_length (line.Note (note.Written side file count)) = false
-says_length (line.Note (note.Refused side file status)) = false
-says_length (line.Note (note.Copied number count)) = false
-says_length (line.Note (note.Stable number)) = false
-says_length (line.Note (note.Failed number status)) = false
-says_length (line.Note (note.Idle number)) = false
-says_length (line.Bytes side file off bytes) = false
-says_length (line.End records) = false
+says_length _ = false
 
 -- whatever length the lines say is right in this state
 record AreRight (s : State) (lines : List Line) : Type 0 where

@@ -201,21 +201,8 @@ still_live es e live goes = any_other is_end es e goes ∙ live
 
 -- the line reports a copy as stable
 abbrev pub reports : Line → Bool
-reports (line.Note (note.Permit cause)) = false
-reports (line.Note (note.Privilege cause)) = false
-reports (line.Note (note.Accepted job file to count)) = false
-reports (line.Note (note.Sized job len)) = false
-reports (line.Note (note.Landed job off len)) = false
-reports (line.Note (note.Stopped job cause)) = false
-reports (line.Note (note.Committed job)) = false
-reports (line.Note (note.Written side file count)) = false
-reports (line.Note (note.Refused side file status)) = false
-reports (line.Note (note.Copied number count)) = false
 reports (line.Note (note.Stable number)) = true
-reports (line.Note (note.Failed number status)) = false
-reports (line.Note (note.Idle number)) = false
-reports (line.Bytes side file off bytes) = false
-reports (line.End records) = false
+reports _ = false
 
 absent_at : (p : Line → Bool) (lines : List Line) → list_any p lines ≡ false → (x : Line) → p x ≡ true
     → (k : ℕ) → k < length lines → slice_index_or lines k x ≡ x → ⊥
