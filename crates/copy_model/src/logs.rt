@@ -1,4 +1,4 @@
-ghost use Rattle.std.specs.Prelude.{◌≡◌, ◌⊎◌, ℕ, ◌<◌, ◌≤◌, Bool, true, None, Some, List, [], ◌∷◌, ◌++◌};
+ghost use Rattle.std.specs.Prelude.{◌≡◌, ◌⊎◌, ℕ, ◌<◌, ◌≤◌, Bool, true, false, None, Some, List, [], ◌∷◌, ◌++◌};
 ghost use Rattle.std.specs.List.{list_any};
 ghost use Rattle.copy_model.specs.Job.{Entry, Sized, size_of, has_landed, has_ended, IsChunk, unlanded, FirstUnlanded, AllowsCommit, Allows};
 ghost use Rattle.copy_model.specs.Marks.{len_of, has_byte, is_stopped, is_committed, AreSound};
@@ -22,6 +22,9 @@ pub fn logs_grow()
         → len_of (es ++ e ∷ []) ≡ len_of es }
     // An entry that gives no size leaves it as it was.
     ensures len { (es : List Entry) (e : Entry) → size_of (e ∷ []) ≡ None → len_of (es ++ e ∷ []) ≡ len_of es }
+    ensures same { (es : List Entry) (e : Entry) → size_of (e ∷ []) ≡ None → size_of (es ++ e ∷ []) ≡ size_of es }
+    // The size is that of the first entry that gives one.
+    ensures first { (es : List Entry) (e : Entry) → size_of es ≡ None → size_of (es ++ e ∷ []) ≡ size_of (e ∷ []) }
     ensures sized { (es : List Entry) (e : Entry) (len : ℕ) → size_of es ≡ Some len → size_of (es ++ e ∷ []) ≡ Some len }
     ensures size { (es : List Entry) (e : Entry) (len : ℕ) → size_of (es ++ e ∷ []) ≡ Some len
         → (size_of es ≡ Some len) ⊎ ((size_of es ≡ None) × (e ≡ Sized len)) }
@@ -29,6 +32,8 @@ pub fn logs_grow()
     ensures rises { (test : Entry → Bool) (es : List Entry) (e : Entry) → list_any test (es ++ e ∷ []) ≡ true
         → (list_any test es ≡ true) ⊎ (test e ≡ true) }
     ensures adds { (test : Entry → Bool) (es : List Entry) (e : Entry) → test e ≡ true → list_any test (es ++ e ∷ []) ≡ true }
+    // An entry that fails a test changes nothing of it.
+    ensures fails { (test : Entry → Bool) (es : List Entry) (e : Entry) → test e ≡ false → list_any test (es ++ e ∷ []) ≡ list_any test es }
 {}
 
 /// What a log that grew so says of its copy: a stop or a commit ends it, and where a commit is allowed each byte

@@ -16,7 +16,6 @@ use Rattle.sched_text.specs.declared.line.Line.TheVariants.{Note}
 use Rattle.run_machine.specs.Machine.{Copying}
 use Rattle.run_machine.specs.History.{moment_of}
 use Rattle.run_machine.proofs.Bytes.{now-commit, goes_on}
-use Rattle.run_machine.proofs.Entries.{any_new}
 use Rattle.run_machine.proofs.Laws.{Laws}
 use Rattle.run_machine.proofs.Progress.{progress_in, world_of, IsSound}
 use Rattle.run_machine.proofs.Sound.{len_at, sound_committed, all_covered}
@@ -124,7 +123,7 @@ module _ (laws : Laws) (s d b : Volume) (c : Copying) (was : Did) (es : List Ent
 
   stable_lines : (lines : List Line) → Contains lines (Note (Stable c.number)) → (j : ℕ) → MarksGoOn (world_of s d b (Some c) was) (world_of s dest bare (Some after) did.Rested) lines j
   stable_lines lines there zero =
-      record { from_lines = λ reported. any_new is_commit es Committed refl; only = λ stable. inr (omega arith, there) }
+      record { from_lines = λ reported. laws.log_adds is_commit es Committed refl; only = λ stable. inr (omega arith, there) }
   stable_lines lines there (suc j) =
       record { from_lines = λ reported. absurd (let past = reported.0 in omega arith); only = λ stable. absurd (cc) }
 

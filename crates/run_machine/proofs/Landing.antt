@@ -14,7 +14,6 @@ use Rattle.sched_text.specs.declared.line.Line.{Line}
 use Rattle.run_machine.specs.Machine.{Copying}
 use Rattle.run_machine.specs.History.{moment_of}
 use Rattle.run_machine.proofs.Bytes.{HasWritten, has_written, goes_on}
-use Rattle.run_machine.proofs.Entries.{any_other}
 use Rattle.run_machine.proofs.Laws.{Laws}
 use Rattle.run_machine.proofs.Progress.{covers_landing, copy_in, progress_in, world_of, not_committed, IsSound}
 use Rattle.run_machine.proofs.Sound.{len_at, sound_landed, chunk_within}
@@ -135,7 +134,7 @@ module _ (laws : Laws) (s d b : Volume) (c : Copying) (was : Did) (es : List Ent
   live (suc j) other = absurd (omega arith)
 
   still_live : has_ended after.entries ≡ false
-  still_live = any_other is_end es (Landed off len) refl ∙ ready.still
+  still_live = laws.log_fails is_end es (Landed off len) refl ∙ ready.still
 
   not_durable : (j : ℕ) → (progress_in (Some after) j).durable ≡ true → ⊥
   not_durable zero durable = both_ways _ (not_committed laws after.entries still_live) durable

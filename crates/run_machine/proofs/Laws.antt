@@ -1,5 +1,5 @@
 -- The laws of logs, bytes and files, of crate `copy_model`, on which the proofs of a run rest.
-use Rattle.std.specs.Prelude.{◌≡◌, ◌⊎◌, ℕ, ◌+◌, ◌<◌, ◌≤◌, Bool, true, None, Some, List, [], ◌∷◌, ◌++◌, length}
+use Rattle.std.specs.Prelude.{◌≡◌, ◌⊎◌, ℕ, ◌+◌, ◌<◌, ◌≤◌, Bool, true, false, None, Some, List, [], ◌∷◌, ◌++◌, length}
 use Rattle.std.specs.List.{list_any}
 use Rattle.copy_model.specs.Volume.{Volume, file_at, byte_at, bytes_at, with_bytes_at, change_of, written, write, committed, commit}
 use Rattle.copy_model.specs.Job.{Entry, size_of, has_landed, has_ended, IsChunk, unlanded, FirstUnlanded, AllowsCommit, Allows}
@@ -14,8 +14,11 @@ pub record Laws : Type 0 where
       → AreSound consecutive (es ++ e ∷ [])
   pub log_len : (es : List Entry) (e : Entry) → size_of (e ∷ []) ≡ None → len_of (es ++ e ∷ []) ≡ len_of es
   pub log_sized : (es : List Entry) (e : Entry) (len : ℕ) → size_of es ≡ Some len → size_of (es ++ e ∷ []) ≡ Some len
+  pub log_first : (es : List Entry) (e : Entry) → size_of es ≡ None → size_of (es ++ e ∷ []) ≡ size_of (e ∷ [])
   pub log_rises : (test : Entry → Bool) (es : List Entry) (e : Entry) → list_any test (es ++ e ∷ []) ≡ true
       → (list_any test es ≡ true) ⊎ (test e ≡ true)
+  pub log_adds : (test : Entry → Bool) (es : List Entry) (e : Entry) → test e ≡ true → list_any test (es ++ e ∷ []) ≡ true
+  pub log_fails : (test : Entry → Bool) (es : List Entry) (e : Entry) → test e ≡ false → list_any test (es ++ e ∷ []) ≡ list_any test es
   pub log_stopped : (es : List Entry) → is_stopped es ≡ true → has_ended es ≡ true
   pub log_committed : (es : List Entry) → is_committed es ≡ true → has_ended es ≡ true
   pub log_covered : (consecutive : Bool) (es : List Entry) (q : ℕ) → AreSound consecutive es → AllowsCommit es → q < len_of es

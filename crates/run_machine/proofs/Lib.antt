@@ -1,6 +1,5 @@
 mod Bytes
 mod Laws
-mod Entries
 mod Progress
 mod Sound
 mod Schedule

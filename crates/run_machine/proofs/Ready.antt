@@ -5,7 +5,6 @@ use Rattle.copy_model.specs.Volume.{Volume}
 use Rattle.copy_model.specs.Job.{Entry, Sized, size_of, has_ended, is_end}
 use Rattle.copy_model.specs.Marks.{len_of, covers, AreSound}
 use Rattle.run_machine.specs.Machine.{Copying}
-use Rattle.run_machine.proofs.Entries.{any_other, size_first}
 use Rattle.run_machine.proofs.Laws.{Laws}
 use Rattle.run_machine.proofs.Progress.{IsSoundCopy}
 use Rattle.run_machine.proofs.Sound.{len_at, sound_sized}
@@ -38,10 +37,10 @@ pub ready_unsized : Laws → (dest : Volume) (c : Copying) (total : ℕ) → IsS
 ready_unsized laws dest c total sound live unsized =
     record {
       live = live;
-      still = any_other is_end c.entries (Sized total) refl ∙ live;
-      size = size_first c.entries (Sized total) unsized;
+      still = laws.log_fails is_end c.entries (Sized total) refl ∙ live;
+      size = laws.log_first c.entries (Sized total) unsized;
       grows = omega (arith, len_at c.entries None unsized);
-      same = λ q. any_other (covers q) c.entries (Sized total) refl;
+      same = λ q. laws.log_fails (covers q) c.entries (Sized total) refl;
       sound = sound_sized laws c.plan.consecutive c.entries sound.entries total unsized live;
       there = sound.there;
     }

@@ -10,7 +10,6 @@ use Rattle.sched_text.specs.declared.context.Context.{Context}
 use Rattle.sched_text.specs.declared.line.Line.{Line}
 use Rattle.run_machine.specs.Machine.{Copying}
 use Rattle.run_machine.specs.History.{Watched, World, mark_stable}
-use Rattle.run_machine.proofs.Entries.{any_new, any_other}
 use Rattle.run_machine.proofs.Laws.{Laws}
 use Rattle.run_machine.proofs.Progress.{copies_of, world_of, not_stopped, not_committed}
 use Rattle.run_machine.proofs.Steps.{IsGood}
@@ -63,8 +62,8 @@ stopped_marks laws number plan es es' len live live' lens =
     (list_any is_commit (es' ++ Stopped ∷ []))
     (list_any is_commit es)
     lens
-    (any_new is_stop es' Stopped refl)
-    (any_other is_commit es' Stopped refl ∙ not_committed laws es' live' ∙ sym (not_committed laws es live))
+    (laws.log_adds is_stop es' Stopped refl)
+    (laws.log_fails is_commit es' Stopped refl ∙ not_committed laws es' live' ∙ sym (not_committed laws es live))
 
 mark_own : (number : ℕ) (w : Watched) → mark_stable number (record w { number = number }) ≡ record w { number = number; copy = record w.copy { stable = true } }
 mark_own number w =
@@ -90,8 +89,8 @@ committed_marks laws number plan es es' len stable live live' lens =
     (list_any is_commit (es' ++ Committed ∷ []))
     true
     lens
-    (any_other is_stop es' Committed refl ∙ not_stopped laws es' live' ∙ sym (not_stopped laws es live))
-    (any_new is_commit es' Committed refl)
+    (laws.log_fails is_stop es' Committed refl ∙ not_stopped laws es' live' ∙ sym (not_stopped laws es live))
+    (laws.log_adds is_commit es' Committed refl)
     ∙ ap (λ x. x ∷ []) (sym (mark_own number (record {
       number = number;
       copy = record { plan = plan; len = len; stopped = list_any is_stop es; completed = true; stable = stable };

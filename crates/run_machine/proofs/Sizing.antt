@@ -16,7 +16,6 @@ use Rattle.sched_text.specs.declared.event.Event.TheVariants as event
 use Rattle.run_machine.specs.declared.choice.Choice.{Choice}
 use Rattle.run_machine.specs.Machine.{Copying, State, Step, rests, says, job_name, inval, fbig, plan_of, client_writes, asks, range_len, sizing, stops, moves, sizes, works, works_at, tells, happens}
 use Rattle.run_machine.specs.History.{World, next}
-use Rattle.run_machine.proofs.Entries.{size_first}
 use Rattle.run_machine.proofs.Laws.{Laws}
 use Rattle.run_machine.proofs.Outcomes.{on_moves, on_starts, on_writes, on_shows}
 use Rattle.run_machine.proofs.Steps.{new_copy}
@@ -114,14 +113,14 @@ module _ (laws : Laws) (s d : Volume) (c : Copying) where
 
   -- a copy that is stopped before it is sized has no length
   stops_given : (stop : Stop) → size_of c.entries ≡ None → IsGiven state (stops state c stop).state.copy
-  stops_given stop unsized = λ len size. absurd (let still = size_first c.entries Stopped unsized in cc)
+  stops_given stop unsized = λ len size. absurd (let still = laws.log_first c.entries Stopped unsized in cc)
 
   sizes_given : (choice : Choice) → has_ended c.entries ≡ false → size_of c.entries ≡ None → s.broken ≡ false → (size : Result ℕ Stop)
       → sizing c.plan (length (file_at s c.plan.src_file).now) d.capacity ≡ size
       → IsGiven state (sizes state choice c size).state.copy
   sizes_given choice live unsized readable (Ok len) ok =
       let es = c.entries ++ Sized len ∷ [] in
-      moves_given choice es len (unlanded es len) (size_first c.entries (Sized len) unsized) (inr ((refl, live), readable, sizing_asked c.plan _ d.capacity len ok))
+      moves_given choice es len (unlanded es len) (laws.log_first c.entries (Sized len) unsized) (inr ((refl, live), readable, sizing_asked c.plan _ d.capacity len ok))
   sizes_given choice live unsized readable (Err stop) refused = stops_given stop unsized
 
   works_at_given : (choice : Choice) → has_ended c.entries ≡ false → (size : Option ℕ) → size_of c.entries ≡ size

@@ -17,7 +17,6 @@ use Rattle.sched_text.specs.declared.line.Line.TheVariants as line
 use Rattle.run_machine.specs.Machine.{Copying}
 use Rattle.run_machine.specs.History.{World, watched_at, moment_of}
 use Rattle.run_machine.proofs.Bytes.{GoesOn}
-use Rattle.run_machine.proofs.Entries.{any_other}
 use Rattle.run_machine.proofs.Laws.{Laws}
 use Rattle.run_machine.proofs.Progress.{copies_of, copy_in, progress_in, world_of, not_stopped, not_committed, stable_durable, durable_stable, IsSound}
 
@@ -194,10 +193,6 @@ pub copies_go_on : Laws → (c c' : Copying) → c'.plan ≡ c.plan → has_ende
     → CopiesGoOn (Some c) (Some c')
 copies_go_on laws c c' plan live grows =
     record { made = omega arith; copies = live_laws laws c c' plan live grows; fresh = λ j past. past_all (Some c') j past }
-
--- the last entry doesn't end the copy, or does
-pub still_live : (es : List Entry) (e : Entry) → has_ended es ≡ false → is_end e ≡ false → has_ended (es ++ e ∷ []) ≡ false
-still_live es e live goes = any_other is_end es e goes ∙ live
 
 -- the line reports a copy as stable
 abbrev pub reports : Line → Bool

@@ -13,7 +13,6 @@ use Rattle.sched_text.specs.declared.context.Context.{Context}
 use Rattle.sched_text.specs.declared.line.Line.{Line}
 use Rattle.run_machine.specs.Machine.{Copying}
 use Rattle.run_machine.proofs.Bytes.{goes_on}
-use Rattle.run_machine.proofs.Entries.{any_new, any_other}
 use Rattle.run_machine.proofs.Laws.{Laws}
 use Rattle.run_machine.proofs.Progress.{progress_in, world_of, not_committed, IsSoundCopy, IsSound}
 use Rattle.run_machine.proofs.Sound.{len_at, sound_stopped}
@@ -116,11 +115,11 @@ copies_stopped laws dest c es going =
     }
   where
     landed : (j q : ℕ) → (progress_in (Some (record c { entries = es ++ Stopped ∷ [] })) j).landed q ≡ true → (progress_in (Some c) j).landed q ≡ true
-    landed zero q now = sym (going.same q) ∙ sym (any_other (covers q) es Stopped refl) ∙ now
+    landed zero q now = sym (going.same q) ∙ sym (laws.log_fails (covers q) es Stopped refl) ∙ now
     landed (suc j) q now = now
 
     durable : (j : ℕ) → (progress_in (Some (record c { entries = es ++ Stopped ∷ [] })) j).durable ≡ true → (progress_in (Some c) j).durable ≡ true
-    durable zero now = absurd (both_ways _ (not_committed laws es going.still) (sym (any_other is_commit es Stopped refl) ∙ now))
+    durable zero now = absurd (both_ways _ (not_committed laws es going.still) (sym (laws.log_fails is_commit es Stopped refl) ∙ now))
     durable (suc j) now = now
 
 -- The step that stops a copy is good, where the destination goes on like this, and the transcript showed
@@ -148,7 +147,7 @@ stop_good laws context s d b d' b' c was es len lines sound going lens dest file
     (calm_good context s d b s d' b' (Some c) (Some (record c { entries = es ++ Stopped ∷ [] })) was lines stopped_sound (λ file. goes_on (file_at s file)) dest (copies_stopped laws d c es going) quiet)
   where
     ended : has_ended (es ++ Stopped ∷ []) ≡ true
-    ended = any_new is_end es Stopped refl
+    ended = laws.log_adds is_end es Stopped refl
 
     stopped_sound : IsSound context.source context.dest context.copied s d' (Some (record c { entries = es ++ Stopped ∷ [] }))
     stopped_sound =

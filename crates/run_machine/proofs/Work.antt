@@ -18,7 +18,6 @@ use Rattle.sched_text.specs.declared.line.Line.TheVariants as line
 use Rattle.run_machine.specs.declared.choice.Choice.{Choice}
 use Rattle.run_machine.specs.Machine.{Copying, Step, job_name, rests, stops, landing, landing_fails, committing, committing_fails, moves, sizes, sizing, works, works_at}
 use Rattle.run_machine.specs.History.{Seen, World, bare_commit, sees, watches}
-use Rattle.run_machine.proofs.Entries.{any_other}
 use Rattle.run_machine.proofs.Laws.{Laws}
 use Rattle.run_machine.proofs.Progress.{world_of, IsWhole, IsSound}
 use Rattle.run_machine.proofs.Sound.{len_at}
@@ -108,7 +107,7 @@ module _ (laws : Laws) (context : Context) (s d b : Volume) (c : Copying) (was :
         (did.Landed 0 off (chunk_len total off))
         _
         _
-        (live_marks laws c.number c.plan c.entries after len live (any_other is_end es _ refl ∙ going.still) (len_at after (Some total) (laws.log_sized es _ total ready.size) ∙ sym (len_at es (Some total) ready.size) ∙ lens))
+        (live_marks laws c.number c.plan c.entries after len live (laws.log_fails is_end es _ refl ∙ going.still) (len_at after (Some total) (laws.log_sized es _ total ready.size) ∙ sym (len_at es (Some total) ready.size) ∙ lens))
         (landing_good laws s d b c was es total off ready first readable context _ sound (silent_before before _ silent refl))
 
     committing_good : (total : ℕ) → IsReady d c es total → unlanded es total ≡ None → IsGoodAfter len before (committing w.state sized)

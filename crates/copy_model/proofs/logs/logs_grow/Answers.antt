@@ -1,4 +1,4 @@
-use Rattle.copy_model.proofs.Entries.{any_keeps, any_cases, any_new, size_kept}
+use Rattle.copy_model.proofs.Entries.{any_keeps, any_cases, any_new, any_other, size_kept, size_same, size_first}
 use Rattle.copy_model.proofs.Sound.{sound_none, sound_push, len_grows, len_fixed, same_len, size_rises}
 use Rattle.copy_model.proofs.logs.logs_grow.Goals as goal
 
@@ -28,6 +28,15 @@ returns-clause-adds c = any_new
 
 pub returns-clause-len : goal.returns-clause-len
 returns-clause-len c = same_len
+
+pub returns-clause-same : goal.returns-clause-same
+returns-clause-same c = size_same
+
+pub returns-clause-first : goal.returns-clause-first
+returns-clause-first c = size_first
+
+pub returns-clause-fails : goal.returns-clause-fails
+returns-clause-fails c = any_other
 
 pub returns-clause-sized : goal.returns-clause-sized
 returns-clause-sized c = size_kept
