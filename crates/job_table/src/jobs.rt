@@ -5,13 +5,11 @@ ghost use Rattle.job_table.specs.Table.{job_of, job_above, overlapped, Names, Ar
 use crate::job::{Job, JobId, Plan, Refused};
 use crate::keys::{id_at, key_above, key_met, key_of};
 use job_log::JobLog;
+use nfs_base::MOST_JOBS;
 use outcome::Mem;
 use slab::Slab;
 use std::alloc::Global;
 use std::marker::Model;
-
-/// How many jobs there may be that aren't retired.
-const MOST_JOBS: usize = 16;
 
 /// The jobs of a destination that aren't retired.
 #[derive(Drop)]
