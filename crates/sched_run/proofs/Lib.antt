@@ -2,7 +2,6 @@ pub mod Begun
 pub mod Alone
 pub mod NextClaim
 pub mod LoneCalls
-pub mod Sizes
 pub mod Works
 pub mod Stops
 pub mod Clients

@@ -6,7 +6,32 @@ use Rattle.block_file.specs.Opened.{SameOpening}
 use Rattle.sched_run.specs.declared.copying.Copying.{Copying}
 use Rattle.sched_run.specs.Copy.{CanWork, StillWorks}
 use Rattle.sched_run.specs.LoneJob.{JobSeen}
-use Rattle.sched_run.proofs.Sizes.{size_of-stopped, fits_more, fits_sized}
+
+-- The laws of crate `copy_model` on the size that a log gives with one more entry: an entry that gives none leaves
+-- it, the first that gives one is it, and it stays.
+abbrev pub SizeLeft : Type 0
+SizeLeft = (es : List Entry) (e : Entry) → size_of (e ∷ []) ≡ None → size_of (es ++ e ∷ []) ≡ size_of es
+
+abbrev pub SizeFirst : Type 0
+SizeFirst = (es : List Entry) (e : Entry) → size_of es ≡ None → size_of (es ++ e ∷ []) ≡ size_of (e ∷ [])
+
+abbrev pub SizeStays : Type 0
+SizeStays = (es : List Entry) (e : Entry) (len : ℕ) → size_of es ≡ Some len → size_of (es ++ e ∷ []) ≡ Some len
+
+-- a range that fits goes on to fit
+fits_more : SizeStays → (es : List Entry) (e : Entry) (total to capacity : ℕ) → size_of es ≡ Some total → to + total ≤ capacity
+    → (t : ℕ) → size_of (es ++ e ∷ []) ≡ Some t → to + t ≤ capacity
+fits_more stays es e total to capacity is fits t sized =
+    let more = stays es e total is in
+    let same : total ≡ t = cc in
+    omega arith
+
+fits_sized : SizeFirst → (es : List Entry) (len to capacity : ℕ) → size_of es ≡ None → to + len ≤ capacity
+    → (t : ℕ) → size_of (es ++ Sized len ∷ []) ≡ Some t → to + t ≤ capacity
+fits_sized first es len to capacity none fits t sized =
+    let now = first es (Sized len) none in
+    let same : len ≡ t = cc in
+    omega arith
 
 -- nothing is changed of a volume that is as it was
 pub same_volume : (v : Volume) → SameOpening v v
@@ -50,28 +75,28 @@ still_with source dest now_dest c can at written =
       dest_written = written;
     }
 
-pub can_stopped : (source dest : Volume) (c : Copying) (job : JobSeen) → CanWork source dest c
+pub can_stopped : SizeLeft → (source dest : Volume) (c : Copying) (job : JobSeen) → CanWork source dest c
     → job ≡ record c.job { entries = c.job.entries ++ Stopped ∷ [] } → CanWork source dest (record c { job = job })
-can_stopped source dest c job can is =
+can_stopped left source dest c job can is =
     let P : JobSeen → Type 0 = λ j. CanWork source dest (record c { job = j }) in
     subst P (sym is) (can_with source source dest dest c (c.job.entries ++ Stopped ∷ []) can (same_volume source) (same_volume dest)
-    (λ t sized. can.fits t (sym (size_of-stopped c.job.entries) ∙ sized)))
+    (λ t sized. can.fits t (sym (left c.job.entries Stopped refl) ∙ sized)))
 
-pub can_sized : (source dest : Volume) (c : Copying) (job : JobSeen) (len : ℕ)
+pub can_sized : SizeFirst → (source dest : Volume) (c : Copying) (job : JobSeen) (len : ℕ)
     → CanWork source dest c → size_of c.job.entries ≡ None → c.job.plan.dst_off + len ≤ dest.capacity
     → job ≡ record c.job { entries = c.job.entries ++ Sized len ∷ [] } → CanWork source dest (record c { job = job })
-can_sized source dest c job len can none room is =
+can_sized first source dest c job len can none room is =
     let P : JobSeen → Type 0 = λ j. CanWork source dest (record c { job = j }) in
     subst P (sym is) (can_with source source dest dest c (c.job.entries ++ Sized len ∷ []) can (same_volume source) (same_volume dest)
-    (fits_sized c.job.entries len c.job.plan.dst_off dest.capacity none room))
+    (fits_sized first c.job.entries len c.job.plan.dst_off dest.capacity none room))
 
-pub can_more : (source dest : Volume) (c : Copying) (e : Entry) (job : JobSeen) (total : ℕ)
+pub can_more : SizeStays → (source dest : Volume) (c : Copying) (e : Entry) (job : JobSeen) (total : ℕ)
     → CanWork source dest c → size_of c.job.entries ≡ Some total
     → job ≡ record c.job { entries = c.job.entries ++ e ∷ [] } → CanWork source dest (record c { job = job })
-can_more source dest c e job total can sized is =
+can_more stays source dest c e job total can sized is =
     let P : JobSeen → Type 0 = λ j. CanWork source dest (record c { job = j }) in
     subst P (sym is) (can_with source source dest dest c (c.job.entries ++ e ∷ []) can (same_volume source) (same_volume dest)
-    (fits_more c.job.entries e total c.job.plan.dst_off dest.capacity sized (can.fits total sized)))
+    (fits_more stays c.job.entries e total c.job.plan.dst_off dest.capacity sized (can.fits total sized)))
 
 -- a write counts once at most
 pub once : (none : Bool) (before now : ℕ) → now ≡ (if none then before else before + 1) → now ≤ before + 1

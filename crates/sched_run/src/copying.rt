@@ -184,6 +184,7 @@ impl Copying {
         ensures source_later { D.faults source.old.disk ≤ D.faults source.new.disk }
         ensures dest_later { D.faults dest.old.disk ≤ D.faults dest.new.disk }
     {
+        copy_model::logs_grow();
         let sized = Note::Sized {
             job: job_name(dest),
             len,
@@ -303,6 +304,7 @@ impl Copying {
         ensures cut { D.Told → OnErr result (IsCutAt (fail_write dest.old.volume) dest.old.volume dest.new.volume) }
         ensures later { D.faults dest.old.disk ≤ D.faults dest.new.disk }
     {
+        copy_model::logs_grow();
         let plan = self.job.plan();
         let landed = Note::Landed {
             job: job_name(dest),
@@ -347,6 +349,7 @@ impl Copying {
         ensures source_later { D.faults source.old.disk ≤ D.faults source.new.disk }
         ensures dest_later { D.faults dest.old.disk ≤ D.faults dest.new.disk }
     {
+        copy_model::logs_grow();
         let committed = Note::Committed {
             job: job_name(dest),
         };
@@ -382,6 +385,7 @@ impl Copying {
             turn.lines.items) }
         ensures can { (source dest : Files) → CanWork source dest self.old → CanWork source dest self.new }
     {
+        copy_model::logs_grow();
         let stopped = Note::Stopped {
             job: job_name(dest),
             cause,

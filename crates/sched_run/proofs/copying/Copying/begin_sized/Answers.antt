@@ -5,19 +5,18 @@ use Rattle.run_machine.specs.Machine.{State, moves, moves_sized}
 use Rattle.sched_run.specs.Copy.{copying_of, state_of, IsCut}
 use Rattle.sched_run.specs.LoneJob.{JobSeen}
 use Rattle.sched_run.proofs.Cuts.{on_cut, moves_source, moves_alike}
-use Rattle.sched_run.proofs.Sizes.{size_of-sized}
 use Rattle.sched_run.proofs.Works.{can_sized}
 use Rattle.sched_run.proofs.copying.Copying.begin_sized.Goals as goal
 
 pub go_on-requires-clause-can : goal.go_on-requires-clause-can
 go_on-requires-clause-can g c =
-    can_sized c.args.source.now.volume c.args.dest.now.volume c.args.self.now c.size.new.self c.args.len c.requires.can c.requires.not_sized
+    can_sized c.logs_grow.ensures.first c.args.source.now.volume c.args.dest.now.volume c.args.self.now c.size.new.self c.args.len c.requires.can c.requires.not_sized
     c.requires.fits c.in_ok-size.ensures.ok
 
 pub go_on-requires-clause-sized : goal.go_on-requires-clause-sized
 go_on-requires-clause-sized g c =
     let P : JobSeen → Type 0 = λ j. size_of j.entries ≡ Some c.args.len in
-    subst P (sym c.in_ok-size.ensures.ok) (size_of-sized c.args.self.now.job.entries c.args.len c.requires.not_sized)
+    subst P (sym c.in_ok-size.ensures.ok) (c.logs_grow.ensures.first c.args.self.now.job.entries (Sized c.args.len) c.requires.not_sized)
 
 pub returns-in_err-append-clause-cut : goal.returns-in_err-append-clause-cut
 returns-in_err-append-clause-cut g c = λ told.

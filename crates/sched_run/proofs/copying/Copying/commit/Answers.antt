@@ -37,7 +37,7 @@ returns-in-Err-DiskFailed-clause-step g c = λ told.
 pub returns-clause-still : goal.returns-clause-still
 returns-clause-still g c =
     let dest = c.args.dest.now.volume in
-    let can = can_more c.args.source.now.volume dest c.args.self.now Committed c.commit-2.new.self c.args.total
+    let can = can_more c.logs_grow.ensures.sized c.args.source.now.volume dest c.args.self.now Committed c.commit-2.new.self c.args.total
     c.requires.can c.requires.sized c.commit-2.ensures in
     record {
       can = can_still c.args.source.now.volume c.args.source.now.volume dest c.commit.new.self.volume _ can (same_volume c.args.source.now.volume) c.commit.ensures.opening;

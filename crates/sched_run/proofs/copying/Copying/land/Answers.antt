@@ -59,6 +59,6 @@ returns-in-Err g c =
 pub returns-clause-still : goal.returns-clause-still
 returns-clause-still g c = λ source can_work.
     let dest = c.args.dest.now.volume in
-    let can = can_more source dest c.args.self.now (Landed c.args.chunk.off c.args.chunk.len) c.land.new.self c.args.total
+    let can = can_more c.logs_grow.ensures.sized source dest c.args.self.now (Landed c.args.chunk.off c.args.chunk.len) c.land.new.self c.args.total
     can_work c.requires.sized c.land.ensures in
     still_with source dest c.write.new.self.volume _ can c.write.ensures.opening (once (length c.args.piece.now == 0) dest.writes c.write.new.self.volume.writes (search rules))
