@@ -1,10 +1,10 @@
 -- The laws of a step, put together from what it does to the destination and to the copies. A step is
 -- seen as a history of two moments.
-use Rattle.std.proofs.Common.{◌≡◌, ◌⊎◌, inl, inr, ℕ, zero, suc, ◌<◌, ◌≤◌, Bool, true, false, Option, None, Some, List, [], ◌∷◌, ◌++◌, ◌∙◌, length, slice_index_or, Contains, refl, ap, arith}
+use Rattle.std.proofs.Common.{◌≡◌, ◌⊎◌, inl, inr, ℕ, zero, suc, ◌<◌, ◌≤◌, Bool, true, false, Option, None, Some, List, [], ◌∷◌, ◌∙◌, length, slice_index_or, Contains, refl, ap, arith}
 use Rattle.std.specs.List.{list_any}
 use Rattle.std.proofs.lemmas.Bool.{both_ways, or_parts, not_from_false}
 use Rattle.copy_model.specs.Volume.{Volume, file_at}
-use Rattle.copy_model.specs.Job.{Plan, Entry, has_ended, is_end}
+use Rattle.copy_model.specs.Job.{Plan, has_ended}
 use Rattle.copy_model.specs.Marks.{len_of, covers, is_commit}
 use Rattle.copy_model.specs.Moment.{Copy, Did, Moment, History, seen_dest}
 use Rattle.copy_model.specs.Moment as did
