@@ -6,7 +6,8 @@ ghost use Rattle.disk_model.specs.Elapsed.{untold};
 use crate::disk::{Block, CrashDisk, Disk, Io};
 use crate::fuse::Fuse;
 use std::fs::File;
-use std::io::{self, Read, Seek, SeekFrom, Write};
+use std::io;
+use std::os::unix::fs::FileExt;
 
 const BLOCK_BYTES: u64 = 4096;
 
@@ -52,19 +53,6 @@ fn answer(done: io::Result<()>, faults: &mut u64) -> Io
     }
 }
 
-fn read_block(file: &mut File, at: u64, block: &mut Block) -> io::Result<()>
-    requires { at < 2 ^ 52 }
-{
-    file.seek(SeekFrom::Start(at * BLOCK_BYTES))?;
-    file.read_exact(block)
-}
-
-fn write_block(file: &mut File, at: u64, block: &Block) -> io::Result<()>
-    requires { at < 2 ^ 52 }
-{
-    file.seek(SeekFrom::Start(at * BLOCK_BYTES))?;
-    file.write_all(block)
-}
 
 impl Disk for FileDisk {
     ghost Told = { ⊥ };
@@ -86,13 +74,13 @@ impl Disk for FileDisk {
     }
 
     fn read(&mut self, at: u64, block: &mut Block) -> Io {
-        let done = read_block(&mut self.file, at, block);
+        let done = self.file.read_exact_at(block, at * BLOCK_BYTES);
         answer(done, &mut self.faults)
     }
 
     fn write(&mut self, at: u64, block: &Block) -> Io {
         self.fuse = self.fuse.burn();
-        let done = write_block(&mut self.file, at, block);
+        let done = self.file.write_all_at(block, at * BLOCK_BYTES);
         answer(done, &mut self.faults)
     }
 
