@@ -5,6 +5,7 @@ use Rattle.std.proofs.Math.ListN.{drop_of_length-le}
 use Rattle.std.proofs.lemmas.Bool.{cases_lt}
 use Rattle.std.proofs.lemmas.List.{take-append-le, take-replicate, length-replicate, length-take-le, take_at}
 use Rattle.copy_model.specs.Volume.{bytes_at, with_bytes_at}
+use Rattle.block_file.specs.Lists.{put_in}
 
 -- past the end, zeros are taken
 take_zeros : (xs : List ℕ) (j k : ℕ) → j ≤ k → take (length xs + j) (xs ++ replicate k 0) ≡ xs ++ replicate j 0
@@ -103,3 +104,17 @@ bytes_at-written bytes out copied zeros from off there k f t s c z =
     ∙ ap (λ (l : List ℕ). copied ++ (zeros ++ l)) none
     ∙ ap (λ (l : List ℕ). copied ++ l) (append-nil zeros)
     ∙ bytes_at-filled bytes out copied zeros from off there f t first (z ∙ ap (λ (n : ℕ). replicate n 0) left)
+
+-- the bytes that are taken of a block, where they are all of it
+pub whole_taken : (block : List ℕ) (n from : ℕ) → n ≡ 4096 → from + n ≤ 4096 → length block ≡ 4096 → take n (drop from block) ≡ block
+whole_taken block n from all fits len =
+    let first : from ≡ 0 = omega arith in
+    ap (λ (k : ℕ). take n (drop k block)) first ∙ take_whole block n (omega arith)
+
+-- the bytes that are put in a block, where they are all of it
+pub whole_put : (part block : List ℕ) (from : ℕ) → length part ≡ 4096 → from + length part ≤ 4096 → length block ≡ 4096 → put_in from part block ≡ part
+whole_put part block from all fits len =
+    let first : from ≡ 0 = omega arith in
+    ap (λ (k : ℕ). put_in k part block) first
+    ∙ ap (λ (l : List ℕ). part ++ l) (drop_of_length-le block (omega arith))
+    ∙ append-nil part

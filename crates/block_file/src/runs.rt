@@ -6,7 +6,7 @@ ghost use Rattle.disk_model.specs.Passes.{Passes};
 ghost use Rattle.block_file.specs.Layout.{data_at, blocks_of, home_in};
 ghost use Rattle.block_file.specs.Lists.{put_in};
 ghost use Rattle.block_file.specs.Stored.{blocks_by};
-ghost use Rattle.block_file.specs.Blocks.{Safe, place_of, InShape, HasContent, Stands, Holds};
+ghost use Rattle.block_file.specs.Blocks.{Safe, place_of, next_place, InShape, HasContent, Stands, Holds};
 
 use crate::blocks::{data_at, home_in, write_block};
 use crate::shape::Shape;
@@ -53,8 +53,37 @@ pub fn read_run<D: Disk>(
     Io::Done
 }
 
-// Reads the bytes of a block from `from` on.
+// Reads the bytes of a block from `from` on. A whole block is read into its place.
 fn read_part<D: Disk>(
+    disk: &mut D,
+    shape: Shape,
+    table: &Block,
+    file: u32,
+    number: u32,
+    from: usize,
+    out: &mut [u8],
+) -> Io
+    requires within { InShape shape file number }
+    requires fits { from + length out.old ≤ 4096 }
+    requires room { blocks_of shape.files shape.blocks ≤ D.size disk.old }
+    ensures bytes { D.Told → result ≡ Io.Done
+        → out.new ≡ take (length out.old) (drop from (contents (D.timeline disk.old) (place_of shape table.now file number))) }
+    ensures len { length out.new ≡ length out.old }
+    ensures same { D.Told → D.timeline disk.new ≡ D.timeline disk.old }
+    ensures size { D.size disk.new ≡ D.size disk.old }
+    ensures fuse { D.fuse disk.new ≡ D.fuse disk.old }
+    ensures faults { D.faults disk.old ≤ D.faults disk.new }
+    ensures cause { result ≡ Io.Failed → Rose (D.faults disk.old) (D.faults disk.new) }
+{
+    let _count = disk.blocks();
+    match out.as_mut_array() {
+        Some(whole) => read_block(disk, shape, table, file, number, whole),
+        None => read_edge(disk, shape, table, file, number, from, out),
+    }
+}
+
+// Reads some bytes of a block from `from` on.
+fn read_edge<D: Disk>(
     disk: &mut D,
     shape: Shape,
     table: &Block,
@@ -190,16 +219,53 @@ fn write_part<D: Disk>(
     ensures faults { D.faults disk.old ≤ D.faults disk.new }
     ensures cause { result ≡ Io.Failed → Rose (D.faults disk.old) (D.faults disk.new) }
 {
-    let block = match patched(disk, shape, newest, file, number, from, part) {
-        None => return Io::Failed,
-        Some(block) => block,
-    };
-    match write_block(disk, shape, table, file, number, &block) {
+    match write_next(disk, shape, table, newest, file, number, from, part) {
         Io::Failed => return Io::Failed,
         Io::Done => {}
     }
     set_home(newest, number, 1 - home_in(table, number));
     Io::Done
+}
+
+// Writes bytes of one block from `from` on to the home that the safe table doesn't name. A whole block is
+// written from its place; the other bytes of one that isn't are taken from where `newest` has it.
+fn write_next<D: Disk>(
+    disk: &mut D,
+    shape: Shape,
+    table: &Block,
+    newest: &Block,
+    file: u32,
+    number: u32,
+    from: usize,
+    part: &[u8],
+) -> Io
+    requires within { InShape shape file number }
+    requires fits { from + length part.now ≤ 4096 }
+    requires room { blocks_of shape.files shape.blocks ≤ D.size disk.old }
+    ensures stands { D.Told → (safe : Safe) → safe.tables file ≡ table.now
+        → Stands shape safe (present (D.timeline disk.old)) → Stands shape safe (present (D.timeline disk.new)) }
+    ensures content { D.Told → (tables : ℕ → List ℕ) (content : ℕ → ℕ → List ℕ) → tables file ≡ table.now
+        → HasContent shape tables content (contents (D.timeline disk.old)) → HasContent shape tables content (contents (D.timeline disk.new)) }
+    ensures any_moment { D.Told → (safe : Safe) (content : ℕ → ℕ → List ℕ) → safe.tables file ≡ table.now
+        → Stands shape safe (present (D.timeline disk.old)) → HasContent shape safe.tables content (contents (D.timeline disk.old))
+        → Passes (D.fuse disk.old) (D.fuse disk.new) (D.timeline disk.old) (D.timeline disk.new) (Holds shape safe content) }
+    ensures written { D.Told → result ≡ Io.Done → contents (D.timeline disk.new) (next_place shape table.now file number)
+        ≡ put_in from part.now (contents (D.timeline disk.old) (place_of shape newest.now file number)) }
+    ensures elsewhere { D.Told → (b : ℕ) → b ≢ next_place shape table.now file number
+        → contents (D.timeline disk.new) b ≡ contents (D.timeline disk.old) b }
+    ensures size { D.size disk.new ≡ D.size disk.old }
+    ensures unset { D.fuse disk.old ≡ Unset → D.fuse disk.new ≡ Unset }
+    ensures faults { D.faults disk.old ≤ D.faults disk.new }
+    ensures cause { result ≡ Io.Failed → Rose (D.faults disk.old) (D.faults disk.new) }
+{
+    let _count = disk.blocks();
+    match part.as_array() {
+        Some(whole) => write_block(disk, shape, table, file, number, whole),
+        None => match patched(disk, shape, newest, file, number, from, part) {
+            Some(block) => write_block(disk, shape, table, file, number, &block),
+            None => Io::Failed,
+        },
+    }
 }
 
 // A block with bytes put in from `from` on. Its other bytes are read from where the table has it. None
@@ -226,10 +292,6 @@ fn patched<D: Disk>(
 {
     let _count = disk.blocks();
     let mut block = [0; 4096];
-    if part.len() == 4096 {
-        block.copy_from_slice(part);
-        return Some(block);
-    }
     match read_block(disk, shape, table, file, number, &mut block) {
         Io::Failed => return None,
         Io::Done => {}
