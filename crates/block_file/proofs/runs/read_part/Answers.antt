@@ -1,4 +1,4 @@
-use Rattle.std.proofs.Common.{◌≡◌, length, sym, ◌∙◌}
+use Rattle.std.proofs.Common.{length, sym, ◌∙◌}
 use Rattle.disk_model.specs.Elapsed.{contents}
 use Rattle.block_file.specs.Blocks.{place_of}
 use Rattle.block_file.proofs.Pieces.{whole_taken}

@@ -1,9 +1,8 @@
-use Rattle.std.proofs.Common.{◌≡◌, sym, ◌∙◌, ap, subst}
+use Rattle.std.proofs.Common.{◌≡◌, sym, ◌∙◌, subst}
 use Rattle.disk_model.specs.Disk.{Image}
 use Rattle.disk_model.specs.declared.fuse.Fuse.{Fuse}
 use Rattle.disk_model.specs.Elapsed.{Timeline, present, contents}
 use Rattle.disk_model.specs.Passes.{Passes}
-use Rattle.block_file.specs.Lists.{put_in}
 use Rattle.block_file.specs.Blocks.{place_of, HasContent, Stands, Holds}
 use Rattle.block_file.proofs.Pieces.{whole_put}
 use Rattle.block_file.proofs.runs.write_next.Goals as goal

@@ -1,4 +1,3 @@
-use Rattle.std.proofs.Common.{◌≡◌}
 use Rattle.block_file.specs.Layout.{data_at}
 use Rattle.block_file.proofs.Places.{other_apart}
 use Rattle.block_file.proofs.runs.write_part.Goals as goal
