@@ -1,0 +1,23 @@
+-- A step that makes no call on the volume.
+use Rattle.std.proofs.Common.{◌≡◌, sym, subst, List, []}
+use Rattle.std.specs.Prelude.{ℕ, IfOk, Result, Ok, Err}
+use Rattle.block_file.specs.Opened.{Opened}
+use Rattle.disk_model.specs.Elapsed.{Timeline}
+use Rattle.disk_model.specs.declared.fuse.Fuse.{Fuse}
+use Rattle.outbox.specs.declared.outgoing.Outbox.{Outbox}
+use Rattle.server_volume.specs.declared.used.Used.{Used}
+use Rattle.server_volume.specs.MomentLaws.{ran_none}
+use Rattle.server_volume.specs.Moments.{Ran}
+use Rattle.server_volume.specs.Store.{seat_of}
+
+ran_still : {D : Type 0} (size : D → ℕ) (fuse : D → Fuse) (timeline : D → Timeline) (old new : Opened D) (used : List Used) → new ≡ old → used ≡ []
+    → Ran (seat_of size fuse timeline old) (seat_of size fuse timeline new) [] used
+ran_still size fuse timeline old new used same none =
+    subst (λ (v : Opened _). Ran (seat_of size fuse timeline old) (seat_of size fuse timeline v) [] used) (sym same)
+    (subst (λ (us : List Used). Ran (seat_of size fuse timeline old) (seat_of size fuse timeline old) [] us) (sym none) (ran_none _ []))
+
+pub ran_unused : {D E : Type 0} (size : D → ℕ) (fuse : D → Fuse) (timeline : D → Timeline) {old new : Opened D} (r : Result Outbox E)
+    → new ≡ old → IfOk r (λ out. out.used ≡ [])
+    → IfOk r (λ out. Ran (seat_of size fuse timeline old) (seat_of size fuse timeline new) [] out.used)
+ran_unused size fuse timeline {old = old} {new = new} (Ok out) same none = ran_still size fuse timeline old new out.used same none
+ran_unused size fuse timeline (Err e) same none = tt

@@ -1,0 +1,4 @@
+pub mod Host
+pub mod Labels
+pub mod Room
+pub mod Steps
