@@ -53,7 +53,6 @@ fn answer(done: io::Result<()>, faults: &mut u64) -> Io
     }
 }
 
-
 impl Disk for FileDisk {
     ghost Told = { ⊥ };
 
