@@ -17,5 +17,5 @@ pub use confirm::confirm_matches;
 pub use create::{Confirming, refuse_confirm, refuse_from, refuse_to};
 pub use fault::PrivFault;
 pub use nfs_base::{Cause, PrivCause};
-pub use peer::{Peer, location_of};
+pub use peer::{Peer, is_peer, location_of};
 pub use privilege::{Privilege, read_privilege, write_privilege};

@@ -20,7 +20,7 @@ pub fn location_of<'a>(peers: &'a [Peer], principal: &[u8]) -> Option<&'a NetLoc
 }
 
 /// Whether one of some servers has this principal and is found there.
-pub(crate) fn is_peer(peers: &[Peer], principal: &[u8], loc: &NetLoc) -> bool
+pub fn is_peer(peers: &[Peer], principal: &[u8], loc: &NetLoc) -> bool
     ensures { result ≡ is_peer peers.now principal.now loc.now }
 {
     peers.iter().any(|p| p.principal.as_slice() == principal && p.loc.is_same(loc))

@@ -21,7 +21,7 @@ pub struct Files<D: Disk, X> {
 
 impl<D: Disk, X> Files<D, X> {
     /// The file that is current.
-    pub(crate) fn current_file(&self, current: &Option<Handle>) -> Result<u32, Status>
+    pub fn current_file(&self, current: &Option<Handle>) -> Result<u32, Status>
         ensures file { result ≡ current_file (store_of D.size self.now.volume) current.now }
         ensures there { IfOk result (λ file. file < length self.now.volume.volume.files) }
     {
@@ -45,7 +45,7 @@ impl<D: Disk, X> Files<D, X> {
     }
 
     /// Whether a stateid, or the current one where that is meant, allows an operation on a file.
-    pub(crate) fn check_open(
+    pub fn check_open(
         &self,
         current: &Option<StateId>,
         id: &StateId,

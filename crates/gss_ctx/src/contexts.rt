@@ -80,6 +80,13 @@ impl<P> Contexts<P> {
         Some(&entry_of(self.entries.as_slice(), number)?.context)
     }
 
+    /// The contexts, lent, those among them that are dead and not yet taken out.
+    pub fn entries(&self) -> &[Entry<P>]
+        ensures { result.now ≡ self.now.entries }
+    {
+        self.entries.as_slice()
+    }
+
     /// The lowest number of a live context above `after`. None exactly where no live context is above it.
     pub fn next(&self, after: u32, now: u64) -> Option<u32>
         ensures { result ≡ lowest_above after now self.now.entries }
@@ -158,7 +165,7 @@ fn lower_live<P>(lowest: Option<u32>, entry: &Entry<P>, after: u32, now: u64) ->
 }
 
 /// Whether a context was used in the last 3,600 seconds.
-pub(crate) fn is_live<P>(entry: &Entry<P>, now: u64) -> bool
+pub fn is_live<P>(entry: &Entry<P>, now: u64) -> bool
     ensures { result ≡ is_live now entry.now }
 {
     now.saturating_sub(entry.context.used) < CONTEXT_IDLE

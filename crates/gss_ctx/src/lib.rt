@@ -27,8 +27,8 @@ pub use begin::{
     Begun, InitResult, init_call, init_reply, read_init, read_init_result, write_init_result,
 };
 pub use caller::{Awaited, Caller, Checked, Sealed, call_head};
-pub use context::Context;
-pub use contexts::{Contexts, handle_of, named_by};
+pub use context::{Context, Entry};
+pub use contexts::{Contexts, handle_of, is_live, named_by};
 pub use create::{
     CreateResult, read_create, read_create_result, write_create, write_create_result,
 };
