@@ -8,7 +8,7 @@ use gss_mech::Realm;
 use nfs_base::End;
 use nfs_compound::{Compound, Reply};
 use session_calls::{BackChannel, FileCall, SlotCall};
-use session_client::{PendingCompound, PendingInit, Setup, SlotNumbers, Taken};
+use session_client::{Asked, PendingCall, PendingInit, Setup, SlotNumbers, Taken};
 use std::alloc::Global;
 use std::test::Fail;
 use streams::CountDraws;
@@ -50,9 +50,11 @@ fn exchange(
     requires { IsSendable compound }
 {
     let (call, reply) = sent;
-    let Some((pending, bytes)) = PendingCompound::send(alloc, caller, xid, compound, mech)? else {
+    let asked = Asked::Compound(compound);
+    let Some(call) = asked.seal(alloc, caller, xid, mech)? else {
         return Err(Wrong::Lacks("a number"));
     };
+    let (pending, bytes) = PendingCall::new(asked, call);
     same_bytes(alloc, xid as usize, bytes.as_slice(), call)?;
     match pending.take(alloc, caller, reply, mech)? {
         Taken::Answer(reply) => Ok(reply),

@@ -1,4 +1,5 @@
 pub mod Answers
+pub mod Asked
 pub mod Pending
 pub mod Records
 pub mod Sealing

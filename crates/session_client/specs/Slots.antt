@@ -2,7 +2,6 @@
 -- with each new call. A call that is sent again keeps its own.
 use Rattle.std.specs.Prelude.{ℕ, ◌+◌, ◌==◌, if◌then◌else◌, List, [], ◌∷◌, replicate, slice_index, slice_set}
 use Rattle.nfs_base.specs.declared.limits.TheConstants.{SLOTS}
-use Rattle.session_calls.specs.declared.slot_call.SlotUse.{SlotUse}
 
 -- before the first call of a session
 abbrev pub fresh_numbers : List ℕ
@@ -17,19 +16,3 @@ abbrev pub given_in : ℕ → List ℕ → List ℕ → List ℕ
 given_in slot numbers [] = []
 given_in slot numbers (of ∷ slots) =
     if of == slot then slice_index numbers of ∷ given_in slot (after_new numbers of) slots else given_in slot (after_new numbers of) slots
-
--- ---- a session as its caller sees it: its ID, and the numbers of its slots
-
-pub record Slotted : Type 0 where
-  pub id : List ℕ
-  pub numbers : List ℕ
-
-abbrev pub fresh_session : List ℕ → Slotted
-fresh_session id = record { id = id; numbers = fresh_numbers }
-
--- the place of the next new call in a slot
-abbrev pub next_use : Slotted → ℕ → SlotUse
-next_use session slot = record { session = session.id; slot = slot; number = slice_index session.numbers slot }
-
-abbrev pub after_sent : Slotted → ℕ → Slotted
-after_sent session slot = record session { numbers = after_new session.numbers slot }

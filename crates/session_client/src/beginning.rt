@@ -5,7 +5,9 @@ ghost use Rattle.nfs_base.specs.declared.limits.TheConstants.{TOKEN_LIMIT};
 ghost use Rattle.gss_ctx.specs.Init.{init_message};
 ghost use Rattle.gss_ctx.specs.Replies.{begun_of};
 ghost use Rattle.session_client.specs.Pending.{Beginning, beginning};
+ghost use Rattle.session_client.specs.Setup.{rooted};
 
+use crate::setup::Setup;
 use gss_ctx::{Begun, init_call, init_reply};
 use gss_mech::{Mechanism, tokens_agree};
 use outcome::Mem;
@@ -60,6 +62,27 @@ impl PendingInit {
         ensures { IfOk result (λ bytes. bytes ≡ init_message self.now.xid self.now.token) }
     {
         init_call(alloc, self.xid, self.token.as_slice())
+    }
+
+    /// The bytes that go out where it is sent by another xid.
+    pub fn call_as(&self, alloc: Global, xid: u32) -> Mem<Octets>
+        ensures { IfOk result (λ bytes. bytes ≡ init_message xid self.now.token) }
+    {
+        init_call(alloc, xid, self.token.as_slice())
+    }
+
+    /// The xid by which it was last sent.
+    pub fn xid(&self) -> u32
+        ensures { result ≡ self.now.xid }
+    {
+        self.xid
+    }
+
+    /// How far the setup is once its context is there.
+    pub fn setup(&self) -> Setup
+        ensures { result ≡ rooted self.now.nonce }
+    {
+        Setup::rooted(&self.nonce)
     }
 
     /// It is sent again: with the same token, by another xid. What was sent before is no longer awaited.

@@ -6,12 +6,12 @@ ghost use Rattle.gss_ctx.specs.Init.{init_message};
 ghost use Rattle.gss_ctx.specs.Seals.{Mic};
 ghost use Rattle.gss_ctx.specs.declared.caller.Awaited.{Awaited};
 ghost use Rattle.nfs_base.specs.declared.limits.TheConstants.{SLOTS};
-ghost use Rattle.nfs_compound.specs.declared.compound.Compound.{Compound};
 ghost use Rattle.nfs_compound.specs.declared.op.Op.{Op};
 ghost use Rattle.nfs_compound.specs.declared.reply.Reply.{Reply};
 ghost use Rattle.session_calls.specs.Answers.{is_answer};
 ghost use Rattle.session_client.specs.Answers.{taken_of};
-ghost use Rattle.session_client.specs.Pending.{asking_bytes, making_bytes};
+ghost use Rattle.session_client.specs.Asked.{asked_call};
+ghost use Rattle.session_client.specs.declared.asked.Asked.{Asked};
 ghost use Rattle.session_client.specs.Records.{IsCallOf, reply_xid};
 ghost use Rattle.session_client.specs.Slots.{fresh_numbers, given_in};
 
@@ -26,8 +26,7 @@ pub fn slot_numbers_count_up()
 
 /// What goes out is a call, and never a reply, by the xid that it was given.
 pub fn calls_go_out_as_calls()
-    ensures compound { (mic : Mic) (side : Side) (xid : ℕ) (c : Compound) → IsCallOf xid (asking_bytes mic side xid c) }
-    ensures create { (mic : Mic) (side : Side) (xid : ℕ) (args : List ℕ) → IsCallOf xid (making_bytes mic side xid args) }
+    ensures sealed { (mic : Mic) (side : Side) (xid : ℕ) (asked : Asked) → IsCallOf xid (asked_call mic side xid asked).bytes }
     ensures init { (xid : ℕ) (token : List ℕ) → IsCallOf xid (init_message xid token) }
 {}
 
