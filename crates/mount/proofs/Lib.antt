@@ -1,0 +1,4 @@
+pub mod ContextLemmas
+pub mod ListLemmas
+pub mod OnceLemmas
+pub mod WentLemmas
