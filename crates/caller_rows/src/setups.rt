@@ -51,10 +51,10 @@ fn exchange(
 {
     let (call, reply) = sent;
     let asked = Asked::Compound(compound);
-    let Some(call) = asked.seal(alloc, caller, xid, mech)? else {
+    let Some(sealed) = asked.seal(alloc, caller, xid, mech)? else {
         return Err(Wrong::Lacks("a number"));
     };
-    let (pending, bytes) = PendingCall::new(asked, call);
+    let (pending, bytes) = PendingCall::new(asked, sealed);
     same_bytes(alloc, xid as usize, bytes.as_slice(), call)?;
     match pending.take(alloc, caller, reply, mech)? {
         Taken::Answer(reply) => Ok(reply),
