@@ -1,5 +1,5 @@
 -- Whatever a caller takes as the answer to a call of a slot, the server told it so.
-use Rattle.std.proofs.Common.{◌≡◌, ◌⊎◌, ⊎_elim, ℕ, zero, suc, ◌<◌, ◌≤◌, Some, List, refl, sym, ◌∙◌, ap, subst, arith}
+use Rattle.std.proofs.Common.{◌≡◌, ◌⊎◌, ⊎_elim, ℕ, zero, suc, ◌<◌, ◌≤◌, true, Some, List, refl, sym, ◌∙◌, ap, subst, arith}
 use Rattle.std.proofs.lemmas.Bool.{cases_order}
 use Rattle.nfs_base.specs.declared.seal.End.{End}
 use Rattle.nfs_base.specs.declared.seal.Seal.{Seal}
@@ -131,21 +131,23 @@ module _ (spell : Spelling) (w : Wire) (lawful : IsLawfulWire spell w) where
 
   never_twice : (i k : ℕ) (name : SlotName) (root root' : ℕ) (results results' : List ℕ) → i < k
       → Executes spell w.owner (w.server i) (w.server (suc i)) (w.acts w.owner i) name root results
+      → spell.has_run results ≡ true
       → Executes spell w.owner (w.server k) (w.server (suc k)) (w.acts w.owner k) name root' results'
+      → spell.has_run results' ≡ true
       → (w.server i).boot ≡ (w.server k).boot → ⊥
-  never_twice i k name root root' results results' before first then_ same =
-      let low = ((lawful.server i).once name root results first).1 in
-      let high = ((lawful.server k).once name root' results' then_).0 in
+  never_twice i k name root root' results results' before first ran then_ ran' same =
+      let low = ((lawful.server i).once name root results first ran).1 in
+      let high = ((lawful.server k).once name root' results' then_ ran').0 in
       let rises = last_rises (suc i) k name (omega arith) (sym first.same_boot ∙ same) in
       absurd (omega arith)
 
   pub executed_once : IsExecutedOnce spell w
-  executed_once i k name root root' results results' first then_ same =
+  executed_once i k name root root' results results' first ran then_ ran' same =
       ⊎_elim
       (λ (here : i ≡ k). here)
       (λ (other : (i < k) ⊎ (k < i)). absurd (⊎_elim
-      (λ (before : i < k). never_twice i k name root root' results results' before first then_ same)
-      (λ (after : k < i). never_twice k i name root' root results' results after then_ first (sym same))
+      (λ (before : i < k). never_twice i k name root root' results results' before first ran then_ ran' same)
+      (λ (after : k < i). never_twice k i name root' root results' results after then_ ran' first ran (sym same))
       other))
       (cases_order i k)
 

@@ -32,7 +32,7 @@ executed_again_refused laws =
       name_is = refl;
       root_is = refl;
       executed = refl;
-    }) in
+    }) refl in
     let above = once.0 in
     absurd (omega arith)
 

@@ -42,7 +42,7 @@ rests owner v =
       create = λ c reply seal child took. absurd (cc);
       slot = λ c reply seal n took. absurd (cc);
       kept = λ n r results keeps. inl (refl, keeps);
-      once = λ n r results x. absurd (let took = x.took in cc);
+      once = λ n r results x ran. absurd (let took = x.took in cc);
       last = λ n same. omega arith;
     }
 
@@ -62,7 +62,7 @@ makes_lawful =
       create = λ c reply seal child took is_create. absurd (false≢true is_create);
       slot = λ c reply seal n took named. absurd (let here = subst (λ b. spelling.slot_of b ≡ Some n) (sym (some init c took)) named in cc);
       kept = λ n r results keeps. absurd (cc);
-      once = λ n r results x. absurd (let executed = x.executed in cc);
+      once = λ n r results x ran. absurd (let executed = x.executed in cc);
       last = λ n same. omega arith;
     }
 
@@ -84,7 +84,7 @@ executes_lawful =
           (subst (λ s. IsAnswered spelling Source with_context with_answer executes name s answer) (seal_is _ (seal_of 1) reply seal refl sends)
           (record { accepted = refl; in_boot = refl; same_boot = refl; root = 1; root_is = refl; results = inl executed })));
       kept = λ n r results keeps. inr (executed_for n r results keeps);
-      once = λ n r results x.
+      once = λ n r results x ran.
           let n_is = number_is n r results x in
           (omega arith, omega arith);
       last = λ n same. omega arith;
@@ -140,7 +140,7 @@ answers_lawful =
           (subst (λ s. IsAnswered spelling Source with_answer with_answer answers name s kept_answer) (seal_is _ (seal_of 2) reply seal refl sends)
           (record { accepted = refl; in_boot = refl; same_boot = refl; root = 1; root_is = refl; results = inr refl })));
       kept = λ n r results keeps. inl (refl, keeps);
-      once = λ n r results x. absurd (let executed = x.executed in cc);
+      once = λ n r results x ran. absurd (let executed = x.executed in cc);
       last = λ n same. omega arith;
     }
 

@@ -25,6 +25,7 @@ spelling = record {
   results_of = λ bytes. drop 2 bytes;
   context_in = λ bytes. None;
   is_simple = λ ops. true;
+  has_run = λ results. true;
 }
 
 -- The records: INIT, its answer, the call and its answer, which is lost, and both again with another xid.

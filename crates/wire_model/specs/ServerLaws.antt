@@ -12,7 +12,8 @@ pub record IsMade (v w : Server) (number root : ℕ) : Type 0 where
   pub counted : number ≤ w.made
   pub root_is : w.root number ≡ Some root
 
--- The step accepts a call of this slot under the seal, whose context has this root, and executes it.
+-- The step accepts a call of this slot under the seal, whose context has this root, and tells these results of it: it
+-- isn't answered as kept. Where SEQUENCE itself is refused, that refusal is all that is told.
 pub record Executes (spell : Spelling) (owner : End) (v w : Server) (a : Acts) (name : SlotName) (root : ℕ) (results : List ℕ) : Type 0 where
   pub call : List ℕ
   pub seal : Seal
@@ -49,7 +50,7 @@ pub record IsAnswered (spell : Spelling) (owner : End) (v w : Server) (a : Acts)
 -- the answer is sealed with it is own). create: a CREATE makes its context under the seal of its answer
 -- (RFC 7861 section 2.5). slot: a call of a slot is executed or answered as kept (RFC 8881 section 2.10.6.1).
 -- kept: a reply that is kept was kept, or is that of the call executed now (RFC 8881 section 2.10.6.1.3). once:
--- what is executed has a number above the last (RFC 8881 section 2.10.6.1); last: the last number never falls.
+-- what runs has a number above the last (RFC 8881 section 2.10.6.1); last: the last number never falls.
 pub record ServerLaws (spell : Spelling) (owner : End) (v w : Server) (a : Acts) : Type 0 where
   pub boot : v.boot ≤ w.boot
   pub made : v.boot ≡ w.boot → v.made ≤ w.made
@@ -66,7 +67,7 @@ pub record ServerLaws (spell : Spelling) (owner : End) (v w : Server) (a : Acts)
   pub kept : (name : SlotName) (root : ℕ) (results : List ℕ) → Keeps w name root results
       → ((v.boot ≡ w.boot) × Keeps v name root results) ⊎ Executes spell owner v w a name root results
   pub once : (name : SlotName) (root : ℕ) (results : List ℕ) → Executes spell owner v w a name root results
-      → (last_of v name < name.number) × (name.number ≤ last_of w name)
+      → spell.has_run results ≡ true → (last_of v name < name.number) × (name.number ≤ last_of w name)
   pub last : (name : SlotName) → v.boot ≡ w.boot → last_of v name ≤ last_of w name
 
 -- a server that was just opened for the first time has no context and keeps nothing

@@ -18,7 +18,9 @@ pub record SlotName : Type 0 where
 -- Whether a record is a reply, and the xid that it carries (RFC 5531 section 9). Whether a call is one to a
 -- callback program (RFC 8881 section 2.10.3.1). The principal whose INIT a call is (RFC 2203 section 5.2.2).
 -- Whether it makes a child (RFC 7861 section 2.5). The slot that it names, its operations, and, for a reply,
--- their results. The context that an answer to a CREATE gives. Whether operations call a volume once at most.
+-- their results. The context that an answer to a CREATE gives. Whether operations call a volume once at most. Whether
+-- results are those of operations that ran in their slot: SEQUENCE stands first in them with status 0 (RFC 8881 section
+-- 18.46). A SEQUENCE that is refused moves no slot.
 pub record Spelling : Type 0 where
   pub is_reply : List ℕ → Bool
   pub xid_of : List ℕ → ℕ
@@ -30,3 +32,4 @@ pub record Spelling : Type 0 where
   pub results_of : List ℕ → List ℕ
   pub context_in : List ℕ → Option Context
   pub is_simple : List ℕ → Bool
+  pub has_run : List ℕ → Bool

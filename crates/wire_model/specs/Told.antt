@@ -41,12 +41,14 @@ AreAnswersTold spell w =
     → Takes spell (w.caller e k) (w.acts e k) seal (Slotted seal call) reply
     → WasTold w k e call (spell.results_of reply)
 
--- in an opening a number of a slot is executed once
+-- in an opening a number of a slot runs once
 abbrev pub IsExecutedOnce : Spelling → Wire → Type 0
 IsExecutedOnce spell w =
     (i k : ℕ) (name : SlotName) (root root' : ℕ) (results results' : List ℕ)
     → Executes spell w.owner (w.server i) (w.server (suc i)) (w.acts w.owner i) name root results
+    → spell.has_run results ≡ true
     → Executes spell w.owner (w.server k) (w.server (suc k)) (w.acts w.owner k) name root' results'
+    → spell.has_run results' ≡ true
     → (w.server i).boot ≡ (w.server k).boot → i ≡ k
 
 -- what a server accepts of a slot calls its volume once at most

@@ -10,7 +10,7 @@ pub record Sent : Type 0 where
   pub bytes : List ℕ
   pub seal : Option Seal
 
--- operations that a server executed in a step, and their results
+-- operations whose results a server tells in a step, and those results; what it answers as kept isn't told anew
 pub record Executed : Type 0 where
   pub ops : List ℕ
   pub results : List ℕ
