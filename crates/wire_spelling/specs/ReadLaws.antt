@@ -1,0 +1,144 @@
+-- What is written is read back: heads, sealed bodies, and what they carry.
+use Rattle.std.proofs.Common.{◌≡◌, ℕ, ◌+◌, ◌<◌, ◌≤◌, ◌^◌, Bool, true, false, List, [], ◌++◌, length, take, drop, Option, Some, None, Result, Ok, Err, refl, sym, ◌∙◌, ap, arith, zero-add, lit<}
+use Rattle.std.specs.Prelude.{if◌then◌else◌, bytes_eq}
+use Rattle.std.specs.Int.{w32, from_be_bytes}
+use Rattle.std.specs.Result.{result_ok}
+use Rattle.std.proofs.Math.Seq.{drop-append_seam}
+use Rattle.std.proofs.lemmas.List.{length-append}
+use Rattle.std.proofs.lemmas.Nat.{from_be_bytes-to_be_bytes_4}
+use Rattle.wire_xdr.specs.All.{value_of}
+use Rattle.wire_xdr.specs.AllLaws.{spelled_all}
+use Rattle.wire_xdr.specs.LengthLaws.{word_length}
+use Rattle.wire_xdr.specs.Words.{word_bytes}
+use Rattle.rpc_msg.specs.Heads.{auth, call, denial, reply, stat}
+use Rattle.rpc_msg.specs.Messages.{head_told, kind_of, behind, unless_other, first}
+use Rattle.rpc_msg.specs.declared.call.CallHead.{CallHead}
+use Rattle.rpc_msg.specs.declared.messages.RpcFault.{RpcFault}
+use Rattle.rpc_msg.specs.declared.reply.Denial.{Denial}
+use Rattle.rpc_msg.specs.declared.reply.ReplyHead.{ReplyHead}
+use Rattle.rpc_msg.specs.declared.reply.ReplyHead.TheVariants.{Accepted, Denied}
+use Rattle.rpc_msg.specs.declared.reply.Stat.{Stat}
+use Rattle.rpc_msg.specs.declared.reply.Stat.TheVariants.{Success}
+use Rattle.gss_mech.specs.Tokens.{IsSized}
+use Rattle.gss_ctx.specs.Calls.{none_auth}
+use Rattle.gss_ctx.specs.Seals.{Mic, code_auth, payload_of, reply_code, reply_front, sealed_body, sealed_reply, two_opaques, unsealed}
+use Rattle.wire_spelling.specs.Calls.{ReadCall, call_in, call_read, xid_in}
+use Rattle.wire_spelling.specs.Replies.{is_read, is_reply, results_behind, results_of, results_read}
+use Rattle.wire_spelling.specs.Slots.{carried_by, carried_in}
+
+-- ---- heads
+
+reply_kind : (head : ReplyHead) (body : List ℕ) → kind_of (reply.spell head ++ body) ≡ Some 1
+unfolding reply word_bytes
+reply_kind head body = refl
+
+pub reply_again : (head : ReplyHead) (body : List ℕ) → reply.Fits head → head_told reply 0 (reply.spell head ++ body) ≡ Ok (head, length (reply.spell head))
+reply_again head body fits =
+    ap (λ (k : Option ℕ). unless_other 0 k (behind (reply.read (first (reply.spell head ++ body))))) (reply_kind head body)
+    ∙ ap behind (reply.lawful.again 0 head body fits)
+    ∙ ap (λ (n : ℕ). Ok (head, n)) (zero-add (length (reply.spell head)))
+
+call_kind : (head : CallHead) (body : List ℕ) → kind_of (call.spell head ++ body) ≡ Some 0
+unfolding call word_bytes
+call_kind head body = refl
+
+call_again : (head : CallHead) (body : List ℕ) → call.Fits head → head_told call 1 (call.spell head ++ body) ≡ Ok (head, length (call.spell head))
+call_again head body fits =
+    ap (λ (k : Option ℕ). unless_other 1 k (behind (call.read (first (call.spell head ++ body))))) (call_kind head body)
+    ∙ ap behind (call.lawful.again 0 head body fits)
+    ∙ ap (λ (n : ℕ). Ok (head, n)) (zero-add (length (call.spell head)))
+
+-- a call that is written is read as it is
+pub call_read_back : (head : CallHead) (body : List ℕ) → call.Fits head → call_in (call.spell head ++ body) ≡ Some (record { head = head; body = body })
+call_read_back head body fits =
+    ap (call_read (call.spell head ++ body)) (call_again head body fits)
+    ∙ ap (λ (b : List ℕ). Some (record { head = head; body = b })) (drop-append_seam (call.spell head) body)
+
+-- a reply that is written is one
+pub reply_is : (head : ReplyHead) (body : List ℕ) → reply.Fits head → is_reply (reply.spell head ++ body) ≡ true
+reply_is head body fits = ap is_read (reply_again head body fits)
+
+pub results_read_back : (head : ReplyHead) (body : List ℕ) → reply.Fits head → results_of (reply.spell head ++ body) ≡ results_behind body head
+results_read_back head body fits =
+    ap (results_read (reply.spell head ++ body)) (reply_again head body fits)
+    ∙ ap (λ (b : List ℕ). results_behind b head) (drop-append_seam (reply.spell head) body)
+
+-- ---- heads that have a spelling
+
+pub denied_fits : (xid : ℕ) (why : Denial) → xid < 2 ^ 32 → denial.Fits why → reply.Fits (Denied xid why)
+unfolding reply
+denied_fits xid why small fits = (small, (lit< tt, (lit< tt, fits)))
+
+pub plain_fits : (xid : ℕ) (what : Stat) → xid < 2 ^ 32 → stat.Fits what → reply.Fits (Accepted xid none_auth what)
+unfolding reply auth
+plain_fits xid what small fits = (small, (lit< tt, (lit< tt, ((lit< tt, omega arith), fits))))
+
+pub sealed_fits : (xid : ℕ) (code : List ℕ) (what : Stat) → xid < 2 ^ 32 → length code ≡ 32 → stat.Fits what → reply.Fits (Accepted xid (code_auth code) what)
+unfolding reply auth
+sealed_fits xid code what small len fits = (small, (lit< tt, (lit< tt, ((lit< tt, omega arith), fits))))
+
+pub success_fits : stat.Fits Success
+unfolding stat
+success_fits = (lit< tt, tt)
+
+pub code_length : (mic : Mic) (key : List ℕ) (head : CallHead) (seq : ℕ) → IsSized mic → length (reply_code mic key head seq) ≡ 32
+unfolding reply_code
+code_length mic key head seq sized = sized key 1 _
+
+pub xid_small : (head : CallHead) → call.Fits head → head.xid < 2 ^ 32
+unfolding call
+xid_small head fits = fits.0
+
+-- ---- sealed bodies
+
+word_behind : (seq : ℕ) (bytes : List ℕ) → drop 4 (word_bytes seq ++ bytes) ≡ bytes
+unfolding word_bytes
+word_behind seq bytes = refl
+
+-- a body that is sealed carries its payload
+pub carried_back : (code : List ℕ → List ℕ) (seq : ℕ) (payload : List ℕ) → ((bytes : List ℕ) → length (code bytes) ≡ 32) → length payload + 4 < 4294967296
+    → carried_in (sealed_body code seq payload) ≡ payload
+unfolding two_opaques
+carried_back code seq payload sized small =
+    let text : List ℕ = word_bytes seq ++ payload in
+    let parts : List ℕ × List ℕ = (text, code text) in
+    let short : length text ≤ 4294967295 = omega (arith, length-append (word_bytes seq) payload, word_length seq) in
+    let whole : value_of two_opaques (sealed_body code seq payload) ≡ Some parts = ap result_ok (spelled_all two_opaques parts (sealed_body code seq payload) ((short, omega (arith, sized text)), refl)) in
+    ap carried_by whole ∙ word_behind seq payload
+
+told_carried : (a b : Bool) (x : List ℕ) (args : List ℕ) → (if b then (if a then Some x else None) else None) ≡ Some args → x ≡ args
+told_carried true true x args h = cc
+told_carried false true x args h = absurd cc
+told_carried a false x args h = absurd cc
+
+parts_carried : (code : List ℕ → List ℕ) (seq : ℕ) (parts : Option (List ℕ × List ℕ)) (args : List ℕ) → payload_of code seq parts ≡ Some args → carried_by parts ≡ args
+parts_carried code seq None args h = absurd cc
+parts_carried code seq (Some parts) args h = told_carried (bytes_eq (take 4 parts.0) (word_bytes seq)) (bytes_eq parts.1 (code parts.0)) (drop 4 parts.0) args h
+
+-- what a context finds in a body is what the body carries
+pub unsealed_carried : (code : List ℕ → List ℕ) (seq : ℕ) (body args : List ℕ) → unsealed code seq body ≡ Some args → carried_in body ≡ args
+unfolding unsealed
+unsealed_carried code seq body args h = parts_carried code seq (value_of two_opaques body) args h
+
+-- ---- a reply under a seal
+
+pub sealed_reply_is : (mic : Mic) (key : List ℕ) (head : CallHead) (seq : ℕ) (result : List ℕ) → IsSized mic → call.Fits head
+    → is_reply (sealed_reply mic key head seq result) ≡ true
+unfolding sealed_reply reply_front
+sealed_reply_is mic key head seq result sized fits =
+    reply_is (Accepted head.xid (code_auth (reply_code mic key head seq)) Success) (sealed_body (mic key 1) seq result)
+    (sealed_fits head.xid (reply_code mic key head seq) Success (xid_small head fits) (code_length mic key head seq sized) success_fits)
+
+pub sealed_results : (mic : Mic) (key : List ℕ) (head : CallHead) (seq : ℕ) (result : List ℕ) → IsSized mic → call.Fits head → length result + 4 < 4294967296
+    → results_of (sealed_reply mic key head seq result) ≡ result
+unfolding sealed_reply reply_front
+sealed_results mic key head seq result sized fits small =
+    results_read_back (Accepted head.xid (code_auth (reply_code mic key head seq)) Success) (sealed_body (mic key 1) seq result)
+    (sealed_fits head.xid (reply_code mic key head seq) Success (xid_small head fits) (code_length mic key head seq sized) success_fits)
+    ∙ carried_back (mic key 1) seq result (sized key 1) small
+
+-- ---- the first word
+
+pub call_xid : (head : CallHead) (body : List ℕ) → head.xid < 2 ^ 32 → xid_in (call.spell head ++ body) ≡ head.xid
+unfolding call word_bytes
+call_xid head body small = from_be_bytes-to_be_bytes_4 head.xid small
