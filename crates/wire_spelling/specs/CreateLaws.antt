@@ -1,7 +1,5 @@
 -- The answer to a CREATE gives its context: what is written is read back (RFC 7861 section 2.7).
-use Rattle.std.proofs.Common.{◌≡◌, ℕ, ◌+◌, ◌<◌, ◌^◌, List, [], ◌++◌, length, drop, take, Option, Some, None, refl, ◌∙◌, ap, arith, lit<}
-use Rattle.std.specs.Int.{w32, from_be_bytes}
-use Rattle.std.specs.Result.{result_ok}
+use Rattle.std.proofs.Common.{◌≡◌, ℕ, ◌+◌, ◌<◌, ◌^◌, List, length, Option, Some, None, refl, ◌∙◌, ap, arith, lit<}
 use Rattle.std.proofs.lemmas.Nat.{from_be_bytes-to_be_bytes_4}
 use Rattle.wire_xdr.specs.All.{value_of}
 use Rattle.wire_xdr.specs.AllLaws.{spelled_value}
@@ -12,7 +10,6 @@ use Rattle.gss_mech.specs.Tokens.{IsSized}
 use Rattle.gss_ctx.specs.Forms.{create_result}
 use Rattle.gss_ctx.specs.Seals.{Mic, sealed_reply}
 use Rattle.gss_ctx.specs.Table.{boot_named, handle_of, number_named}
-use Rattle.gss_ctx.specs.declared.create.CreateResult.{CreateResult}
 use Rattle.rpc_calls.specs.Making.{create_told}
 use Rattle.wire_model.specs.Spelling.{Context}
 use Rattle.wire_spelling.specs.ReadLaws.{sealed_results}

@@ -1,10 +1,9 @@
 -- What is written is read back: heads, sealed bodies, and what they carry.
-use Rattle.std.proofs.Common.{◌≡◌, ℕ, ◌+◌, ◌<◌, ◌≤◌, ◌^◌, Bool, true, false, List, [], ◌++◌, length, take, drop, Option, Some, None, Result, Ok, Err, refl, sym, ◌∙◌, ap, arith, zero-add, lit<}
+use Rattle.std.proofs.Common.{◌≡◌, ℕ, ◌+◌, ◌<◌, ◌≤◌, ◌^◌, Bool, true, false, List, [], ◌++◌, length, take, drop, Option, Some, None, Ok, refl, sym, ◌∙◌, ap, arith, zero-add, lit<}
 use Rattle.std.specs.Prelude.{if◌then◌else◌, bytes_eq}
-use Rattle.std.specs.Int.{w32, from_be_bytes}
 use Rattle.std.specs.Result.{result_ok}
 use Rattle.std.proofs.Math.Seq.{drop-append_seam}
-use Rattle.std.proofs.lemmas.List.{length-append}
+use Rattle.std.proofs.lemmas.List.{append-nil, length-append}
 use Rattle.std.proofs.lemmas.Nat.{from_be_bytes-to_be_bytes_4}
 use Rattle.wire_xdr.specs.All.{value_of}
 use Rattle.wire_xdr.specs.AllLaws.{spelled_all}
@@ -13,18 +12,21 @@ use Rattle.wire_xdr.specs.Words.{word_bytes}
 use Rattle.rpc_msg.specs.Heads.{auth, call, denial, reply, stat}
 use Rattle.rpc_msg.specs.Messages.{head_told, kind_of, behind, unless_other, first}
 use Rattle.rpc_msg.specs.declared.call.CallHead.{CallHead}
-use Rattle.rpc_msg.specs.declared.messages.RpcFault.{RpcFault}
 use Rattle.rpc_msg.specs.declared.reply.Denial.{Denial}
 use Rattle.rpc_msg.specs.declared.reply.ReplyHead.{ReplyHead}
 use Rattle.rpc_msg.specs.declared.reply.ReplyHead.TheVariants.{Accepted, Denied}
 use Rattle.rpc_msg.specs.declared.reply.Stat.{Stat}
 use Rattle.rpc_msg.specs.declared.reply.Stat.TheVariants.{Success}
 use Rattle.gss_mech.specs.Tokens.{IsSized}
+use Rattle.rpc_calls.specs.Answers.{denial_reply, plain_front}
+use Rattle.rpc_calls.specs.Making.{init_reply, init_told}
+use Rattle.gss_ctx.specs.Forms.{init_result}
+use Rattle.gss_ctx.specs.declared.making.Inited.TheVariants.{Made}
 use Rattle.gss_ctx.specs.Calls.{none_auth}
 use Rattle.gss_ctx.specs.Seals.{Mic, code_auth, payload_of, reply_code, reply_front, sealed_body, sealed_reply, two_opaques, unsealed}
-use Rattle.wire_spelling.specs.Calls.{ReadCall, call_in, call_read, xid_in}
+use Rattle.wire_spelling.specs.Calls.{call_in, call_read, xid_in}
 use Rattle.wire_spelling.specs.Replies.{is_read, is_reply, results_behind, results_of, results_read}
-use Rattle.wire_spelling.specs.Slots.{carried_by, carried_in}
+use Rattle.wire_spelling.specs.Slots.{carried_by, carried_in, ops_in, ops_of}
 
 -- ---- heads
 
@@ -142,3 +144,32 @@ sealed_results mic key head seq result sized fits small =
 pub call_xid : (head : CallHead) (body : List ℕ) → head.xid < 2 ^ 32 → xid_in (call.spell head ++ body) ≡ head.xid
 unfolding call word_bytes
 call_xid head body small = from_be_bytes-to_be_bytes_4 head.xid small
+
+-- ---- calls and replies of other kinds
+
+pub ops_back : (code : List ℕ → List ℕ) (head : CallHead) (seq : ℕ) (args : List ℕ) → ((bytes : List ℕ) → length (code bytes) ≡ 32) → call.Fits head
+    → length args + 4 < 4294967296 → ops_of (call.spell head ++ sealed_body code seq args) ≡ args
+ops_back code head seq args sized fits small =
+    ap ops_in (call_read_back head (sealed_body code seq args) fits) ∙ carried_back code seq args sized small
+
+alone : (head : ReplyHead) → reply.Fits head → is_reply (reply.spell head) ≡ true
+alone head fits = ap is_reply (sym (append-nil (reply.spell head))) ∙ reply_is head [] fits
+
+pub denial_is : (xid : ℕ) (why : Denial) → xid < 2 ^ 32 → denial.Fits why → is_reply (denial_reply xid why) ≡ true
+denial_is xid why small fits = alone (Denied xid why) (denied_fits xid why small fits)
+
+pub plain_is : (xid : ℕ) (what : Stat) (body : List ℕ) → xid < 2 ^ 32 → stat.Fits what → is_reply (plain_front xid what ++ body) ≡ true
+plain_is xid what body small fits = reply_is (Accepted xid none_auth what) body (plain_fits xid what small fits)
+
+pub failure_is : (mic : Mic) (key : List ℕ) (head : CallHead) (seq : ℕ) (what : Stat) → IsSized mic → call.Fits head → stat.Fits what
+    → is_reply (reply_front mic key head seq what) ≡ true
+unfolding reply_front
+failure_is mic key head seq what sized fits said =
+    alone (Accepted head.xid (code_auth (reply_code mic key head seq)) what)
+    (sealed_fits head.xid (reply_code mic key head seq) what (xid_small head fits) (code_length mic key head seq sized) said)
+
+pub begun_is : (xid window : ℕ) (handle token verifier : List ℕ) → xid < 2 ^ 32 → length verifier ≡ 32
+    → is_reply (init_reply xid (Made handle window token verifier)) ≡ true
+begun_is xid window handle token verifier small len =
+    reply_is (Accepted xid (code_auth verifier) Success) (init_result.spell (init_told (Made handle window token verifier)))
+    (sealed_fits xid verifier Success small len success_fits)
