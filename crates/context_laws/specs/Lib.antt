@@ -1,0 +1,4 @@
+pub mod View
+pub mod TableLaws
+pub mod JudgedLaws
+pub mod MadeLaws

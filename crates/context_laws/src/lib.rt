@@ -1,0 +1,9 @@
+//! What becomes of a server's contexts, as a wire sees them (RFC 2203, RFC 7861).
+//!
+//! There is no code here. `specs/View.antt` says what the root of a context is, and what it is that contexts follow others;
+//! `specs/TableLaws.antt` that they do so whatever a call does to them. [`contexts_follow`] is the contract to read first.
+#![tactic(auto)]
+
+mod tables;
+
+pub use tables::contexts_follow;
