@@ -1,0 +1,4 @@
+pub mod Told
+pub mod View
+pub mod Steps
+pub mod ContextLaws
