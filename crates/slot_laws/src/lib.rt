@@ -1,0 +1,2 @@
+//! What a COMPOUND does to the slots of a server's sessions, as a wire sees them.
+#![tactic(auto)]
