@@ -6,3 +6,9 @@ pub mod RestLaws
 pub mod BeginLaws
 pub mod TableLaws
 pub mod MoveLaws
+pub mod Fronts
+pub mod FrontLaws
+pub mod WalkLaws
+pub mod Turns
+pub mod OutsideLaws
+pub mod CompoundLaws
