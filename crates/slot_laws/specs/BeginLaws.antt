@@ -1,11 +1,10 @@
 -- What is known of a slot on which a number is new, or is a retry.
-use Rattle.std.proofs.Common.{◌≡◌, ℕ, ◌<◌, Bool, true, false, cond, List, [], ◌∷◌, Option, Some, None, refl, sym, ap, subst, ◌∙◌, arith}
+use Rattle.std.proofs.Common.{◌≡◌, ℕ, ◌<◌, Bool, true, false, cond, List, [], ◌∷◌, Option, Some, None, refl, sym, ap, subst, ◌∙◌}
 use Rattle.std.specs.Prelude.{◌==◌, bytes_eq, find, if◌then◌else◌, nat_le}
 use Rattle.std.proofs.lemmas.Bool.{eqb-true, eq-eqb, leb-false}
 use Rattle.std.proofs.lemmas.Slice.Eq.{bytes_eq-Decides}
 use Rattle.nfs_base.specs.declared.limits.TheConstants.{SLOTS}
-use Rattle.sess_slots.specs.declared.answers.Begin.{Begin}
-use Rattle.sess_slots.specs.declared.answers.Begin.TheVariants.{New, Replay, FalseRetry, BadSession, BadSlot, Misordered}
+use Rattle.sess_slots.specs.declared.answers.Begin.TheVariants.{New, Replay, FalseRetry, BadSlot, Misordered}
 use Rattle.sess_slots.specs.declared.answers.Place.{Place}
 use Rattle.sess_slots.specs.declared.session.Session.{Session}
 use Rattle.sess_slots.specs.declared.slot.Kept.{Kept}

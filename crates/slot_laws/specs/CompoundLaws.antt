@@ -1,6 +1,6 @@
 -- What each COMPOUND is to the slots.
-use Rattle.std.proofs.Common.{◌≡◌, inl, inr, ℕ, ◌<◌, ◌^◌, Bool, true, false, List, [], ◌∷◌, Option, Some, None, refl, ap, ◌∙◌, arith}
-use Rattle.std.specs.Prelude.{◌==◌, ◌≢◌, ◌&&◌, not, nat_lt}
+use Rattle.std.proofs.Common.{◌≡◌, inl, inr, ℕ, Bool, true, false, List, [], ◌∷◌, Option, refl, ap, arith}
+use Rattle.std.specs.Prelude.{◌==◌, ◌&&◌, not, nat_lt}
 use Rattle.file_ops.specs.declared.args.FileArg.TheVariants as args
 use Rattle.file_ops.specs.declared.operation.TheConstants.{OP_SEQUENCE}
 use Rattle.file_ops.specs.declared.sessions.SequenceArgs.{SequenceArgs}
@@ -10,29 +10,26 @@ use Rattle.nfs_base.specs.declared.status.TheConstants.Status as statuses
 use Rattle.nfs_compound.specs.declared.compound.Compound.{Compound}
 use Rattle.nfs_compound.specs.declared.op.Op.{Op}
 use Rattle.nfs_compound.specs.declared.op.Op.TheVariants.{File}
-use Rattle.nfs_compound.specs.declared.res.Res.{Res}
 use Rattle.nfs_compound.specs.declared.tail.Tail.{Tail}
 use Rattle.nfs_compound.specs.declared.tail.Tail.TheVariants.{Whole, Unreadable, Unsupported, Illegal}
 use Rattle.nfs_compound.specs.Walk.{last_status}
 use Rattle.server_volume.specs.Choices.{Choice}
 use Rattle.sess_slots.specs.declared.answers.Begin.{Begin}
 use Rattle.sess_slots.specs.declared.answers.Begin.TheVariants as begin
-use Rattle.sess_slots.specs.declared.answers.Place.{Place}
 use Rattle.sess_slots.specs.Begins.{begin_of, reply_kept}
 use Rattle.sess_slots.specs.Table.{SessionTable}
 use Rattle.compound_server.specs.declared.compounds.TheConstants.{MINOR_VERSION}
 use Rattle.compound_server.specs.declared.who.Who.{Who}
-use Rattle.compound_server.specs.Compounds.{by_begin, by_first, by_minor, caller_at, executed, first_number, on_compound, sequence, sequence_done, tail_results, unless_many}
+use Rattle.compound_server.specs.Compounds.{by_begin, by_first, by_minor, caller_at, first_number, on_compound, sequence, sequence_done, tail_results, unless_many}
 use Rattle.compound_server.specs.Course.{Service}
 use Rattle.compound_server.specs.Refusals.{refused, tail_refusal}
 use Rattle.compound_server.specs.State.{Given, Parting, State, answered_by, begun, with_own}
-use Rattle.compound_server.specs.Walking.{Walked, walk}
+use Rattle.compound_server.specs.Walking.{walk}
 use Rattle.slot_laws.specs.Fronts.{IsFailure, SaysNotRun}
 use Rattle.slot_laws.specs.FrontLaws.{failure_told, front_is, none_is, sequence_spelled}
-use Rattle.slot_laws.specs.Moves.{Moves}
-use Rattle.slot_laws.specs.OutsideLaws.{GivesStays, failure_given, itself, outside_stays}
+use Rattle.slot_laws.specs.OutsideLaws.{failure_given, itself, outside_stays}
 use Rattle.slot_laws.specs.Sound.{IsSound}
-use Rattle.slot_laws.specs.Turns.{Means, Repeats, Runs, Stays, Turns, first_retries, is_replay, is_retry}
+use Rattle.slot_laws.specs.Turns.{Turns, first_retries, is_replay, is_retry}
 use Rattle.slot_laws.specs.WalkLaws.{walk_same}
 
 -- what is given is this of the sessions before

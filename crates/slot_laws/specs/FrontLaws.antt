@@ -1,10 +1,10 @@
 -- The fronts of the replies that a server gives.
-use Rattle.std.proofs.Common.{rules, ◌≡◌, ◌⊎◌, inl, inr, ℕ, ◌<◌, ◌^◌, Bool, true, false, List, [], ◌∷◌, ◌++◌, length, refl, sym, ap, subst, ◌∙◌, append_assoc, append-nil, lit<, arith}
-use Rattle.std.specs.Prelude.{◌==◌, ◌≢◌, Option, Some, None, if◌then◌else◌}
+use Rattle.std.proofs.Common.{rules, ◌≡◌, inl, inr, ℕ, Bool, true, false, List, [], ◌∷◌, ◌++◌, length, refl, sym, ap, ◌∙◌, append_assoc, append-nil}
+use Rattle.std.specs.Prelude.{◌==◌, if◌then◌else◌}
 use Rattle.std.specs.List.{flat_map}
 use Rattle.std.proofs.lemmas.Bool.{eqb-true}
 use Rattle.copy_ops.specs.Forms.{copy_res, copy_answer}
-use Rattle.file_ops.specs.declared.operation.TheConstants.{OP_CREATE_SESSION, OP_DESTROY_SESSION, OP_EXCHANGE_ID, OP_SEQUENCE, OP_DESTROY_CLIENTID}
+use Rattle.file_ops.specs.declared.operation.TheConstants.{OP_CREATE_SESSION, OP_EXCHANGE_ID, OP_SEQUENCE}
 use Rattle.file_ops.specs.declared.results.FileRes.TheVariants as results
 use Rattle.file_ops.specs.declared.sessions.CreateSessionDone.{CreateSessionDone}
 use Rattle.file_ops.specs.declared.sessions.ExchangeIdDone.{ExchangeIdDone}
@@ -18,10 +18,10 @@ use Rattle.nfs_compound.specs.declared.res.Res.{Res}
 use Rattle.nfs_compound.specs.declared.res.Res.TheVariants.{File}
 use Rattle.nfs_compound.specs.Results.{outcome, reply, res_body}
 use Rattle.wire_xdr.specs.Parts.{list_spell}
-use Rattle.wire_xdr.specs.Words.{fixed_bytes, word_bytes, opaque_bytes}
+use Rattle.wire_xdr.specs.Words.{word_bytes, opaque_bytes}
 use Rattle.compound_server.specs.Compounds.{sequence_done}
 use Rattle.compound_server.specs.Refusals.{Refusing, refusings, refused_among, refused}
-use Rattle.slot_laws.specs.Fronts.{HasFront, HasNoResult, HasOther, IsFailure, IsOther, SaysNotRun, SaysRun}
+use Rattle.slot_laws.specs.Fronts.{HasFront, HasNoResult, IsFailure, IsOther, SaysNotRun}
 
 -- ---- a result stands behind the reply's status, the tag and the count
 

@@ -12,3 +12,5 @@ pub mod WalkLaws
 pub mod Turns
 pub mod OutsideLaws
 pub mod CompoundLaws
+pub mod Effects
+pub mod EffectLaws

@@ -1,10 +1,9 @@
 -- Sessions found by their numbers, where some are taken out, changed or added behind.
-use Rattle.std.proofs.Common.{◌≡◌, ◌⊎◌, inl, inr, ℕ, zero, suc, ◌+◌, ◌<◌, ◌≤◌, Bool, true, false, cond, List, [], ◌∷◌, ◌++◌, Option, Some, None, refl, sym, ap, subst, ◌∙◌, arith}
-use Rattle.std.specs.Prelude.{◌==◌, filter, find, option_map, if◌then◌else◌, get_or, replicate}
-use Rattle.std.proofs.lemmas.Bool.{eqb-true, eqb-false, eq-eqb, ne_eqb}
+use Rattle.std.proofs.Common.{◌≡◌, ◌⊎◌, inl, inr, ℕ, zero, suc, ◌≤◌, Bool, true, false, cond, List, [], ◌∷◌, ◌++◌, Option, Some, None, refl, sym, ap, subst, ◌∙◌, arith}
+use Rattle.std.specs.Prelude.{◌==◌, filter, option_map, if◌then◌else◌, replicate}
+use Rattle.std.proofs.lemmas.Bool.{eqb-true, ne_eqb}
 use Rattle.nfs_base.specs.Changed.{changed}
 use Rattle.sess_slots.specs.declared.session.Session.{Session}
-use Rattle.sess_slots.specs.declared.slot.Slot.{Slot}
 use Rattle.sess_slots.specs.Slots.{fresh_slot, slot_at}
 use Rattle.sess_slots.specs.Table.{session_numbered}
 use Rattle.slot_laws.specs.Sound.{AreRising}

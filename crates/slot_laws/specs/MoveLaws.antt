@@ -1,5 +1,5 @@
 -- Where one slot moves: what it keeps then, and that the others are as before.
-use Rattle.std.proofs.Common.{◌≡◌, ◌⊎◌, inl, inr, ℕ, suc, ◌+◌, ◌%◌, ◌^◌, ◌<◌, ◌≤◌, Bool, List, length, get_or, set, Option, Some, None, refl, sym, ap, subst, ◌∙◌, arith}
+use Rattle.std.proofs.Common.{◌≡◌, ◌⊎◌, inl, inr, ℕ, suc, ◌<◌, ◌≤◌, List, length, Option, Some, None, refl, sym, ap, subst, ◌∙◌, arith}
 use Rattle.std.specs.Prelude.{◌==◌, IfSome, option_map, option_and_then, nat_le}
 use Rattle.std.proofs.lemmas.Bool.{cases_eq}
 use Rattle.std.proofs.lemmas.List.{get_or-set_same, get_or-set_other, length-set}
@@ -11,7 +11,7 @@ use Rattle.sess_slots.specs.Slots.{after_reply, fresh_slot, next_number, slot_at
 use Rattle.sess_slots.specs.Table.{SessionTable, session_numbered}
 use Rattle.wire_model.specs.Wire.{Kept}
 use Rattle.slot_laws.specs.View.{kept_at, kept_in, last_at, last_in, past_all}
-use Rattle.slot_laws.specs.Sound.{AreBelow, AreRising, IsSound}
+use Rattle.slot_laws.specs.Sound.{AreBelow, IsSound}
 use Rattle.slot_laws.specs.Moves.{Moves}
 use Rattle.slot_laws.specs.ListLaws.{changed_other, changed_same, rising_changed}
 use Rattle.slot_laws.specs.RestLaws.{below_at, slot_in}
@@ -41,7 +41,7 @@ here_or_apart place session slot = elim (cases_eq place.session session) [
   | inr other ↦ inr (λ e f. other e)
 ]
 
-below_more : (most : ℕ) (o : Option Slot) → IfSome o (λ x. x.last ≤ most) → IfSome o (λ x. x.last ≤ suc most)
+pub below_more : (most : ℕ) (o : Option Slot) → IfSome o (λ x. x.last ≤ most) → IfSome o (λ x. x.last ≤ suc most)
 below_more most None h = tt
 below_more most (Some x) h = omega (arith, h)
 
@@ -91,7 +91,7 @@ module _ (place : Place) (root : ℕ) (reply : List ℕ) (v w : SessionTable) (s
   moves_kept session slot k keeps = elim (here_or_apart place session slot) [
     | inl here ↦
         let there : kept_in w place.session place.slot ≡ Some k =
-            subst (λ n. kept_in w n place.slot ≡ Some k) (sym here.0) (subst (λ m. kept_in w session m ≡ Some k) (sym here.1) keeps) in
+        subst (λ n. kept_in w n place.slot ≡ Some k) (sym here.0) (subst (λ m. kept_in w session m ≡ Some k) (sym here.1) keeps) in
         let both = sym kept_now ∙ there in
         inr (here.0, here.1, sym (some_is _ k both))
     | inr apart ↦ inl (ap (option_and_then kept_at) (sym (slot_before session slot apart)) ∙ keeps)
@@ -113,8 +113,8 @@ module _ (place : Place) (root : ℕ) (reply : List ℕ) (v w : SessionTable) (s
         (omega (arith, last_before, last_now, below_at most v below place.session place.slot s found, small)))
     | inr apart ↦
         let same : last_in w session slot ≡ last_in v session slot =
-            ap (λ o. last_at o (nat_le session w.sessions_made)) (slot_before session slot apart)
-            ∙ ap (λ n. last_at (slot_in (session_numbered v.sessions session) slot) (nat_le session n)) moves.made in
+        ap (λ o. last_at o (nat_le session w.sessions_made)) (slot_before session slot apart)
+        ∙ ap (λ n. last_at (slot_in (session_numbered v.sessions session) slot) (nat_le session n)) moves.made in
         omega (arith, same)
   ]
 

@@ -1,15 +1,15 @@
 -- Clients and sessions are made and ended without a slot that moves.
-use Rattle.std.proofs.Common.{◌≡◌, inl, inr, ℕ, suc, ◌+◌, ◌<◌, ◌≤◌, Bool, true, false, List, [], ◌∷◌, ◌++◌, length, Option, Some, None, refl, sym, ap, subst, ◌∙◌, arith}
+use Rattle.std.proofs.Common.{◌≡◌, inl, inr, ℕ, ◌+◌, Bool, true, false, List, [], ◌∷◌, ◌++◌, length, Option, Some, None, refl, sym, ap, ◌∙◌, arith}
 use Rattle.std.specs.Prelude.{◌==◌, ◌||◌, filter, not, nat_le, option_to_list, if◌then◌else◌}
-use Rattle.nfs_base.specs.declared.limits.TheConstants.{MOST_SESSIONS, SLOTS}
+use Rattle.nfs_base.specs.declared.limits.TheConstants.{MOST_SESSIONS}
 use Rattle.sess_slots.specs.declared.answers.Back.{Back}
 use Rattle.sess_slots.specs.declared.client.Client.{Client}
 use Rattle.sess_slots.specs.declared.session.Session.{Session}
 use Rattle.sess_slots.specs.Clients.{beside, create_table, create_table_at, destroy_client_table, destroy_client_table_at, destroy_table, ended_for_room, exchange_table, exchange_table_at, has_session, is_full, known_client, new_session, old_client, session_added, with_client, with_session}
 use Rattle.sess_slots.specs.Slots.{next_number}
 use Rattle.sess_slots.specs.Table.{SessionTable, client_of_id, has_id, is_among, session_numbered, without}
-use Rattle.slot_laws.specs.Sound.{AreRising, IsSound}
-use Rattle.slot_laws.specs.Moves.{IsFresh, Rests}
+use Rattle.slot_laws.specs.Sound.{IsSound}
+use Rattle.slot_laws.specs.Moves.{Rests}
 use Rattle.slot_laws.specs.ListLaws.{append_found, filter_found, rising_append, rising_filter}
 use Rattle.slot_laws.specs.RestLaws.{rests_then}
 

@@ -1,7 +1,6 @@
 -- The slots of a session table as a wire sees them: the reply that each keeps, and the number executed last in it.
 -- RFC 8881 section 2.10.6.
 use Rattle.std.specs.Prelude.{ℕ, ◌^◌, Bool, true, false, Option, Some, None, option_map, option_and_then, nat_le}
-use Rattle.sess_slots.specs.declared.answers.Place.{Place}
 use Rattle.sess_slots.specs.declared.slot.Slot.{Slot}
 use Rattle.sess_slots.specs.Begins.{slot_of}
 use Rattle.sess_slots.specs.Table.{SessionTable}

@@ -20,7 +20,7 @@ use Rattle.compound_server.specs.Course.{Course, Performed, Service}
 use Rattle.compound_server.specs.Performing.{asks_later, done, file_done, gated, perform, placed, unless_refused, with_state}
 use Rattle.compound_server.specs.Refusals.{place_refusal, tail_refusal}
 use Rattle.compound_server.specs.declared.refusing.TailRefusal.{TailRefusal}
-use Rattle.compound_server.specs.Walking.{Walked, at_tail, goes_on, walk}
+use Rattle.compound_server.specs.Walking.{Walked, at_tail, walk}
 
 -- the sessions are the same, and none was made
 pub record HasSame (v w : SessionTable) : Type 0 where
