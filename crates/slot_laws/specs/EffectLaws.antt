@@ -118,6 +118,12 @@ turns_sound true root tag ops v w body sound t = subst (λ x. IsSound x) (sym t.
 turns_sound false root tag ops v w body sound (inl r) = runs_sound root tag ops v w body r sound
 turns_sound false root tag ops v w body sound (inr t) = t.rests.sound
 
+pub turns_few : (retry : Bool) (root : ℕ) (tag : List ℕ) (ops : List Op) (v w : SessionTable) (body : List ℕ)
+    → Turns retry root tag ops v w body → w.sessions_made ≤ suc v.sessions_made
+turns_few true root tag ops v w body t = omega (arith, ap (λ x. x.sessions_made) t.same)
+turns_few false root tag ops v w body (inl r) = omega (arith, r.moves.made)
+turns_few false root tag ops v w body (inr t) = t.rests.few
+
 pub turns_kept : (retry : Bool) (root : ℕ) (tag : List ℕ) (ops : List Op) (v w : SessionTable) (body : List ℕ) → IsSound v
     → Turns retry root tag ops v w body → (session slot : ℕ) (k : Kept) → kept_in w session slot ≡ Some k
     → (kept_in v session slot ≡ Some k) ⊎ ((retry ≡ false) × Names ops v session slot k.number × (k ≡ record { number = k.number; root = root; results = body }))

@@ -1,5 +1,5 @@
 -- What a call leaves of a session table's slots: it moves none, or one.
-use Rattle.std.specs.Prelude.{◌≡◌, ◌⊎◌, ℕ, ◌<◌, ◌≤◌, List, Some, replicate}
+use Rattle.std.specs.Prelude.{◌≡◌, ◌⊎◌, ℕ, suc, ◌<◌, ◌≤◌, List, Some, replicate}
 use Rattle.nfs_base.specs.declared.limits.TheConstants.{SLOTS}
 use Rattle.sess_slots.specs.declared.answers.Place.{Place}
 use Rattle.sess_slots.specs.declared.session.Session.{Session}
@@ -13,9 +13,10 @@ pub record IsFresh (v : SessionTable) (n : ℕ) (s : Session) : Type 0 where
   pub above : v.sessions_made < n
   pub slots : s.slots ≡ replicate SLOTS fresh_slot
 
--- No slot moves: a session that is there was there, or was just made.
+-- No slot moves: a session that is there was there, or was just made, and one is made at most.
 pub record Rests (v w : SessionTable) : Type 0 where
   pub made : v.sessions_made ≤ w.sessions_made
+  pub few : w.sessions_made ≤ suc v.sessions_made
   pub found : (n : ℕ) (s : Session) → session_numbered w.sessions n ≡ Some s → (session_numbered v.sessions n ≡ Some s) ⊎ IsFresh v n s
   pub sound : IsSound w
 

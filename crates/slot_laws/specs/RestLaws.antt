@@ -77,9 +77,11 @@ rests_below most v w rests below place = by (session_numbered w.sessions place.s
       | inr new ↦ omega (arith, (fresh_slot_at v place.session place.slot s new).1)
     ]
 
-pub rests_then : (u v w : SessionTable) → Rests u v → Rests v w → Rests u w
-rests_then u v w first second = record {
+-- once more, where no session is made then
+pub rests_then : (u v w : SessionTable) → Rests u v → Rests v w → w.sessions_made ≡ v.sessions_made → Rests u w
+rests_then u v w first second same = record {
   made = omega (arith, first.made, second.made);
+  few = omega (arith, first.few, same);
   found = λ n s e. elim (second.found n s e) [
     | inl before ↦ first.found n s before
     | inr new ↦ inr (record { above = omega (arith, new.above, first.made); slots = new.slots })

@@ -18,6 +18,7 @@ use Rattle.slot_laws.specs.RestLaws.{rests_then}
 pub rests_same : (v w : SessionTable) → IsSound v → w.sessions ≡ v.sessions → w.sessions_made ≡ v.sessions_made → Rests v w
 rests_same v w sound same made = record {
   made = omega (arith, made);
+  few = omega (arith, made);
   found = λ n s e. inl (ap (λ xs. session_numbered xs n) (sym same) ∙ e);
   sound = record {
     numbers = rw (same, made) sound.numbers;
@@ -31,6 +32,7 @@ rests_itself v sound = rests_same v v sound refl refl
 rests_filter : (test : Session → Bool) (v w : SessionTable) → IsSound v → w.sessions ≡ filter test v.sessions → w.sessions_made ≡ v.sessions_made → Rests v w
 rests_filter test v w sound is made = record {
   made = omega (arith, made);
+  few = omega (arith, made);
   found = λ n s e. inl (before n s e);
   sound = record {
     numbers = rw (is, made) (rising_filter test 1 v.sessions v.sessions_made sound.numbers);
@@ -45,6 +47,7 @@ rests_added : (client : ℕ) (back : Option Back) (v w : SessionTable) → IsSou
     → w.sessions ≡ v.sessions ++ new_session (v.sessions_made + 1) client back ∷ [] → w.sessions_made ≡ v.sessions_made + 1 → Rests v w
 rests_added client back v w sound is made = record {
   made = omega (arith, made);
+  few = omega (arith, made);
   found = λ n s e. elim (append_found n v.sessions new s (ap (λ xs. session_numbered xs n) (sym is) ∙ e)) [
     | inl before ↦ inl before
     | inr added ↦ inr (record { above = omega (arith, added.0); slots = ap (λ (x : Session). x.slots) (sym added.1) })
@@ -91,6 +94,7 @@ session_rests table c client sequence asked back sound =
     rests_then table added (with_session table c client sequence asked back) first
     (rests_filter (λ s. not (is_among (option_to_list (old_client table.clients c)) s.client)) added
     (with_session table c client sequence asked back) first.sound refl refl)
+    refl
 
 create_room : (full : Bool) (table : SessionTable) (c : Client) (client sequence : ℕ) (asked : Bool) (back : Option Back) → IsSound table
     → Rests table (if full then table else with_session table c client sequence asked back)

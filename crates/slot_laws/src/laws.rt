@@ -10,12 +10,13 @@ ghost use Rattle.slot_laws.specs.Turns.{Turns, is_retry};
 ghost use Rattle.slot_laws.specs.View.{kept_in, last_in, past_all};
 
 /// A server's sessions, from the first on: numbers are of one session each, each session has its sixteen slots, and a
-/// COMPOUND raises a slot's number by one at most.
+/// COMPOUND makes one session at most and raises a slot's number by one at most.
 pub fn sessions_are_sound<X, C>()
     ensures first { (boot : ℕ) → IsSound (no_clients boot) }
     ensures none_kept { (boot session slot : ℕ) → kept_in (no_clients boot) session slot ≡ None }
     ensures from_zero { (boot : ℕ) → AreBelow 0 (no_clients boot) }
     ensures sound { EachCompound X C (λ who c v g. IsSound g.state.sessions) }
+    ensures few { EachCompound X C (λ who c v g. g.state.sessions.sessions_made ≤ suc v.sessions_made) }
     ensures below { EachCompound X C (λ who c v g. (most : ℕ) → AreBelow most v → AreBelow (suc most) g.state.sessions) }
 {}
 
