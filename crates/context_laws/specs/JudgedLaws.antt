@@ -19,26 +19,24 @@ use Rattle.rpc_msg.specs.declared.reply.Denial.TheVariants.{Mismatch}
 use Rattle.rpc_msg.specs.declared.reply.ReplyHead.{ReplyHead}
 use Rattle.rpc_msg.specs.declared.reply.Stat.{Stat}
 use Rattle.rpc_msg.specs.declared.reply.Stat.TheVariants.{ProcUnavail}
-use Rattle.gss_ctx.specs.Admission.{Row, first_failing, is_served, number_rows, service_rows, seen_answer, body_answer, unless_denied, past_number, on_entry, on_cred, unseen, verdict_of}
+use Rattle.gss_ctx.specs.Admission.{Row, first_failing, is_served, number_rows, service_rows, body_answer, unless_denied, past_number, on_entry, on_cred, unseen, verdict_of}
 use Rattle.gss_ctx.specs.Forms.{create}
 use Rattle.gss_ctx.specs.Seals.{Mic, cred_of, unsealed}
 use Rattle.gss_ctx.specs.Table.{ContextTable, context_of, entry_of, is_named, live_entry}
 use Rattle.gss_ctx.specs.declared.admit.Admit.{Admit}
 use Rattle.gss_ctx.specs.declared.admit.Admit.TheVariants as admits
-use Rattle.gss_ctx.specs.declared.admit.Verdict.{Verdict}
 use Rattle.gss_ctx.specs.declared.context.Entry.{Entry}
 use Rattle.gss_ctx.specs.declared.create.Create.{Create}
 use Rattle.gss_ctx.specs.declared.numbers.TheConstants.{RPCSEC_GSS_CREATE}
 use Rattle.gss_mech.specs.declared.mechanism.TheConstants.{INITIATOR}
 use Rattle.rpc_calls.specs.Judging.{by_answer, by_verdict, call_fault, call_judged, context_call, create_with, gss_call, init_call, judged_of, other_call, paired, record_read, reply_read, under_of, unless_fault, without_context}
 use Rattle.rpc_calls.specs.declared.call.Call.{Call}
-use Rattle.rpc_calls.specs.declared.call.Judged.{Judged}
 use Rattle.rpc_calls.specs.declared.call.Judged.TheVariants as judged
 use Rattle.rpc_calls.specs.declared.call.Program.{Program}
 use Rattle.rpc_calls.specs.declared.call.Under.{Under}
 use Rattle.rpc_calls.specs.declared.call.What.{What}
 use Rattle.rpc_calls.specs.declared.call.What.TheVariants as whats
-use Rattle.wire_spelling.specs.Calls.{ReadCall, asks_for, begun_by, call_in, call_read, creates, end_of, is_create}
+use Rattle.wire_spelling.specs.Calls.{asks_for, begun_by, call_in, call_read, creates, is_create}
 
 -- ---- a record that is judged to be a call is read as one
 

@@ -1,6 +1,6 @@
 -- The contexts that INIT and CREATE make (RFC 2203 section 5.2.2, RFC 7861 section 2.7): each has the next number, and a root
 -- of its own or the context that asked for it.
-use Rattle.std.proofs.Common.{◌≡◌, ◌⊎◌, inl, inr, ℕ, ◌+◌, ◌<◌, ◌^◌, Bool, true, false, List, Option, Some, None, refl, sym, ◌∙◌, ap, subst, arith}
+use Rattle.std.proofs.Common.{◌≡◌, ◌⊎◌, inl, inr, ℕ, ◌+◌, ◌<◌, ◌^◌, Bool, true, false, List, Option, Some, None, refl, sym, ◌∙◌, ap, subst}
 use Rattle.std.specs.Prelude.{IsSome}
 use Rattle.std.proofs.lemmas.Bool.{false≢true}
 use Rattle.streams.specs.declared.draws.Drawn.{Drawn}
@@ -10,14 +10,14 @@ use Rattle.rpc_msg.specs.declared.call.CallHead.{CallHead}
 use Rattle.gss_mech.specs.Tokens.{IsSized}
 use Rattle.gss_mech.specs.declared.mechanism.Accepted.{Accepted}
 use Rattle.gss_ctx.specs.Forms.{create_result}
-use Rattle.gss_ctx.specs.Making.{Inits, InitsUnless, InitsWith, Makes, accepted_context, child_context, made_of}
+use Rattle.gss_ctx.specs.Making.{Inits, InitsUnless, InitsWith, Makes, accepted_context, child_context}
 use Rattle.gss_ctx.specs.Seals.{Mic}
 use Rattle.gss_ctx.specs.Table.{ContextTable, context_of, handle_of, is_full, with_new}
 use Rattle.gss_ctx.specs.declared.context.Context.{Context}
 use Rattle.gss_ctx.specs.declared.making.Inited.{Inited}
-use Rattle.gss_ctx.specs.declared.making.Inited.TheVariants.{Made, Refused}
-use Rattle.rpc_calls.specs.Answers.{counted, result_by, result_reply, result_with}
-use Rattle.rpc_calls.specs.Making.{AnswersInit, Created, create_answer, create_told, created, created_by, created_of, created_unless, init_answer, init_made}
+use Rattle.gss_ctx.specs.declared.making.Inited.TheVariants.{Refused}
+use Rattle.rpc_calls.specs.Answers.{counted, result_by, result_with}
+use Rattle.rpc_calls.specs.Making.{AnswersInit, Created, create_answer, create_told, created, created_by, created_of, created_unless, init_made}
 use Rattle.rpc_calls.specs.declared.call.Call.{Call}
 use Rattle.rpc_calls.specs.declared.call.Under.{Under}
 use Rattle.rpc_calls.specs.declared.contexts.InitAnswer.{InitAnswer}

@@ -1,5 +1,5 @@
 -- What becomes of contexts by what calls do to them: each keeps its root, or is gone, and one that comes has a new number.
-use Rattle.std.proofs.Common.{◌≡◌, ◌⊎◌, inl, inr, ℕ, ◌+◌, ◌<◌, ◌≤◌, Bool, true, false, List, [], ◌∷◌, ◌++◌, map, Option, Some, None, refl, sym, ◌∙◌, ap, subst, arith}
+use Rattle.std.proofs.Common.{◌≡◌, ◌⊎◌, inl, inr, ℕ, ◌+◌, ◌≤◌, Bool, true, false, List, [], ◌∷◌, ◌++◌, map, Option, Some, None, refl, sym, ◌∙◌, ap, subst, arith}
 use Rattle.std.specs.Prelude.{◌==◌, ◌||◌, ◌≢◌, if◌then◌else◌, filter}
 use Rattle.std.specs.List.{AllByRecursion}
 use Rattle.std.proofs.lemmas.Bool.{eqb-true, eq-eqb, ne_eqb}
@@ -60,9 +60,10 @@ module _ {P : Type 0} (f : Entry P → Entry P) (number_same : (e : Entry P) →
 
   distinct_mapped : (es : List (Entry P)) → AreDistinct es → AreDistinct (map f es)
   distinct_mapped [] distinct = tt
-  distinct_mapped (e ∷ es) distinct =
-      (subst (λ (k : ℕ). AllByRecursion (λ o. o.number ≢ k) (map f es)) (sym (number_same e)) (all_mapped (λ k. k ≢ e.number) es distinct.0),
-      distinct_mapped es distinct.1)
+  distinct_mapped (e ∷ es) distinct = (
+    subst (λ (k : ℕ). AllByRecursion (λ o. o.number ≢ k) (map f es)) (sym (number_same e)) (all_mapped (λ k. k ≢ e.number) es distinct.0),
+    distinct_mapped es distinct.1,
+  )
 
   pub part_mapped : (made : ℕ) (es : List (Entry P)) → AreNumbered made es → IsPart made es (map f es)
   part_mapped made es is = record {

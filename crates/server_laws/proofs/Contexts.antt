@@ -1,9 +1,9 @@
 -- The laws on contexts, of a step.
-use Rattle.std.proofs.Common.{◌≡◌, ◌⊎◌, inl, inr, ℕ, ◌≤◌, List, Option, Some, true, refl, sym, subst, arith}
+use Rattle.std.proofs.Common.{◌≡◌, ◌⊎◌, inl, inr, ℕ, ◌<◌, ◌≤◌, ◌^◌, List, [], Option, Some, true, refl, sym, subst, arith}
 use Rattle.std.specs.Prelude.{max}
 use Rattle.nfs_base.specs.declared.seal.End.{End}
 use Rattle.nfs_base.specs.declared.seal.Seal.{Seal}
-use Rattle.gss_ctx.specs.Table.{ContextTable}
+use Rattle.gss_ctx.specs.declared.context.Entry.{Entry}
 use Rattle.gss_mech.specs.declared.mechanism.Accepted.{Accepted}
 use Rattle.rpc_calls.specs.Judging.{judged_of}
 use Rattle.rpc_calls.specs.declared.call.Judged.{Judged}
@@ -14,19 +14,20 @@ use Rattle.wire_model.specs.ServerLaws.{IsMade}
 use Rattle.wire_model.specs.Spelling as spelling
 use Rattle.wire_spelling.specs.Calls.{begun_by, is_create}
 use Rattle.wire_spelling.specs.Replies.{context_in}
-use Rattle.context_laws.specs.View.{IsNewIn, root_in}
+use Rattle.context_laws.specs.View.{AreNumbered, IsNewIn, root_in}
 use Rattle.context_laws.specs.JudgedLaws.{begun_under, create_is_of, judged_fits, judged_read, judged_there}
 use Rattle.session_server.specs.Host.{Codes, HostState, Rules, Stepped}
-use Rattle.session_server.specs.Steps.{IsJudgedTurn}
+use Rattle.session_server.specs.Steps.{IsJudgedTurn, ticked}
 use Rattle.server_laws.specs.Steps.{IsStep}
-use Rattle.server_laws.specs.View.{SlotView, IsGood, seen}
+use Rattle.server_laws.specs.Good.{IsGood}
+use Rattle.server_laws.specs.View.{view}
 use Rattle.server_laws.proofs.Sealed.{Carries, TellsRoot, TellsChild, child_told, root_told, sends_none}
 use Rattle.server_laws.proofs.Turns.{after_turn}
 
 -- a context that is new in the tables is made in the step
-made_of : {C : Type 0} (old new : ContextTable C) (slots slots' : SlotView) (number root : ℕ) → new.boot ≡ old.boot → IsNewIn old new number root
-    → IsMade (seen slots old) (seen slots' new) number root
-made_of old new slots slots' number root boot is = record {
+made_of : {X C : Type 0} (old new : HostState X C) (number root : ℕ) → new.contexts.boot ≡ old.contexts.boot → IsNewIn old.contexts new.contexts number root
+    → IsMade (view old) (view new) number root
+made_of old new number root boot is = record {
   same_boot = sym boot;
   new = let next = is.next in omega arith;
   counted = let counted = is.counted in omega arith;
@@ -42,9 +43,9 @@ module _ {X C W : Type 0} (rules : Rules X C) (codes : Codes) (accepted : List �
   pub made_rises : s.contexts.made ≤ t.host.contexts.made
   made_rises = (after_turn rules codes accepted gives conn bytes now s before after t step.good.numbered step.turn).follows.made
 
-  pub root_was_or_is_made : (slots slots' : SlotView) (number root : ℕ) → root_in t.host.contexts.entries number ≡ Some root
-      → (root_in s.contexts.entries number ≡ Some root) ⊎ IsMade (seen slots s.contexts) (seen slots' t.host.contexts) number root
-  root_was_or_is_made slots slots' number root there =
+  pub root_was_or_is_made : (number root : ℕ) → root_in t.host.contexts.entries number ≡ Some root
+      → (root_in s.contexts.entries number ≡ Some root) ⊎ IsMade (view s) (view t.host) number root
+  root_was_or_is_made number root there =
       let f = (after_turn rules codes accepted gives conn bytes now s before after t step.good.numbered step.turn).follows in
       elim (f.roots number root there) [
         | inl old ↦ inl old
@@ -74,12 +75,12 @@ module _ {X C W : Type 0} (rules : Rules X C) (codes : Codes) (accepted : List �
       root_told rules codes accepted gives (max s.second now) conn call s before after step.good.numbered call.what t
       (begun_under codes.mic (max s.second now) programs.NFS bytes s.contexts call accepts whose by r begun) turn reply seal c
 
-  pub init_law : (slots slots' : SlotView) (accepts : List ℕ → Option (List ℕ)) (whose : List ℕ → Option End) (by : End) (reply : List ℕ) (seal : Seal)
+  pub init_law : (accepts : List ℕ → Option (List ℕ)) (whose : List ℕ → Option End) (by : End) (reply : List ℕ) (seal : Seal)
       → begun_by accepts whose bytes ≡ Some by → Carries t.out.sent reply seal
-      → (seal.boot ≡ t.host.contexts.boot) × IsMade (seen slots s.contexts) (seen slots' t.host.contexts) seal.number seal.number
-  init_law slots slots' accepts whose by reply seal begun c =
+      → (seal.boot ≡ t.host.contexts.boot) × IsMade (view s) (view t.host) seal.number seal.number
+  init_law accepts whose by reply seal begun c =
       let told = root_judged (judged_of codes.mic (max s.second now) programs.NFS bytes s.contexts) refl step.turn accepts whose by begun reply seal c in
-      (told.0, made_of s.contexts t.host.contexts slots slots' seal.number seal.number (sym boot_stays) told.1)
+      (told.0, made_of s t.host seal.number seal.number (sym boot_stays) told.1)
 
   child_judged : (told : Judged) → judged_of codes.mic (max s.second now) programs.NFS bytes s.contexts ≡ told
       → IsJudgedTurn told rules codes accepted gives (max s.second now) conn s before after t → is_create bytes ≡ true → TellsChild s t
@@ -96,10 +97,22 @@ module _ {X C W : Type 0} (rules : Rules X C) (codes : Codes) (accepted : List �
       (λ under under_is. judged_there codes.mic (max s.second now) programs.NFS bytes s.contexts call under r under_is)
       call.what t (create_is_of codes.mic (max s.second now) programs.NFS bytes s.contexts call r creates) turn reply seal child c given
 
-  pub create_law : (slots slots' : SlotView) (reply : List ℕ) (seal : Seal) (child : spelling.Context)
+  pub create_law : (reply : List ℕ) (seal : Seal) (child : spelling.Context)
       → is_create bytes ≡ true → Carries t.out.sent reply seal → context_in reply ≡ Some child
       → (child.boot ≡ t.host.contexts.boot) × (seal.boot ≡ t.host.contexts.boot)
-      × IsMade (seen slots s.contexts) (seen slots' t.host.contexts) child.number seal.number
-  create_law slots slots' reply seal child creates c given =
+      × IsMade (view s) (view t.host) child.number seal.number
+  create_law reply seal child creates c given =
       let told = child_judged (judged_of codes.mic (max s.second now) programs.NFS bytes s.contexts) refl step.turn creates reply seal child c given in
-      (told.0, told.1, made_of s.contexts t.host.contexts slots slots' child.number seal.number (sym boot_stays) told.2)
+      (told.0, told.1, made_of s t.host child.number seal.number (sym boot_stays) told.2)
+
+-- ---- a server without contexts, and a second that comes by itself
+
+pub empty_good : {X C : Type 0} (s : HostState X C) → s.contexts.boot < 2 ^ 32 → s.contexts.made ≤ s.steps → s.contexts.entries ≡ [] → IsGood s
+empty_good {X} {C} s boot counted none = record {
+  boot = boot;
+  counted = counted;
+  numbered = subst (λ (es : List (Entry C)). AreNumbered s.contexts.made es) (sym none) (record { given = tt; distinct = tt });
+}
+
+pub tick_good : {X C : Type 0} (rules : Rules X C) (now : ℕ) (s : HostState X C) → IsGood s → IsGood (ticked rules now s)
+tick_good rules now s good = record { boot = good.boot; counted = let le = good.counted in omega arith; numbered = good.numbered }

@@ -30,7 +30,7 @@ use Rattle.session_server.specs.declared.extending.Judgement.{Judgement}
 use Rattle.session_server.specs.declared.extending.Judgement.TheVariants as judgements
 use Rattle.session_server.specs.Host.{Codes, HostState, Rules, Stepped}
 use Rattle.session_server.specs.Steps.{IsCompoundTurn, IsWhatTurn, going_back, granted, judged_create, judgement_under, reply_seal}
-use Rattle.server_laws.specs.View.{sent_of}
+use Rattle.server_laws.specs.Acts.{sent_of}
 
 -- ---- what is sent where one record is
 

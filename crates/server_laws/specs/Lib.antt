@@ -1,4 +1,5 @@
-pub mod Told
 pub mod View
+pub mod Acts
+pub mod Good
 pub mod Steps
 pub mod ContextLaws

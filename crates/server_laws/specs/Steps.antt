@@ -7,7 +7,7 @@ use Rattle.wire_xdr.specs.Cursor.{IsBytes}
 use Rattle.session_server.specs.declared.host.TheConstants.{MOST_STEPS}
 use Rattle.session_server.specs.Host.{Codes, HostState, Rules, Stepped}
 use Rattle.session_server.specs.Steps.{IsTurn}
-use Rattle.server_laws.specs.View.{IsGood}
+use Rattle.server_laws.specs.Good.{IsGood}
 
 -- The server is as it should be, has steps left, and takes a record.
 pub record IsStep {X C W : Type 0} (rules : Rules X C) (codes : Codes) (accepted : List ℕ → List ℕ → Option Accepted) (gives : W → Drawn → W → Type 0)

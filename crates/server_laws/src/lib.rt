@@ -1,10 +1,10 @@
 //! The laws of a wire that every server obeys in every step (`wire_model`'s `ServerLaws`), whatever a particular server adds.
 //!
-//! There is no code here. `specs/View.antt` says how a server looks from outside, and what it does in a step; `specs/Told.antt`
-//! what it tells anew; `specs/Steps.antt` what a step is. The steps are those of `session_server`'s `IsTurn`, which its public
+//! There is no code here. `specs/View.antt` says how a server looks from outside, `specs/Acts.antt` what it does in a
+//! step, `specs/Steps.antt` what a step is. The steps are those of `session_server`'s `IsTurn`, which its public
 //! call cites. [`contexts_stay`] and [`contexts_are_made`] are the laws on contexts, which `specs/ContextLaws.antt` states.
 #![tactic(auto)]
 
 mod laws;
 
-pub use laws::{contexts_are_made, contexts_stay};
+pub use laws::{contexts_are_made, contexts_rest, contexts_stay};

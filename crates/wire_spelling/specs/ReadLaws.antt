@@ -173,3 +173,13 @@ pub begun_is : (xid window : ℕ) (handle token verifier : List ℕ) → xid < 2
 begun_is xid window handle token verifier small len =
     reply_is (Accepted xid (code_auth verifier) Success) (init_result.spell (init_told (Made handle window token verifier)))
     (sealed_fits xid verifier Success small len success_fits)
+
+-- ---- no record is both
+
+pub call_is_no_reply : (head : CallHead) (body : List ℕ) → is_reply (call.spell head ++ body) ≡ false
+call_is_no_reply head body =
+    ap (λ (k : Option ℕ). is_read (unless_other 0 k (behind (reply.read (first (call.spell head ++ body)))))) (call_kind head body)
+
+pub reply_is_no_call : (head : ReplyHead) (body : List ℕ) → call_in (reply.spell head ++ body) ≡ None
+reply_is_no_call head body =
+    ap (λ (k : Option ℕ). call_read (reply.spell head ++ body) (unless_other 1 k (behind (call.read (first (reply.spell head ++ body)))))) (reply_kind head body)

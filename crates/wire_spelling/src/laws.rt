@@ -5,9 +5,10 @@ ghost use Rattle.gss_ctx.specs.Forms.{create_result};
 ghost use Rattle.gss_ctx.specs.Seals.{reply_front, sealed_body, sealed_reply, unsealed};
 ghost use Rattle.rpc_calls.specs.Answers.{denial_reply, plain_front};
 ghost use Rattle.rpc_calls.specs.Making.{create_told, init_reply};
-ghost use Rattle.rpc_msg.specs.Heads.{call, denial, stat};
+ghost use Rattle.rpc_msg.specs.Heads.{call, denial, reply, stat};
 ghost use Rattle.rpc_msg.specs.declared.call.CallHead.{CallHead};
 ghost use Rattle.rpc_msg.specs.declared.reply.Denial.{Denial};
+ghost use Rattle.rpc_msg.specs.declared.reply.ReplyHead.{ReplyHead};
 ghost use Rattle.rpc_msg.specs.declared.reply.Stat.{Stat};
 ghost use Rattle.sess_slots.specs.Table.{session_id};
 ghost use Rattle.gss_ctx.specs.declared.making.Inited.{Inited};
@@ -25,6 +26,8 @@ use gss_mech::Mechanism;
 pub fn calls_read_back<M: Mechanism>()
     ensures head { (head : CallHead) (body : List ℕ) → call.Fits head
         → call_in (call.spell head ++ body) ≡ Some (record { head = head; body = body }) }
+    // It is no reply.
+    ensures no_reply { (head : CallHead) (body : List ℕ) → is_reply (call.spell head ++ body) ≡ false }
     ensures xid { (head : CallHead) (body : List ℕ) → call.Fits head → xid_in (call.spell head ++ body) ≡ head.xid }
     ensures ops { (key : List ℕ) (side : ℕ) (head : CallHead) (seq : ℕ) (args : List ℕ) → call.Fits head → length args + 4 < 4294967296
         → ops_of (call.spell head ++ sealed_body (M.mic_of key side) seq args) ≡ args }
@@ -37,6 +40,8 @@ pub fn calls_read_back<M: Mechanism>()
 /// What a server answers is a reply: a denial, a failed call, the answer to an INIT, and a result, which is the one that was
 /// sealed. Of the answer to a CREATE the context that it gives is the one that was made, and none where none was.
 pub fn replies_read_back<M: Mechanism>()
+    // No reply is a call.
+    ensures no_call { (head : ReplyHead) (body : List ℕ) → call_in (reply.spell head ++ body) ≡ None }
     ensures denial { (xid : ℕ) (why : Denial) → xid < 2 ^ 32 → denial.Fits why → is_reply (denial_reply xid why) ≡ true }
     ensures plain { (xid : ℕ) (what : Stat) (body : List ℕ) → xid < 2 ^ 32 → stat.Fits what → is_reply (plain_front xid what ++ body) ≡ true }
     ensures failure { (key : List ℕ) (head : CallHead) (seq : ℕ) (what : Stat) → call.Fits head → stat.Fits what

@@ -3,8 +3,8 @@ use Rattle.server_laws.proofs.laws.contexts_are_made.Goals as goal
 
 pub returns : goal.returns
 returns g c = record {
-  init = λ mech conn bytes now s before after t step slots slots' accepts whose by reply seal begun sends.
-      init_law _ _ _ _ conn bytes now s before after t step slots slots' accepts whose by reply seal begun sends;
-  create = λ mech conn bytes now s before after t step slots slots' reply seal child creates sends given.
-      create_law _ _ _ _ conn bytes now s before after t step slots slots' reply seal child creates sends given;
+  init = λ mech conn bytes now s before after t step accepts whose by reply seal begun sends.
+      init_law _ _ _ _ conn bytes now s before after t step accepts whose by reply seal begun sends;
+  create = λ mech conn bytes now s before after t step reply seal child creates sends given.
+      create_law _ _ _ _ conn bytes now s before after t step reply seal child creates sends given;
 }
