@@ -23,7 +23,7 @@ use Rattle.rpc_calls.specs.declared.call.What.{What}
 use Rattle.rpc_calls.specs.declared.call.What.TheVariants as whats
 use Rattle.rpc_msg.specs.GssCred.{gss_cred}
 use Rattle.rpc_msg.specs.Heads as heads
-use Rattle.rpc_msg.specs.Messages.{head_told}
+use Rattle.rpc_msg.specs.Messages.{behind, first, head_told, kind_of, unless_other}
 use Rattle.rpc_msg.specs.declared.call.CallHead.{CallHead}
 use Rattle.rpc_msg.specs.declared.gss_cred.GssCred.{GssCred}
 use Rattle.rpc_msg.specs.declared.messages.RpcFault.{RpcFault}
@@ -34,6 +34,7 @@ use Rattle.rpc_msg.specs.declared.reply.ReplyHead.{ReplyHead}
 use Rattle.rpc_msg.specs.declared.reply.Stat.{Stat}
 use Rattle.rpc_msg.specs.declared.reply.Stat.TheVariants.{ProcUnavail, ProgMismatch, ProgUnavail}
 use Rattle.wire_xdr.specs.All.{value_of}
+use Rattle.wire_xdr.specs.Cursor.{Cursor, IsBytes}
 use Rattle.slot_calls.specs.AdmittedLaws.{carried_is, live_there, verdict_admits}
 use Rattle.wire_model.specs.Spelling.{SlotName}
 use Rattle.wire_spelling.specs.Calls.{asks_for, call_in, call_read}
@@ -336,3 +337,49 @@ named_opens mic now bytes table call name judged named =
     let cred = asked_cred r.head (cred_of r.head) refl parts.1 in
     subst (λ (c : Call). IsOpen c.what) r.call_is
     (named_call mic now programs.NFS r.head body table cred.0 cred.1 cred.2 (eqb-true r.head.proc PROC_COMPOUND (and_parts _ _ parts.0).1))
+
+-- ---- the head of a call has a spelling
+
+gss_head : {P : Type 0} (mic : Mic) (now : ℕ) (program : Program) (head : CallHead) (body : List ℕ) (table : ContextTable P) (cred : Option GssCred)
+    → (gss_call mic now program head body table cred).head ≡ head
+gss_head mic now program head body table None = refl
+gss_head mic now program head body table (Some cred) =
+    elim (cred.gss_proc == RPCSEC_GSS_INIT) as (λ b. (if b then without_context head (init_call program head cred body) else by_verdict program head cred.gss_proc (verdict_of mic now head body table)).head ≡ head) [
+      | true ↦ refl
+      | false ↦ refl
+    ]
+
+flavor_head : {P : Type 0} (mic : Mic) (now : ℕ) (program : Program) (head : CallHead) (body : List ℕ) (table : ContextTable P) (gss right : Bool)
+    → (if right then (if gss then gss_call mic now program head body table (cred_of head) else without_context head (other_call program head body))
+    else without_context head (whats.Denied (Mismatch RPC_VERSION RPC_VERSION))).head ≡ head
+flavor_head mic now program head body table true true = gss_head mic now program head body table (cred_of head)
+flavor_head mic now program head body table false true = refl
+flavor_head mic now program head body table gss false = refl
+
+judged_head : {P : Type 0} (mic : Mic) (now : ℕ) (program : Program) (head : CallHead) (body : List ℕ) (table : ContextTable P)
+    → (call_judged mic now program head body table).head ≡ head
+unfolding call_judged
+judged_head mic now program head body table = flavor_head mic now program head body table (head.cred.flavor == RPCSEC_GSS) (head.rpcvers == RPC_VERSION)
+
+behind_ok : (told : Result (CallHead × Cursor) ℕ) (head : CallHead) (at : ℕ) → behind told ≡ Ok (head, at) → (c : Cursor) × (told ≡ Ok (head, c))
+behind_ok (Ok read) head at h = (read.1, let same : read.0 ≡ head = head_is read head at h in ap (λ (x : CallHead). Ok (x, read.1)) same)
+  where
+    head_is : (read : CallHead × Cursor) (head : CallHead) (at : ℕ) → ◌≡◌ {A = Result (CallHead × ℕ) RpcFault} (Ok (read.0, read.1.at)) (Ok (head, at)) → read.0 ≡ head
+    head_is read head at h = let both : (read.0, read.1.at) ≡ (head, at) = cc in ap (λ (p : CallHead × ℕ). p.0) both
+behind_ok (Err place) head at h = absurd cc
+
+other_ok : (other : ℕ) (kind : Option ℕ) (told : Result (CallHead × ℕ) RpcFault) (read : CallHead × ℕ) → unless_other other kind told ≡ Ok read → told ≡ Ok read
+other_ok other None told read h = h
+other_ok other (Some kind) told read h = by (kind == other) h
+  where
+    by : (b : Bool) → (if b then Err (OtherKind kind) else told) ≡ Ok read → told ≡ Ok read
+    by true h = absurd cc
+    by false h = h
+
+pub call_fits : {P : Type 0} (mic : Mic) (now : ℕ) (bytes : List ℕ) (table : ContextTable P) (call : Call) → IsBytes bytes
+    → judged_of mic now programs.NFS bytes table ≡ judged.Call call → heads.call.Fits call.head
+call_fits mic now bytes table call fits judged =
+    let r = call_is_read mic now programs.NFS bytes table call (heads_call bytes) refl judged in
+    let read = behind_ok (heads.call.read (first bytes)) r.head r.at (other_ok REPLY (kind_of bytes) _ (r.head, r.at) r.told) in
+    let same : call.head ≡ r.head = ap (λ (c : Call). c.head) (sym r.call_is) ∙ judged_head mic now programs.NFS r.head (drop r.at bytes) table in
+    subst heads.call.Fits (sym same) (heads.call.lawful.takes (first bytes) r.head read.0 fits read.1).1

@@ -1,3 +1,4 @@
 pub mod Asked
 pub mod AdmittedLaws
 pub mod JudgedLaws
+pub mod BytesLaws
