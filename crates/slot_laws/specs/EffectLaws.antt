@@ -109,7 +109,7 @@ module _ (root : ℕ) (ops : List Op) (v w : SessionTable) (body : List ℕ) (r 
 
 -- ---- each of them
 
-below_later : (most : ℕ) (v : SessionTable) → AreBelow most v → AreBelow (suc most) v
+pub below_later : (most : ℕ) (v : SessionTable) → AreBelow most v → AreBelow (suc most) v
 below_later most v below place = below_more most (slot_in (session_numbered v.sessions place.session) place.slot) (below place)
 
 pub turns_sound : (retry : Bool) (root : ℕ) (tag : List ℕ) (ops : List Op) (v w : SessionTable) (body : List ℕ) → IsSound v
