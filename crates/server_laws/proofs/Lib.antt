@@ -1,3 +1,9 @@
 pub mod Turns
 pub mod Sealed
 pub mod Contexts
+pub mod SlotSteps
+pub mod SlotTold
+pub mod SlotReplies
+pub mod SlotKept
+pub mod SlotLaws
+pub mod SlotDutyLaws

@@ -3,3 +3,5 @@ pub mod Acts
 pub mod Good
 pub mod Steps
 pub mod ContextLaws
+pub mod Slots
+pub mod SlotDuties

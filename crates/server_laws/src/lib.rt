@@ -2,9 +2,12 @@
 //!
 //! There is no code here. `specs/View.antt` says how a server looks from outside, `specs/Acts.antt` what it does in a
 //! step, `specs/Steps.antt` what a step is. The steps are those of `session_server`'s `IsTurn`, which its public
-//! call cites. [`contexts_stay`] and [`contexts_are_made`] are the laws on contexts, which `specs/ContextLaws.antt` states.
+//! call cites. [`contexts_stay`] and [`contexts_are_made`] are the laws on contexts, which `specs/ContextLaws.antt` states;
+//! [`slots_are_kept`] those on slots, in `specs/SlotDuties.antt`.
 #![tactic(auto)]
 
 mod laws;
+mod slots;
 
 pub use laws::{contexts_are_made, contexts_rest, contexts_stay};
+pub use slots::{slots_are_kept, slots_rest};
