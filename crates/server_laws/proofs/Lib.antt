@@ -7,3 +7,4 @@ pub mod SlotReplies
 pub mod SlotKept
 pub mod SlotLaws
 pub mod SlotDutyLaws
+pub mod LawfulSteps

@@ -5,3 +5,4 @@ pub mod Steps
 pub mod ContextLaws
 pub mod Slots
 pub mod SlotDuties
+pub mod Lawful

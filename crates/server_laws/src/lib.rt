@@ -3,11 +3,13 @@
 //! There is no code here. `specs/View.antt` says how a server looks from outside, `specs/Acts.antt` what it does in a
 //! step, `specs/Steps.antt` what a step is. The steps are those of `session_server`'s `IsTurn`, which its public
 //! call cites. [`contexts_stay`] and [`contexts_are_made`] are the laws on contexts, which `specs/ContextLaws.antt` states;
-//! [`slots_are_kept`] those on slots, in `specs/SlotDuties.antt`.
+//! [`slots_are_kept`] those on slots, in `specs/SlotDuties.antt`; [`steps_are_lawful`] all that `ServerLaws` asks.
 #![tactic(auto)]
 
+mod lawful;
 mod laws;
 mod slots;
 
+pub use lawful::{rests_are_lawful, steps_are_lawful};
 pub use laws::{contexts_are_made, contexts_rest, contexts_stay};
 pub use slots::{slots_are_kept, slots_rest};
