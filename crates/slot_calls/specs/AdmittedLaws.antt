@@ -1,10 +1,10 @@
 -- What is known of a call that a context admitted.
 use Rattle.std.proofs.Common.{◌≡◌, ℕ, Bool, true, false, cond, List, [], ◌∷◌, Option, Some, None, refl, sym, ap, subst, ◌∙◌}
-use Rattle.std.specs.Prelude.{◌==◌, ◌≢◌, find, take, drop, bytes_eq, if◌then◌else◌}
+use Rattle.std.specs.Prelude.{◌==◌, ◌≢◌, find, if◌then◌else◌}
 use Rattle.std.specs.List.{AllByRecursion}
 use Rattle.std.proofs.lemmas.Bool.{eq-eqb, ne_eqb}
 use Rattle.gss_ctx.specs.Admission.{Row, body_answer, first_failing, is_served, number_rows, on_cred, on_entry, past_number, service_rows, unless_denied, unseen, verdict_of}
-use Rattle.gss_ctx.specs.Seals.{Mic, cred_of, payload_of, two_opaques, unsealed}
+use Rattle.gss_ctx.specs.Seals.{Mic, cred_of, unsealed}
 use Rattle.gss_ctx.specs.Table.{AreDistinct, ContextTable, entry_of, is_named, live_entry}
 use Rattle.gss_ctx.specs.declared.admit.Admit.{Admit}
 use Rattle.gss_ctx.specs.declared.admit.Admit.TheVariants.{Admitted, Denied}
@@ -13,9 +13,6 @@ use Rattle.gss_mech.specs.declared.mechanism.TheConstants.{INITIATOR}
 use Rattle.rpc_msg.specs.declared.call.CallHead.{CallHead}
 use Rattle.rpc_msg.specs.declared.gss_cred.GssCred.{GssCred}
 use Rattle.rpc_msg.specs.declared.numbers.TheConstants.{AUTH_BADCRED}
-use Rattle.wire_xdr.specs.All.{value_of}
-use Rattle.wire_xdr.specs.Words.{word_bytes}
-use Rattle.wire_spelling.specs.Slots.{carried_by, carried_in}
 
 -- ---- rows that fail
 
@@ -104,22 +101,6 @@ module _ {P : Type 0} (mic : Mic) (now : ℕ) (head : CallHead) (body : List ℕ
       let here : (on_cred mic now head body table (Some cred)).answer ≡ Admitted n s args =
       ap (λ c. (on_cred mic now head body table c).answer) (sym is) ∙ h in
       served_admits (is_served cred) cred here
-
--- ---- what its body carries
-
-carried_at : (code : List ℕ → List ℕ) (seq : ℕ) (parts : Option (List ℕ × List ℕ)) (args : List ℕ) → payload_of code seq parts ≡ Some args
-    → carried_by parts ≡ args
-carried_at code seq None args h = absurd cc
-carried_at code seq (Some parts) args h = by (bytes_eq parts.1 (code parts.0)) (bytes_eq (take 4 parts.0) (word_bytes seq)) h
-  where
-    by : (right same : Bool) → (if right then (if same then Some (drop 4 parts.0) else None) else None) ≡ Some args → drop 4 parts.0 ≡ args
-    by true true h = some_is (drop 4 parts.0) args h
-    by true false h = absurd cc
-    by false same h = absurd cc
-
-pub carried_is : (code : List ℕ → List ℕ) (seq : ℕ) (body args : List ℕ) → unsealed code seq body ≡ Some args → carried_in body ≡ args
-unfolding unsealed
-carried_is code seq body args h = carried_at code seq (value_of two_opaques body) args h
 
 -- ---- its context is there
 

@@ -35,9 +35,10 @@ use Rattle.rpc_msg.specs.declared.reply.Stat.{Stat}
 use Rattle.rpc_msg.specs.declared.reply.Stat.TheVariants.{ProcUnavail, ProgMismatch, ProgUnavail}
 use Rattle.wire_xdr.specs.All.{value_of}
 use Rattle.wire_xdr.specs.Cursor.{Cursor, IsBytes}
-use Rattle.slot_calls.specs.AdmittedLaws.{carried_is, live_there, verdict_admits}
+use Rattle.slot_calls.specs.AdmittedLaws.{live_there, verdict_admits}
 use Rattle.wire_model.specs.Spelling.{SlotName}
 use Rattle.wire_spelling.specs.Calls.{asks_for, call_in, call_read}
+use Rattle.wire_spelling.specs.ReadLaws.{unsealed_carried}
 use Rattle.wire_spelling.specs.Slots.{asks_compound, carried_in, ops_in, slot_asked, slot_in, slot_of}
 use Rattle.slot_calls.specs.Asked.{IsAsked, IsOpen}
 
@@ -54,8 +55,8 @@ create_never : (asked : Option Create) (args : List ℕ) → Is (create_with ask
 create_never None args h = absurd cc
 create_never (Some asked) args h = absurd cc
 
-context_never : (create? destroy? : Bool) (given args : List ℕ)
-    → Is (if create? then create_with (value_of create given) else (if destroy? then with_none given whats.Destroy else whats.Failed ProcUnavail)) args → ⊥
+context_never : (creates ends : Bool) (given args : List ℕ)
+    → Is (if creates then create_with (value_of create given) else (if ends then with_none given whats.Destroy else whats.Failed ProcUnavail)) args → ⊥
 context_never true destroy given args h = create_never (value_of create given) args h
 context_never false true given args h = none_never given args whats.Destroy (λ e. absurd cc) h
 context_never false false given args h = absurd cc
@@ -75,8 +76,8 @@ other_is_paired : (null : Bool) (gss_proc proc : ℕ) (given args : List ℕ)
 other_is_paired true gss_proc proc given args h = absurd (context_never (gss_proc == RPCSEC_GSS_CREATE) (gss_proc == RPCSEC_GSS_DESTROY) given args h)
 other_is_paired false gss_proc proc given args h = absurd cc
 
-is_paired : (data? : Bool) (gss_proc proc : ℕ) (given args : List ℕ) → (gss_proc == RPCSEC_GSS_DATA) ≡ data?
-    → Is (if data? then data_call proc given else (if proc == PROC_NULL then context_call gss_proc given else whats.Failed ProcUnavail)) args
+is_paired : (is_data : Bool) (gss_proc proc : ℕ) (given args : List ℕ) → (gss_proc == RPCSEC_GSS_DATA) ≡ is_data
+    → Is (if is_data then data_call proc given else (if proc == PROC_NULL then context_call gss_proc given else whats.Failed ProcUnavail)) args
     → IsPaired gss_proc proc given args
 is_paired true gss_proc proc given args e h = data_is_paired (proc == PROC_NULL) gss_proc proc given args (eqb-true gss_proc RPCSEC_GSS_DATA e) refl h
 is_paired false gss_proc proc given args e h = other_is_paired (proc == PROC_NULL) gss_proc proc given args h
@@ -91,10 +92,10 @@ both_none : (first second : Option Stat) → or_fault first second ≡ None → 
 both_none None second h = (refl, h)
 both_none (Some fault) second h = absurd cc
 
-program_is : (prog? vers? : Bool) (program : Program) (head : CallHead) → (head.prog == program.number) ≡ prog?
-    → (if prog? then (if vers? then None else Some (ProgMismatch program.version program.version)) else Some ProgUnavail) ≡ None → head.prog ≡ program.number
-program_is true vers program head e h = eqb-true head.prog program.number e
-program_is false vers program head e h = absurd cc
+program_is : (same_program same_version : Bool) (program : Program) (head : CallHead) → (head.prog == program.number) ≡ same_program
+    → (if same_program then (if same_version then None else Some (ProgMismatch program.version program.version)) else Some ProgUnavail) ≡ None → head.prog ≡ program.number
+program_is true same_version program head e h = eqb-true head.prog program.number e
+program_is false same_version program head e h = absurd cc
 
 procedure_is : (past : Bool) (head : CallHead) → nat_lt PROC_COMPOUND head.proc ≡ past → (if past then Some ProcUnavail else None) ≡ None → head.proc ≤ PROC_COMPOUND
 procedure_is true head e h = absurd cc
@@ -249,7 +250,7 @@ compound_asked mic now bytes table call args distinct judged is =
     let c = compound_judged mic now programs.NFS r.head body table args call r.call_is is in
     let a = verdict_admits mic now r.head body table c.number c.seq args c.cred c.cred_is c.answer_is in
     let seen = call_seen mic now programs.NFS bytes table call r in
-    let carried = carried_is _ c.cred.seq_num body args a.carries in
+    let carried = unsealed_carried _ c.cred.seq_num body args a.carries in
     let asks_data : asks_for RPCSEC_GSS_DATA (cred_of r.head) ≡ true =
     ap (asks_for RPCSEC_GSS_DATA) c.cred_is ∙ eq-eqb c.cred.gss_proc RPCSEC_GSS_DATA c.data_is in
     let asks : asks_compound (record { head = r.head; body = body }) ≡ true =
