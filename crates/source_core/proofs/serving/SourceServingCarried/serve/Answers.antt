@@ -1,0 +1,67 @@
+use Rattle.std.proofs.Common.{refl, sym, ap, ◌∙◌}
+use Rattle.compound_server.specs.Serves.{told_of}
+use Rattle.copy_ops.specs.declared.arg.CopyArg.{CopyArg}
+use Rattle.copy_ops.specs.declared.res.CopyRes.TheVariants as results
+use Rattle.copy_ops.specs.declared.results.CopyAnswer.TheVariants as copied
+use Rattle.file_server.specs.Answering.{going_of, machine_of}
+use Rattle.nfs_base.specs.declared.answer.Answer.TheVariants.{Refused}
+use Rattle.nfs_base.specs.declared.status.TheConstants.Status.{NOTSUPP}
+use Rattle.server_volume.specs.Store.{seat_of}
+use Rattle.source_core.specs.Serving.{serves}
+use Rattle.source_core.proofs.Saying.{clone_spelled, copy_refused_spelled, ran_kept, serves_said, status_refused_spelled}
+use Rattle.source_core.proofs.serving.SourceServingCarried.serve.Goals as goal
+
+pub returns-in-Copy-clause-serves : goal.returns-in-Copy-clause-serves
+unfolding serves
+returns-in-Copy-clause-serves g c = λ told choice agrees.
+    let size = g.D.Disk.size in
+    let files = c.args.files.now in
+    let p = c.args.p.now in
+    ap (λ (op : CopyArg). told_of (serves choice c.args.caller.now c.args.carry.now op (going_of size files p)) p.page.bytes) c.in-Copy.is
+    ∙ serves_said (machine_of size files) (results.Copy (copied.Refused NOTSUPP)) p c.refuse.new.self _ c.refuse.result
+    c.refuse.ensures.says (copy_refused_spelled NOTSUPP) (sym c.refuse.ensures.status)
+
+pub returns-in-Copy-clause-ran : goal.returns-in-Copy-clause-ran
+returns-in-Copy-clause-ran g c = λ told.
+    let D = g.D.Disk in
+    ran_kept (seat_of D.size D.fuse D.timeline) c.args.files.now.volume c.args.files.now.volume c.args.p.now.used c.refuse.new.self.used refl c.refuse.ensures.says.used
+
+pub returns-in-CopyNotify-clause-ran : goal.returns-in-CopyNotify-clause-ran
+returns-in-CopyNotify-clause-ran g c = λ told.
+    let D = g.D.Disk in
+    ran_kept (seat_of D.size D.fuse D.timeline) c.args.files.now.volume c.notify.new.files.volume c.args.p.now.used c.notify.new.p.used c.notify.ensures.volume c.notify.ensures.used
+
+pub returns-in-OffloadCancel-clause-ran : goal.returns-in-OffloadCancel-clause-ran
+returns-in-OffloadCancel-clause-ran g c = λ told.
+    let D = g.D.Disk in
+    ran_kept (seat_of D.size D.fuse D.timeline) c.args.files.now.volume c.cancel.new.files.volume c.args.p.now.used c.cancel.new.p.used c.cancel.ensures.volume c.cancel.ensures.used
+
+pub returns-in-OffloadStatus-clause-serves : goal.returns-in-OffloadStatus-clause-serves
+unfolding serves
+returns-in-OffloadStatus-clause-serves g c = λ told choice agrees.
+    let size = g.D.Disk.size in
+    let files = c.args.files.now in
+    let p = c.args.p.now in
+    ap (λ (op : CopyArg). told_of (serves choice c.args.caller.now c.args.carry.now op (going_of size files p)) p.page.bytes) c.in-OffloadStatus.is
+    ∙ serves_said (machine_of size files) (results.OffloadStatus (Refused NOTSUPP)) p c.refuse-in-OffloadStatus.new.self _ c.refuse-in-OffloadStatus.result
+    c.refuse-in-OffloadStatus.ensures.says (status_refused_spelled NOTSUPP) (sym c.refuse-in-OffloadStatus.ensures.status)
+
+pub returns-in-OffloadStatus-clause-ran : goal.returns-in-OffloadStatus-clause-ran
+returns-in-OffloadStatus-clause-ran g c = λ told.
+    let D = g.D.Disk in
+    ran_kept (seat_of D.size D.fuse D.timeline) c.args.files.now.volume c.args.files.now.volume c.args.p.now.used c.refuse-in-OffloadStatus.new.self.used refl c.refuse-in-OffloadStatus.ensures.says.used
+
+pub returns-clause-serves : goal.returns-clause-serves
+unfolding serves
+returns-clause-serves g c = λ told choice agrees.
+    let size = g.D.Disk.size in
+    let files = c.args.files.now in
+    let p = c.args.p.now in
+    ap (λ (op : CopyArg). told_of (serves choice c.args.caller.now c.args.carry.now op (going_of size files p)) p.page.bytes) c.in-Clone.is
+    ∙ serves_said (machine_of size files) (results.Clone NOTSUPP) p c.refuse-in-Clone.new.self _ c.refuse-in-Clone.result
+    c.refuse-in-Clone.ensures.says (clone_spelled NOTSUPP) (sym c.refuse-in-Clone.ensures.status)
+
+pub returns-clause-ran : goal.returns-clause-ran
+returns-clause-ran g c = λ told.
+    let D = g.D.Disk in
+    ran_kept (seat_of D.size D.fuse D.timeline) c.args.files.now.volume c.args.files.now.volume c.args.p.now.used c.refuse-in-Clone.new.self.used refl c.refuse-in-Clone.ensures.says.used

@@ -1,0 +1,7 @@
+pub mod Asking
+pub mod Core
+pub mod Judging
+pub mod Laws
+pub mod Location
+pub mod ReadLaws
+pub mod Serving

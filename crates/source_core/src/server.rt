@@ -1,0 +1,244 @@
+//! The whole server.
+
+ghost use Rattle.std.specs.Prelude.{true, ◌≡◌, ◌↔◌, ◌≤◌, ◌<◌, ◌+◌, ℕ, [], length, None, IfOk, IsOk, IsTrue, OnErr, Ok, Err, MatchResult};
+ghost use Rattle.block_file.specs.declared.faults.OpenFault.{OpenFault};
+ghost use Rattle.block_file.specs.declared.faults.ReadFault.{ReadFault};
+ghost use Rattle.block_file.specs.Opened.{homes_by, CanBeOpened, RefusedFor};
+ghost use Rattle.block_file.specs.Stored.{flaw_of, reopened, tag_of};
+ghost use Rattle.copy_model.specs.Volume.{bytes_at, file_at};
+ghost use Rattle.disk_model.specs.Disk.{Image, MayLeave};
+ghost use Rattle.disk_model.specs.Elapsed.{contents, present, set_to, IsOut};
+ghost use Rattle.outcome.specs.Causes.{Rose};
+ghost use Rattle.server_volume.specs.Moments.{Ran};
+ghost use Rattle.server_volume.specs.Store.{seat_of};
+ghost use Rattle.session_server.specs.declared.host.TheConstants.{MOST_STEPS};
+ghost use Rattle.session_server.specs.Host.{host_of, stepped_of};
+ghost use Rattle.session_server.specs.Steps.{IsTurn, ticked};
+ghost use Rattle.source_core.specs.Core.{nothing, source_rules, IsNew};
+ghost use Rattle.source_core.specs.Location.{IsShort};
+
+use crate::carried::Carried;
+use crate::own_location::OwnLocation;
+use crate::source::Source;
+use block_file::{FileInfo, OpenFault, ReadFault, Volume};
+use compound_server::Server;
+use copy_grants::Grants;
+use copy_privs::Peer;
+use disk_model::{CrashDisk, Disk};
+use file_server::Files;
+use gss_ctx::Contexts;
+use gss_mech::Mechanism;
+use nfs_base::{End, NetLoc};
+use outbox::{CallList, NoteList, Outbox};
+use outcome::Mem;
+use sess_slots::Sessions;
+use session_server::Host;
+use state_ids::Opens;
+use std::alloc::Global;
+use std::marker::Model;
+use streams::Draws;
+use wire_xdr::Items;
+
+/// A source: a server whose files are copied by others. Contracts see the [`Host`] that it is, which never gave out more
+/// numbers than its steps can have.
+#[derive(Drop)]
+pub struct SourceCore<D: Disk, M> {
+    host: Host<D, Source<M>, Carried>,
+}
+
+impl<D: Disk, M> Model for SourceCore<D, M> {
+    ghost use Rattle.session_server.specs.declared.host.Host.{Host};
+    ghost use Rattle.session_server.specs.Host.{IsCounted};
+    ghost use Rattle.source_core.specs.Serving.{given};
+    ghost use Rattle.source_core.specs.declared.carried.Carried.{Carried};
+    ghost use Rattle.source_core.specs.declared.source.Source.{Source};
+
+    ghost Value = { Host D (Source M) Carried };
+
+    ghost view = { λ core. core.host };
+
+    ghost invariant = { λ core. IsCounted given core.host };
+}
+
+impl<D: Disk + Drop, M: Mechanism> SourceCore<D, M> {
+    /// Opens the volume on a disk, for a source that knows these servers and is found at `own`, whose strings have at most
+    /// 256 bytes together. Where the disk holds no volume it comes back, with what is wrong. Where memory is refused, the
+    /// disk is let go.
+    pub fn open(
+        alloc: Global,
+        disk: D,
+        mech: M,
+        peers: Items<Peer>,
+        own: NetLoc,
+    ) -> Mem<Result<SourceCore<D, M>, (D, OpenFault)>>
+        requires volume { D.Told → (image : Image) → MayLeave (present (D.timeline disk)) image → CanBeOpened (D.size disk) image }
+        requires short { IsShort own }
+        ensures refused { D.Told → IfOk result (λ answer. MatchResult answer
+            (λ _. flaw_of (D.size disk) (contents (D.timeline disk)) ≡ None)
+            (λ fault. RefusedFor (flaw_of (D.size disk) (contents (D.timeline disk))) fault.1)) }
+        ensures volume { D.Told → IfOk result (λ answer. IfOk answer (λ core. core.server.files.volume.volume ≡ reopened (contents (D.timeline disk)))) }
+        ensures tag { D.Told → IfOk result (λ answer. IfOk answer (λ core. core.server.files.volume.tag ≡ tag_of (contents (D.timeline disk)))) }
+        ensures new { IfOk result (λ answer. IfOk answer (IsNew mech peers own)) }
+        ensures cause { IfOk result (λ answer. MatchResult answer (λ _. Unit {0})
+            (λ fault. fault.1 ≡ OpenFault.DiskFailed → Rose (D.faults disk) (D.faults fault.0))) }
+    {
+        let own = OwnLocation::new(own);
+        match Volume::open(alloc, disk)? {
+            Err(fault) => Ok(Err(fault)),
+            Ok(volume) => Ok(Ok(SourceCore::new(alloc, volume, mech, peers, own)?)),
+        }
+    }
+
+    /// Nobody has called yet.
+    fn new(
+        alloc: Global,
+        volume: Volume<D>,
+        mech: M,
+        peers: Items<Peer>,
+        own: OwnLocation,
+    ) -> Mem<SourceCore<D, M>>
+        ensures new { IfOk result (IsNew mech peers own) }
+        ensures volume { IfOk result (λ core. core.server.files.volume ≡ volume) }
+    {
+        let boot = volume.boot();
+        let extra = Source {
+            grants: Grants::new(alloc, boot)?,
+            peers,
+            own,
+            refusal: None,
+            mech,
+        };
+        let opens = Opens::new(alloc, boot)?;
+        let sessions = Sessions::new(alloc, boot)?;
+        let contexts = Contexts::new(alloc, End::Source, boot)?;
+        let files = Files {
+            volume,
+            opens,
+            extra,
+        };
+        Ok(SourceCore {
+            host: Host {
+                contexts,
+                server: Server { files, sessions },
+                second: 0,
+                steps: 0,
+            },
+        })
+    }
+}
+
+impl<D: Disk, M: Mechanism> SourceCore<D, M> {
+    /// Takes a record that comes on a connection, and answers it: one step. Without memory the source is as before.
+    pub fn on_record<W: Draws>(
+        &mut self,
+        alloc: Global,
+        conn: u32,
+        record_: &[u8],
+        now: u64,
+        draws: &mut W,
+    ) -> Mem<Outbox>
+        requires few { self.old.steps < MOST_STEPS }
+        ensures turn { D.Told → IfOk result (λ out. IsTurn (source_rules M.mic_of) (record { mic = M.mic_of; derived = M.derived }) (M.accepted self.old.server.files.extra.mech) W.gives conn record_.now now (host_of D.size self.old) draws.old draws.new (stepped_of D.size self.new out)) }
+        ensures ran { D.Told → IfOk result (λ out. Ran (seat_of D.size D.fuse D.timeline self.old.server.files.volume) (seat_of D.size D.fuse D.timeline self.new.server.files.volume) [] out.used) }
+        ensures err { OnErr result (self.new ≡ self.old) }
+        ensures later { W.faults draws.old ≤ W.faults draws.new }
+        ensures failing { W.failing draws.new ≡ W.failing draws.old }
+    {
+        self.host.on_record(alloc, conn, record_, now, draws)
+    }
+
+    /// A second comes by itself: a step that sends nothing. Without memory the source is as before.
+    pub fn tick(&mut self, alloc: Global, now: u64) -> Mem<Outbox>
+        requires few { self.old.steps < MOST_STEPS }
+        ensures out { IfOk result (λ out. out ≡ nothing) }
+        ensures is { IsOk result → host_of D.size self.new ≡ ticked (source_rules M.mic_of) now (host_of D.size self.old) }
+        ensures volume { self.new.server.files.volume ≡ self.old.server.files.volume }
+        ensures err { OnErr result (self.new ≡ self.old) }
+    {
+        let out = Outbox {
+            sent: Items::new(alloc),
+            notes: NoteList::new(alloc)?,
+            accepted: None,
+            used: CallList::new(alloc)?,
+            undrawn: false,
+        };
+        self.host.tick(now);
+        Ok(out)
+    }
+}
+
+impl<D: Disk, M> SourceCore<D, M> {
+    /// How many steps were made.
+    pub fn calls(&self) -> u32
+        ensures { result ≡ self.now.steps }
+    {
+        self.host.steps
+    }
+
+    /// How many files there are, but for the root directory.
+    pub fn files(&self) -> u32
+        ensures { result + 1 ≡ length self.now.server.files.volume.volume.files }
+    {
+        self.host.server.files.volume.files()
+    }
+
+    /// A file's size and change attribute.
+    pub fn file(&self, file: u32) -> FileInfo
+        requires no_root { 1 ≤ file }
+        requires there { file < length self.now.server.files.volume.volume.files }
+        ensures { result ≡ record { size = length (file_at self.now.server.files.volume.volume file).now; change = (file_at self.now.server.files.volume.volume file).change } }
+    {
+        self.host.server.files.volume.file(file)
+    }
+
+    /// The home in force of a file's table, 0 or 1.
+    pub fn home(&self, file: u32) -> u8
+        requires no_root { 1 ≤ file }
+        requires there { file < length self.now.server.files.volume.volume.files }
+        ensures { result ≡ homes_by self.now.server.files.volume.homes file }
+    {
+        self.host.server.files.volume.home(file)
+    }
+
+    /// Fills `out` with a file's bytes from `off` on, and with zeros past its end. It is no step.
+    pub fn peek(&mut self, file: u32, off: u64, out: &mut [u8]) -> Result<(), ReadFault>
+        requires no_root { 1 ≤ file }
+        requires there { file < length self.old.server.files.volume.volume.files }
+        ensures broken { (result ≡ Err ReadFault.Broken) ↔ (self.old.server.files.volume.volume.broken ≡ true) }
+        ensures bytes { D.Told → IsOk result → out.new ≡ bytes_at (file_at self.old.server.files.volume.volume file).now off (length out.old) }
+        ensures still { D.Told → host_of D.size self.new ≡ host_of D.size self.old }
+    {
+        self.host.server.files.volume.read(file, off, out)
+    }
+
+    /// Gives the disk back.
+    pub fn hand_back(self) -> D
+    where
+        M: Drop,
+        ensures disk { result ≡ self.server.files.volume.disk }
+        ensures again { D.Told → (image : Image) → MayLeave (present (D.timeline result)) image → CanBeOpened (D.size result) image }
+    {
+        let SourceCore { host } = self;
+        let Host { server, .. } = host;
+        let Server { files, .. } = server;
+        let Files { volume, .. } = files;
+        volume.hand_back()
+    }
+}
+
+impl<D: CrashDisk, M> SourceCore<D, M> {
+    /// Lets this many more writes and syncs of the disk pass; the one after them stops the machine.
+    pub fn fuse(&mut self, calls: u64)
+        ensures fuse { D.fuse self.new.server.files.volume.disk ≡ set_to (D.fuse self.old.server.files.volume.disk) calls }
+        ensures still { D.Told → host_of D.size self.new ≡ host_of D.size self.old }
+    {
+        self.host.server.files.volume.fuse(calls);
+    }
+
+    /// Whether the machine has stopped.
+    pub fn stopped(&self) -> bool
+        ensures { IsTrue result ↔ IsOut (D.fuse self.now.server.files.volume.disk) }
+    {
+        self.host.server.files.volume.stopped()
+    }
+}
