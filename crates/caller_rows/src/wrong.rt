@@ -31,15 +31,6 @@ impl From<AllocError> for Wrong {
     }
 }
 
-impl From<two_ends::Wrong> for Wrong {
-    fn from(why: two_ends::Wrong) -> Wrong {
-        match why {
-            two_ends::Wrong::NoMemory => Wrong::NoMemory,
-            two_ends::Wrong::Lacks(what) => Wrong::Lacks(what),
-        }
-    }
-}
-
 /// Whether a record has the value that was given.
 pub fn same<T: PartialEq + Debug>(
     alloc: Global,
