@@ -10,7 +10,7 @@ use disk_model::{Block, Disk, Io};
 
 /// One block kept in two places of a disk, of which a gate names the one in force. It takes three
 /// blocks of the disk: the gate, and then the two places.
-#[derive(Clone, Copy, Debug, PartialEq, Eq)]
+#[derive(Clone, Copy, PartialEq, Eq)]
 pub struct GatedCell {
     /// The gate's block.
     pub at: u64,

@@ -36,7 +36,7 @@ use wire_xdr::{Octets, Page};
 pub const MINOR_VERSION: u32 = 2;
 
 /// What a COMPOUND gives besides the server's new state.
-#[derive(Debug, Drop)]
+#[derive(Drop)]
 pub struct Reply {
     /// The reply's body, COMPOUND4res.
     pub body: Octets,

@@ -22,7 +22,7 @@ use nfs_compound::Tail;
 use std::collections::VecDeque;
 
 /// Operations that were evaluated: the status of the last one, and how many results there are.
-#[derive(Clone, Copy, Debug, PartialEq, Eq)]
+#[derive(Clone, Copy, PartialEq, Eq)]
 pub struct Evaluated {
     pub status: Status,
     pub count: u32,

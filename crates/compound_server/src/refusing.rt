@@ -11,7 +11,7 @@ use nfs_base::Status;
 use nfs_compound::Tail;
 
 /// An operation that is answered by a status alone.
-#[derive(Clone, Copy, Debug, PartialEq, Eq)]
+#[derive(Clone, Copy, PartialEq, Eq)]
 pub struct TailRefusal {
     /// The operation's number.
     pub op: u32,

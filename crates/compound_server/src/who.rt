@@ -1,5 +1,5 @@
 /// By whom a call is made, and when.
-#[derive(Clone, Copy, Debug, PartialEq, Eq)]
+#[derive(Clone, Copy, PartialEq, Eq)]
 pub struct Who {
     /// The number of the call's context.
     pub context: u32,

@@ -28,7 +28,7 @@ pub struct Ask<'a> {
 }
 
 /// What [`crate::Grants::permit`] answers.
-#[derive(Clone, Copy, Debug, PartialEq, Eq)]
+#[derive(Clone, Copy, PartialEq, Eq)]
 pub enum Permit {
     Permitted,
     Denied(Cause),

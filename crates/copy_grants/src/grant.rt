@@ -13,7 +13,7 @@ use wire_xdr::Octets;
 const GRANT_KEPT: u64 = 180;
 
 /// What a source lets a destination do: read this file for this user, where it knows the secret.
-#[derive(Debug, Drop)]
+#[derive(Drop)]
 pub struct Grant {
     pub number: u32,
     pub file: u32,

@@ -12,12 +12,12 @@ use std::marker::Model;
 use wire_xdr::Octets;
 
 /// There are as many grants as there may be.
-#[derive(Clone, Copy, Debug, PartialEq, Eq)]
+#[derive(Clone, Copy, PartialEq, Eq)]
 pub struct Full;
 
 /// The grants of a source. All room is taken when it is made: only [`Grants::notify`], which copies strings, can
 /// want memory afterwards.
-#[derive(Debug, Drop)]
+#[derive(Drop)]
 pub struct Grants {
     boot: u32,
     grants: Vec<Grant>,

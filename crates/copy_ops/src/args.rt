@@ -86,7 +86,7 @@ impl Xdr for NotifyArgs {
 
 /// What CLONE is asked to do (CLONE4args, RFC 7862 section 15.13). Offsets and the count are bytes; a count
 /// of 0 goes to the end of the source file.
-#[derive(Clone, Copy, Debug, PartialEq, Eq)]
+#[derive(Clone, Copy, PartialEq, Eq)]
 pub struct CloneArgs {
     pub src_id: StateId,
     pub dst_id: StateId,

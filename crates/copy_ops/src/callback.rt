@@ -6,7 +6,7 @@ use std::alloc::Global;
 use wire_xdr::{ReadError, Reader, Writer, Xdr};
 
 /// How a copy ended (offload_info4, RFC 7862 section 16.1).
-#[derive(Clone, Copy, Debug, PartialEq, Eq)]
+#[derive(Clone, Copy, PartialEq, Eq)]
 pub enum OffloadEnd {
     /// All was copied.
     Done(WriteResponse),

@@ -6,7 +6,7 @@ use std::alloc::Global;
 use wire_xdr::{Items, ReadError, Reader, Writer, Xdr};
 
 /// What COPY did, and in which way (COPY4resok, RFC 7862 section 15.2).
-#[derive(Clone, Copy, Debug, PartialEq, Eq)]
+#[derive(Clone, Copy, PartialEq, Eq)]
 pub struct CopyDone {
     pub response: WriteResponse,
     pub consecutive: bool,
@@ -37,7 +37,7 @@ impl Xdr for CopyDone {
 const NO_REQS: u32 = Status::OFFLOAD_NO_REQS.number;
 
 /// What COPY answers (COPY4res, RFC 7862 section 15.2).
-#[derive(Clone, Copy, Debug, PartialEq, Eq)]
+#[derive(Clone, Copy, PartialEq, Eq)]
 pub enum CopyAnswer {
     Done(CopyDone),
 
@@ -123,7 +123,7 @@ impl Xdr for NotifyGrant {
 }
 
 /// How far a copy is (OFFLOAD_STATUS4resok, RFC 7862 section 15.9).
-#[derive(Clone, Copy, Debug, PartialEq, Eq)]
+#[derive(Clone, Copy, PartialEq, Eq)]
 pub struct OffloadProgress {
     /// Bytes copied so far.
     pub count: u64,

@@ -1,5 +1,5 @@
 /// Why bytes are no privilege of a name.
-#[derive(Clone, Copy, Debug, PartialEq, Eq)]
+#[derive(Clone, Copy, PartialEq, Eq)]
 pub enum PrivFault {
     /// No privilege of a copy has the name.
     UnknownName,

@@ -5,7 +5,7 @@ use nfs_base::NetLoc;
 use wire_xdr::Octets;
 
 /// Another server of the realm: its principal, and where it is found.
-#[derive(Debug, Drop)]
+#[derive(Drop)]
 pub struct Peer {
     pub principal: Octets,
     pub loc: NetLoc,

@@ -11,7 +11,7 @@ use wire_xdr::{Items, Octets, ReadError, Reader, Writer, Xdr, XdrBy, read_by};
 
 /// What a context may carry besides its principal (RFC 7862 section 4.10.1.1). A secret has 16 to 64 bytes, and
 /// is the copy's own; a user's name and a code have at most 64.
-#[derive(Debug, Drop)]
+#[derive(Drop)]
 pub enum Privilege {
     /// copy_from_auth, from the client to the source: this destination may read by the secret, for the user.
     From {

@@ -5,7 +5,7 @@ ghost use Rattle.std.specs.Prelude.{◌≡◌};
 use nfs_base::{StateId, Status};
 
 /// Who makes a call: a client in a session, under a context.
-#[derive(Clone, Copy, Debug, PartialEq, Eq)]
+#[derive(Clone, Copy, PartialEq, Eq)]
 pub struct Caller {
     /// The client's ID.
     pub client: u64,
@@ -21,7 +21,7 @@ pub struct Caller {
 }
 
 /// What an operation asks a server's extension before it goes on.
-#[derive(Clone, Copy, Debug, PartialEq, Eq)]
+#[derive(Clone, Copy, PartialEq, Eq)]
 pub enum Ask {
     /// To be served at all, by its number.
     Operation { number: u32 },
@@ -34,7 +34,7 @@ pub enum Ask {
 }
 
 /// What an extension says to that.
-#[derive(Clone, Copy, Debug, PartialEq, Eq)]
+#[derive(Clone, Copy, PartialEq, Eq)]
 pub enum Gate {
     /// It may go on, and a READ needs no open.
     Serve,

@@ -29,7 +29,7 @@ pub enum Why {
 }
 
 /// What becomes of a call of an established context.
-#[derive(Debug, Drop)]
+#[derive(Drop)]
 pub enum Admit {
     /// It is carried out, with these arguments, under this context and sequence number.
     Admitted { number: u32, seq: u32, args: Octets },
@@ -43,7 +43,7 @@ pub enum Admit {
 
 /// What [`Contexts::weigh`] says of a call: the answer, and the context and the sequence number that are seen with
 /// it once it is counted.
-#[derive(Debug, Drop)]
+#[derive(Drop)]
 pub struct Verdict {
     pub answer: Admit,
     pub seen: Option<(u32, u32)>,

@@ -16,7 +16,7 @@ use std::alloc::Global;
 use wire_xdr::{Octets, ReadError, Reader, Writer, Xdr, read_all, write_all};
 
 /// What became of INIT.
-#[derive(Debug, Drop)]
+#[derive(Drop)]
 pub enum Begun {
     /// A context was made: its handle and its key.
     Made { handle: [u8; 8], key: [u8; 32] },
@@ -32,7 +32,7 @@ pub enum Begun {
 
 /// The result of INIT (RFC 2203 section 5.2.3.1): the handle, a major and a minor status, the window, and the
 /// token that goes back.
-#[derive(Debug, Drop)]
+#[derive(Drop)]
 pub struct InitResult {
     pub handle: Octets,
     pub major: u32,

@@ -23,7 +23,7 @@ use std::marker::Model;
 use wire_xdr::{Octets, Writer, Xdr};
 
 /// The initiating side of one context.
-#[derive(Debug, Drop)]
+#[derive(Drop)]
 pub struct Caller {
     owner: End,
     handle: [u8; 8],
@@ -40,7 +40,7 @@ impl Model for Caller {
 }
 
 /// What is awaited of the reply to a call: its xid, the call's sequence number, and its verifier's code.
-#[derive(Clone, Copy, Debug)]
+#[derive(Clone, Copy)]
 pub struct Awaited {
     pub xid: u32,
     pub seq: u32,
@@ -48,14 +48,14 @@ pub struct Awaited {
 }
 
 /// A sealed call as it is sent, and what is awaited.
-#[derive(Debug, Drop)]
+#[derive(Drop)]
 pub struct Sealed {
     pub bytes: Octets,
     pub awaited: Awaited,
 }
 
 /// What a record is to a call that awaits its reply.
-#[derive(Debug, Drop)]
+#[derive(Drop)]
 pub enum Checked {
     /// The result, under the seal of this context and of the call's number.
     Result(Octets),

@@ -8,7 +8,7 @@ use std::alloc::Global;
 use wire_xdr::{Octets, ReadError, Reader, Writer, Xdr, read_all, write_all};
 
 /// The argument of CREATE: the name of a privilege, and its bytes.
-#[derive(Debug, Drop)]
+#[derive(Drop)]
 pub struct Create {
     pub name: Octets,
     pub privilege: Octets,
@@ -43,7 +43,7 @@ impl Xdr for Create {
 }
 
 /// The result of CREATE: the child's handle, and a major and a minor status, which are 0 where it was made.
-#[derive(Debug, Drop)]
+#[derive(Drop)]
 pub struct CreateResult {
     pub handle: Octets,
     pub major: u32,

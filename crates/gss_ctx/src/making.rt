@@ -15,7 +15,7 @@ use streams::{Drawn, Draws};
 use wire_xdr::Octets;
 
 /// What INIT answers (RFC 2203 section 5.2.3).
-#[derive(Debug, Drop)]
+#[derive(Drop)]
 pub enum Inited {
     /// A context was made: its handle, its window in numbers, the token that goes back, and the verifier of
     /// the reply, which is the code of the window under the new key.

@@ -14,7 +14,7 @@ use wire_xdr::{Octets, Page, Writer, Xdr};
 
 /// A reply whose result is yet to come. Its head is written, and all room is taken: once the call is carried out
 /// nothing can fail any more.
-#[derive(Debug, Drop)]
+#[derive(Drop)]
 pub struct Sealer {
     page: Page,
     key: [u8; 32],

@@ -15,7 +15,7 @@ pub const ACCEPTOR: u8 = 1;
 
 /// What an acceptor makes of a token: who sent it, the key of the new context, and the token that goes
 /// back.
-#[derive(Debug, Drop)]
+#[derive(Drop)]
 pub struct Accepted {
     pub principal: Octets,
     pub key: [u8; 32],

@@ -14,7 +14,7 @@ use wire_xdr::{Octets, Writer, read_all, write_all};
 /// Principals and the key that each shares with every server. Contracts see the list. A principal is of
 /// the realm where its name has at most 64 bytes and stands in the list, and its key is that of the first
 /// entry with its name.
-#[derive(Debug, Drop)]
+#[derive(Drop)]
 pub struct Realm {
     keys: Vec<(Octets, [u8; 32])>,
 }

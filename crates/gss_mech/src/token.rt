@@ -6,7 +6,7 @@ use wire_xdr::{Octets, ReadError, Reader, Writer, Xdr};
 
 /// The token of a realm that begins a context: who begins it, with which nonce, and the code of both
 /// under the principal's key.
-#[derive(Debug, Drop)]
+#[derive(Drop)]
 pub struct Opening {
     pub principal: Octets,
     pub nonce: [u8; 32],

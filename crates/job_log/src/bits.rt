@@ -6,7 +6,7 @@ use std::alloc::Global;
 use std::marker::Model;
 
 /// A row of flags, kept as bits.
-#[derive(Debug, Drop)]
+#[derive(Drop)]
 pub struct Bits {
     words: Vec<u64>,
     len: usize,

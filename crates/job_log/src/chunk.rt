@@ -1,6 +1,6 @@
 /// A piece of the copied range, which is read and lands at once. Its offset counts from the start of
 /// the range.
-#[derive(Clone, Copy, Debug, PartialEq, Eq)]
+#[derive(Clone, Copy, PartialEq, Eq)]
 pub struct Chunk {
     /// Where it begins, in bytes.
     pub off: u64,
@@ -10,7 +10,7 @@ pub struct Chunk {
 }
 
 /// What became of a chunk that was to land.
-#[derive(Clone, Copy, Debug, PartialEq, Eq)]
+#[derive(Clone, Copy, PartialEq, Eq)]
 pub enum Landing {
     /// It landed.
     Landed,

@@ -11,7 +11,7 @@ use std::alloc::Global;
 use std::marker::Model;
 
 /// What came about in a job.
-#[derive(Clone, Copy, Debug)]
+#[derive(Clone, Copy)]
 enum Entry {
     Sized(u64),
     Landed(Chunk),
@@ -21,7 +21,7 @@ enum Entry {
 }
 
 /// The log of one copy job, with its claims.
-#[derive(Debug, Drop)]
+#[derive(Drop)]
 pub struct JobLog {
     consecutive: bool,
     entries: Vec<Entry>,

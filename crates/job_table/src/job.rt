@@ -43,7 +43,7 @@ pub struct Plan {
 
 /// A job by its name: its boot and number tell which it is. Its key is where the slab has it, and no answer
 /// depends on it.
-#[derive(Clone, Copy, Debug, PartialEq, Eq)]
+#[derive(Clone, Copy, PartialEq, Eq)]
 pub struct JobId {
     pub key: usize,
     pub boot: u32,
@@ -51,7 +51,7 @@ pub struct JobId {
 }
 
 /// Why a copy isn't accepted.
-#[derive(Clone, Copy, Debug, PartialEq, Eq)]
+#[derive(Clone, Copy, PartialEq, Eq)]
 pub enum Refused {
     /// Its range has a byte in common with that of this job, which runs.
     Overlap { job: JobId },
@@ -61,7 +61,7 @@ pub enum Refused {
 }
 
 /// How far a job is (OFFLOAD_STATUS, RFC 7862 section 15.9).
-#[derive(Clone, Copy, Debug, PartialEq, Eq)]
+#[derive(Clone, Copy, PartialEq, Eq)]
 pub struct JobStatus {
     /// How many bytes have landed.
     pub landed: u64,

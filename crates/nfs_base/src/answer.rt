@@ -9,7 +9,7 @@ use wire_xdr::{ReadError, Reader, Writer, Xdr};
 
 /// What an operation answers (RFC 8881 section 15): what it did, or with a status other than 0 nothing
 /// more. A refusal with status 0 has no spelling.
-#[derive(Debug, Drop)]
+#[derive(Drop)]
 pub enum Answer<T> {
     Done(T),
     Refused(Status),

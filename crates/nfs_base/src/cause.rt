@@ -33,7 +33,7 @@ impl fmt::Display for PrivCause {
 }
 
 /// Why a source didn't let a destination read under a grant of COPY_NOTIFY (RFC 7862 section 15.3).
-#[derive(Clone, Copy, Debug, PartialEq, Eq)]
+#[derive(Clone, Copy, PartialEq, Eq)]
 pub enum Cause {
     /// The context carries no privilege that confirms a copy.
     NoPrivilege,

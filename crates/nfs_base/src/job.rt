@@ -6,7 +6,7 @@ use std::fmt;
 
 /// A copy job by its name: the boot number of the destination that accepted it, and its number there,
 /// counted from 1.
-#[derive(Clone, Copy, Debug, PartialEq, Eq)]
+#[derive(Clone, Copy, PartialEq, Eq)]
 pub struct JobName {
     pub boot: u32,
     pub number: u32,
@@ -21,7 +21,7 @@ impl fmt::Display for JobName {
 }
 
 /// Why a job was stopped.
-#[derive(Clone, Copy, Debug, PartialEq, Eq)]
+#[derive(Clone, Copy, PartialEq, Eq)]
 pub enum Stop {
     /// The client cancelled it (OFFLOAD_CANCEL, RFC 7862 section 15.8).
     Cancelled,

@@ -15,7 +15,7 @@ const NL4_URL: u32 = 2;
 const NL4_NETADDR: u32 = 3;
 
 /// Where a server is found (netloc4, RFC 7862 section 4.8). Each string has at most 1,024 bytes.
-#[derive(Debug, Drop)]
+#[derive(Drop)]
 pub enum NetLoc {
     /// By its name.
     Name(Octets),

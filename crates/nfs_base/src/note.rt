@@ -7,7 +7,7 @@ use std::fmt;
 /// What happened in a step: at a server (of a grant or a privilege), at the destination (of a job), or at
 /// the client (of its calls and copies). Offsets of chunks count from the start of the copied range; all
 /// lengths are bytes.
-#[derive(Clone, Copy, Debug, PartialEq, Eq)]
+#[derive(Clone, Copy)]
 pub enum Note {
     /// The source didn't let a destination read under a grant.
     Permit {

@@ -8,7 +8,7 @@ pub enum End {
 
 /// Under what a record was sealed: the security context, by the server that made it, its boot and the
 /// context's number there, and the sequence number within the context (RFC 2203 section 5.3).
-#[derive(Clone, Copy, Debug, PartialEq, Eq)]
+#[derive(Clone, Copy, PartialEq, Eq)]
 pub struct Seal {
     pub owner: End,
     pub boot: u32,

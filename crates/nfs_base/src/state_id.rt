@@ -7,7 +7,7 @@ use wire_xdr::{ReadError, Reader, Writer, Xdr};
 /// A stateid (stateid4, RFC 8881 sections 3.3.12 and 8.2): which state is meant, and how often it had
 /// changed. What stands in its twelve bytes is these servers' own: a kind, the boot that made the state,
 /// and the state's number there.
-#[derive(Clone, Copy, Debug, PartialEq, Eq)]
+#[derive(Clone, Copy, PartialEq, Eq)]
 pub struct StateId {
     pub seqid: u32,
     pub kind: u32,

@@ -8,7 +8,7 @@ use wire_xdr::{ReadError, Reader, Writer, Xdr};
 
 /// An NFS status by its number (nfsstat4, RFC 8881 section 15.1 and RFC 7862 section 11.1). A number that
 /// has no name here is kept, and written back so.
-#[derive(Clone, Copy, Debug, PartialEq, Eq)]
+#[derive(Clone, Copy, PartialEq, Eq)]
 pub struct Status {
     pub number: u32,
 }

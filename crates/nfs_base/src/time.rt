@@ -6,7 +6,7 @@ use wire_xdr::{ReadError, Reader, Writer, Xdr};
 
 /// A time, or a length of time (nfstime4, RFC 8881 section 3.3.1): seconds and nanoseconds. Any number of
 /// nanoseconds is kept.
-#[derive(Clone, Copy, Debug, PartialEq, Eq)]
+#[derive(Clone, Copy, PartialEq, Eq)]
 pub struct Time {
     pub secs: i64,
     pub nanos: u32,

@@ -13,7 +13,7 @@ const DATA_SYNC4: u32 = 1;
 const FILE_SYNC4: u32 = 2;
 
 /// How safe written data is to be, or is (stable_how4, RFC 8881 section 18.32).
-#[derive(Clone, Copy, Debug, PartialEq, Eq)]
+#[derive(Clone, Copy, PartialEq, Eq)]
 pub enum Stability {
     /// It may be lost in a crash until a COMMIT.
     Unstable,
@@ -59,7 +59,7 @@ impl Xdr for Stability {
 }
 
 /// What a copy has written (write_response4, RFC 7862 section 15.2).
-#[derive(Clone, Copy, Debug, PartialEq, Eq)]
+#[derive(Clone, Copy, PartialEq, Eq)]
 pub struct WriteResponse {
     /// The copy that goes on, where it isn't done with the answer.
     pub callback_id: Option<StateId>,

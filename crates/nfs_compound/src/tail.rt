@@ -1,5 +1,5 @@
 /// What stands behind the operations of a compound that were read. `place` counts its operations from 0.
-#[derive(Clone, Copy, Debug, PartialEq, Eq)]
+#[derive(Clone, Copy, PartialEq, Eq)]
 pub enum Tail {
     /// All operations were read and nothing follows them, or the last one is cut: nothing is looked at
     /// behind that one.

@@ -4,7 +4,7 @@ ghost use Rattle.nfscopy.specs.ExitStatus.{code_of, usage_status, run_status, sh
 use crate::exit_status::ExitStatus;
 
 /// How the program ends for words of no command.
-#[derive(Clone, Copy, Debug, PartialEq, Eq)]
+#[derive(Clone, Copy, PartialEq, Eq)]
 pub enum UsageEnd {
     /// The line `usage` was put.
     Put,
@@ -14,7 +14,7 @@ pub enum UsageEnd {
 }
 
 /// How `run` ends.
-#[derive(Clone, Copy, Debug, PartialEq, Eq)]
+#[derive(Clone, Copy, PartialEq, Eq)]
 pub enum RunEnd {
     /// The schedule was carried out, and its transcript was put.
     Done,
@@ -39,7 +39,7 @@ pub enum RunEnd {
 }
 
 /// How `show` ends.
-#[derive(Clone, Copy, Debug, PartialEq, Eq)]
+#[derive(Clone, Copy, PartialEq, Eq)]
 pub enum ShowEnd {
     /// All lines of the stream were put.
     Done,

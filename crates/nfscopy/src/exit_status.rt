@@ -2,7 +2,7 @@ ghost use Rattle.std.specs.Prelude.{◌≡◌};
 ghost use Rattle.nfscopy.specs.ExitStatus.{code_of};
 
 /// How the program ended. The numbers are its exit statuses.
-#[derive(Clone, Copy, Debug, PartialEq, Eq)]
+#[derive(Clone, Copy, PartialEq, Eq)]
 pub enum ExitStatus {
     /// All of the input was read, and all lines were put.
     Done = 0,

@@ -11,7 +11,7 @@ use std::fmt::Write;
 
 /// Answers 0 until one call, and ACCESS to that one. It counts its calls in the current stateid too, and keeps
 /// the last number that it was told to stand behind.
-#[derive(Drop)]
+#[derive(Debug, Drop)]
 struct Counts {
     calls: u32,
     failing: u32,

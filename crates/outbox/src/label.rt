@@ -1,5 +1,5 @@
 /// What a call is called in a transcript.
-#[derive(Clone, Copy, Debug, PartialEq, Eq)]
+#[derive(Clone, Copy, PartialEq, Eq)]
 pub enum CallLabel {
     /// INIT of RPCSEC_GSS (RFC 2203 section 5.2.2).
     Init,
@@ -24,7 +24,7 @@ pub enum CallLabel {
 }
 
 /// What a record is called in a transcript.
-#[derive(Clone, Copy, Debug, PartialEq, Eq)]
+#[derive(Clone, Copy, PartialEq, Eq)]
 pub enum Label {
     Call(CallLabel),
 

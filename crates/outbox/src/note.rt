@@ -6,7 +6,7 @@ use std::alloc::Global;
 use std::marker::Model;
 
 /// Why a record was dropped without an answer.
-#[derive(Clone, Copy, Debug, PartialEq, Eq)]
+#[derive(Clone, Copy, PartialEq, Eq)]
 pub enum Dropped {
     /// It is no readable call or reply.
     Unread,
@@ -23,7 +23,7 @@ pub enum Dropped {
 
 /// What is to be told of a step, one line of a transcript each. Offsets count from the start of the copied range;
 /// lengths and counts are bytes.
-#[derive(Clone, Copy, Debug, PartialEq, Eq)]
+#[derive(Clone, Copy, PartialEq, Eq)]
 pub enum Note {
     /// A record was dropped.
     Dropped {
@@ -167,7 +167,7 @@ pub enum Note {
 pub const MOST_NOTES: usize = 33;
 
 /// The notes of a step in their order. Room for all of them is taken when it is made.
-#[derive(Debug, Drop)]
+#[derive(Drop)]
 pub struct NoteList {
     notes: Vec<Note>,
 }

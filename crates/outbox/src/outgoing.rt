@@ -5,7 +5,7 @@ use server_volume::CallList;
 use wire_xdr::{Items, Octets};
 
 /// To whom a record goes.
-#[derive(Clone, Copy, Debug, PartialEq, Eq)]
+#[derive(Clone, Copy, PartialEq, Eq)]
 pub enum To {
     /// The other end of a connection, by its number.
     Conn(u32),
@@ -18,7 +18,7 @@ pub enum To {
 }
 
 /// A record that is sent.
-#[derive(Debug, Drop)]
+#[derive(Drop)]
 pub struct Outgoing {
     pub to: To,
     pub bytes: Octets,
@@ -30,7 +30,7 @@ pub struct Outgoing {
 }
 
 /// What a step gives.
-#[derive(Debug, Drop)]
+#[derive(Drop)]
 pub struct Outbox {
     /// The records that are sent, in order.
     pub sent: Items<Outgoing>,

@@ -7,7 +7,7 @@ ghost use Rattle.outcome.specs.Plan.{Plan, is_due, after_call, planned_faults};
 use std::marker::Model;
 
 /// Counts the calls of an object in memory, and says which of them are to fail.
-#[derive(Debug, Drop)]
+#[derive(Drop)]
 pub struct Planned {
     calls: u64,
     failing: Vec<u64>,

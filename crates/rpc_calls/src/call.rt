@@ -9,21 +9,21 @@ use wire_xdr::Octets;
 
 /// The RPC program that an end serves, in one version (RFC 5531 section 8.1). Both of its procedures are NULL and
 /// COMPOUND.
-#[derive(Clone, Copy, Debug, PartialEq, Eq)]
+#[derive(Clone, Copy, PartialEq, Eq)]
 pub struct Program {
     pub number: u32,
     pub version: u32,
 }
 
 /// Under which context a call is answered, and with which sequence number (RFC 2203 section 5.3).
-#[derive(Clone, Copy, Debug, PartialEq, Eq)]
+#[derive(Clone, Copy, PartialEq, Eq)]
 pub struct Under {
     pub number: u32,
     pub seq: u32,
 }
 
 /// What becomes of a call.
-#[derive(Debug, Drop)]
+#[derive(Drop)]
 pub enum What {
     /// It is dropped without an answer.
     Dropped(Why),
@@ -45,7 +45,7 @@ pub enum What {
 
 /// A call: its head, what its context says of it where it is of an established one, under what it is answered, and what
 /// becomes of it. The verdict is without the arguments; it serves to count the call.
-#[derive(Debug, Drop)]
+#[derive(Drop)]
 pub struct Call {
     pub head: CallHead,
     pub verdict: Option<Verdict>,
@@ -54,7 +54,7 @@ pub struct Call {
 }
 
 /// What a record is.
-#[derive(Debug, Drop)]
+#[derive(Drop)]
 pub enum Judged {
     /// It has no head of a call or a reply that can be read.
     Unread,

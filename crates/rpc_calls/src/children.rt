@@ -17,7 +17,7 @@ use wire_xdr::{Octets, Page};
 const CREATE_ROOM: usize = 24;
 
 /// How CREATE was answered: the record, and the number of the child that was made.
-#[derive(Debug, Drop)]
+#[derive(Drop)]
 pub struct CreateAnswer {
     pub bytes: Octets,
     pub made: Option<u32>,

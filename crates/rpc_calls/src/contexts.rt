@@ -25,7 +25,7 @@ use wire_xdr::{Octets, Page};
 const INIT_ROOM: usize = 4224;
 
 /// How INIT was answered: the record, the number of the context that was made, and whether a draw failed.
-#[derive(Debug, Drop)]
+#[derive(Drop)]
 pub struct InitAnswer {
     pub bytes: Octets,
 

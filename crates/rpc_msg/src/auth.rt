@@ -7,7 +7,7 @@ use std::alloc::Global;
 use wire_xdr::{Octets, ReadError, Reader, Writer, Xdr};
 
 /// A credential or a verifier (RFC 5531 section 8.2): its flavor, and a body of at most 400 bytes.
-#[derive(Debug, Drop)]
+#[derive(Drop)]
 pub struct Auth {
     pub flavor: u32,
     pub body: Octets,

@@ -8,7 +8,7 @@ use wire_xdr::{ReadError, Reader, Writer, Xdr, put_four};
 
 /// The head of a call (RFC 5531 section 9): its number, the version of RPC, which is 2, the program, its
 /// version and the procedure, and who calls.
-#[derive(Debug, Drop)]
+#[derive(Drop)]
 pub struct CallHead {
     pub xid: u32,
     pub rpcvers: u32,

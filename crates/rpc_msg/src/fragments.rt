@@ -10,7 +10,7 @@ use std::marker::Model;
 const ROOM: usize = RECORD_LIMIT as usize;
 
 /// What some bytes made of a record under way.
-#[derive(Clone, Copy, Debug)]
+#[derive(Clone, Copy)]
 pub(crate) enum Progress {
     /// It goes on.
     Goes,
@@ -21,7 +21,7 @@ pub(crate) enum Progress {
 }
 
 /// A record under way: the bytes of its fragments so far, and what is known of the fragment at hand.
-#[derive(Debug, Drop)]
+#[derive(Drop)]
 pub(crate) struct Fragments {
     bytes: Vec<u8>,
     header_bytes: u32,

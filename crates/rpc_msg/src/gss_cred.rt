@@ -9,7 +9,7 @@ use wire_xdr::{BadXdr, Octets, ReadError, Reader, Writer, Xdr, read};
 
 /// The credential of RPCSEC_GSS (RFC 2203 section 5), which is the body of an auth of flavor 6. Each number
 /// may be any word here: what version, procedure and service are served is for the caller to say.
-#[derive(Debug, Drop)]
+#[derive(Drop)]
 pub struct GssCred {
     pub version: u32,
     pub gss_proc: u32,

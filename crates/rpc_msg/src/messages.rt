@@ -13,7 +13,7 @@ use std::alloc::Global;
 use wire_xdr::{Octets, Reader, Writer, Xdr, no_prefix, one_spelling, read};
 
 /// Why the head of a message could not be read.
-#[derive(Clone, Copy, Debug, PartialEq, Eq)]
+#[derive(Clone, Copy, PartialEq, Eq)]
 pub enum RpcFault {
     /// The bytes spell no head. `at` is the place of the item that is refused, from the first byte on.
     BadXdr { at: usize },

@@ -53,7 +53,7 @@ pub enum Pumped {
 }
 
 /// What became of one piece.
-#[derive(Clone, Copy, Debug)]
+#[derive(Clone, Copy)]
 enum Piece {
     /// All of it was taken; so many bytes came after the last whole record.
     Taken(u64),

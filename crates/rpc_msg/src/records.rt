@@ -28,7 +28,7 @@ pub enum Fed {
 }
 
 /// Puts the records of a stream together from the pieces in which it comes (RFC 5531 section 11).
-#[derive(Debug, Drop)]
+#[derive(Drop)]
 pub struct RecordFeed {
     fragments: Fragments,
     whole: bool,

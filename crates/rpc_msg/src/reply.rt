@@ -38,7 +38,7 @@ pub enum Denial {
 }
 
 /// The head of a reply (RFC 5531 section 9): the number of the call that it answers, and what became of it.
-#[derive(Debug, Drop)]
+#[derive(Drop)]
 pub enum ReplyHead {
     Accepted { xid: u32, verf: Auth, stat: Stat },
     Denied { xid: u32, why: Denial },

@@ -20,7 +20,7 @@ const ROOM: usize = 4096;
 const BYTES_LIMIT: u32 = 1_048_576;
 
 /// What taking the next record from a link gives.
-#[derive(Clone, Copy, Debug, PartialEq, Eq)]
+#[derive(Clone, Copy, PartialEq, Eq)]
 pub enum Got {
     /// A record, which the [`Watched`] lends.
     Whole,
@@ -29,7 +29,7 @@ pub enum Got {
 }
 
 /// Why a link is down. Only a [`Watched`] makes one.
-#[derive(Clone, Copy, Debug, PartialEq, Eq)]
+#[derive(Clone, Copy, PartialEq, Eq)]
 pub struct Down {
     faults: u64,
     ended: bool,
@@ -74,7 +74,7 @@ impl Down {
 }
 
 // What the unread bytes brought.
-#[derive(Clone, Copy, Debug)]
+#[derive(Clone, Copy)]
 enum Brought {
     Part,
     Whole,
@@ -82,7 +82,7 @@ enum Brought {
 }
 
 // What a link answered when it was asked for bytes.
-#[derive(Clone, Copy, Debug)]
+#[derive(Clone, Copy)]
 enum Asked {
     More,
     Ended,

@@ -1,7 +1,7 @@
 use nfs_base::Side;
 
 /// What the disks did in a step of a run.
-#[derive(Clone, Copy, Debug, PartialEq, Eq)]
+#[derive(Clone, Copy, PartialEq, Eq)]
 pub enum Choice {
     /// Every call went.
     Went,

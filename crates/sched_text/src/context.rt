@@ -13,7 +13,7 @@ const MOST_WRITES: u32 = 4096;
 
 /// What the lines of a schedule so far leave open: how many files each server's volume has, once its
 /// `volume` line was there, which copy was begun, and how many writes and events there were.
-#[derive(Clone, Copy, Debug, PartialEq, Eq)]
+#[derive(Clone, Copy, PartialEq, Eq)]
 pub struct Context {
     pub source: Option<u32>,
     pub dest: Option<u32>,

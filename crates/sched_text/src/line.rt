@@ -7,7 +7,7 @@ use std::fmt;
 use wire_xdr::Octets;
 
 /// One line of a transcript.
-#[derive(Debug, Drop)]
+#[derive(Drop)]
 pub enum Line {
     /// What happened.
     Note(Note),

@@ -11,7 +11,7 @@ use std::marker::Model;
 
 /// The number of the first bad line of a text that is no schedule, counted from 1: the lowest line at
 /// which no schedule goes on so.
-#[derive(Clone, Copy, Debug, PartialEq, Eq)]
+#[derive(Clone, Copy, PartialEq, Eq)]
 pub struct BadLine {
     pub line: u64,
 }
@@ -25,7 +25,7 @@ impl fmt::Display for BadLine {
 }
 
 /// What one line of a text means.
-#[derive(Debug, Drop)]
+#[derive(Drop)]
 pub(crate) enum Meaning {
     /// It is empty or a comment, and passed over.
     Passed,
@@ -39,7 +39,7 @@ pub(crate) enum Meaning {
 
 /// A schedule: what the client, the servers and the network do, event by event. Each event may come
 /// after those before it.
-#[derive(Debug, Drop)]
+#[derive(Drop)]
 pub struct Schedule {
     events: Vec<Event>,
 }

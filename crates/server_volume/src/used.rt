@@ -9,7 +9,7 @@ use std::marker::Model;
 pub const MOST_CALLS: usize = 32;
 
 /// A call of a server on its volume. Offsets and lengths are bytes.
-#[derive(Clone, Copy, Debug, PartialEq, Eq)]
+#[derive(Clone, Copy, PartialEq, Eq)]
 pub enum VolumeCall {
     Read { file: u32, off: u64, len: u32 },
 
@@ -20,7 +20,7 @@ pub enum VolumeCall {
 }
 
 /// What a call of a volume answered.
-#[derive(Clone, Copy, Debug, PartialEq, Eq)]
+#[derive(Clone, Copy, PartialEq, Eq)]
 pub enum CallAnswer {
     Done,
 
@@ -32,14 +32,14 @@ pub enum CallAnswer {
 }
 
 /// A call that was made, and what it answered.
-#[derive(Clone, Copy, Debug, PartialEq, Eq)]
+#[derive(Clone, Copy, PartialEq, Eq)]
 pub struct Used {
     pub call: VolumeCall,
     pub answer: CallAnswer,
 }
 
 /// The calls of a step in their order. Room for all of them is taken when it is made.
-#[derive(Debug, Drop)]
+#[derive(Drop)]
 pub struct CallList {
     calls: Vec<Used>,
 }

@@ -35,7 +35,7 @@ pub enum Begin {
 
 /// The back channel of a session: the connection that it was made on, the callback program, and the handle of
 /// the context for the calls (RFC 8881 section 18.36).
-#[derive(Clone, Copy, Debug, PartialEq, Eq)]
+#[derive(Clone, Copy, PartialEq, Eq)]
 pub struct Back {
     pub conn: u32,
     pub program: u32,
@@ -43,7 +43,7 @@ pub struct Back {
 }
 
 /// A list of client IDs.
-#[derive(Debug, Drop)]
+#[derive(Drop)]
 pub struct ClientIds {
     ids: Vec<u64>,
 }
@@ -81,7 +81,7 @@ impl ClientIds {
 }
 
 /// What EXCHANGE_ID answers (RFC 8881 section 18.35).
-#[derive(Debug, Drop)]
+#[derive(Drop)]
 pub enum Exchanged {
     /// The client's ID, the sequence that its next CREATE_SESSION has, whether it is confirmed, and the clients
     /// that were ended to make room for it.
@@ -96,7 +96,7 @@ pub enum Exchanged {
 }
 
 /// What CREATE_SESSION answers (RFC 8881 section 18.36).
-#[derive(Debug, Drop)]
+#[derive(Drop)]
 pub enum Created {
     /// The session's ID, the sequence that was asked with, the pair's old client, where this call ended one, and
     /// whether the call that made the session asked for a back channel.

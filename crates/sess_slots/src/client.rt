@@ -10,7 +10,7 @@ use wire_xdr::Octets;
 
 /// A client: a principal with an owner string, and the verifier of the one boot of that owner
 /// (RFC 8881 section 2.4).
-#[derive(Debug, Drop)]
+#[derive(Drop)]
 pub struct Client {
     pub id: u64,
     pub principal: Octets,
@@ -32,7 +32,7 @@ pub struct Client {
 
 /// What CREATE_SESSION answered, for a call that comes again: the session's number, and whether it asked for a back
 /// channel.
-#[derive(Clone, Copy, Debug, PartialEq, Eq)]
+#[derive(Clone, Copy, PartialEq, Eq)]
 pub struct CreatedSession {
     pub number: u32,
     pub asked: bool,

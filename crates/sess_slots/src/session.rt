@@ -13,7 +13,7 @@ use std::alloc::Global;
 use wire_xdr::Octets;
 
 /// A session of a client (RFC 8881 section 2.10).
-#[derive(Debug, Drop)]
+#[derive(Drop)]
 pub struct Session {
     pub number: u32,
 

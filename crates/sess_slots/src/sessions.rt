@@ -18,7 +18,7 @@ use std::marker::Model;
 use wire_xdr::Octets;
 
 /// The clients of a server, and their sessions. Each call that doesn't answer [`Mem`] takes no memory.
-#[derive(Debug, Drop)]
+#[derive(Drop)]
 pub struct Sessions {
     boot: u32,
     clients: Vec<Client>,

@@ -15,14 +15,14 @@ use wire_xdr::Octets;
 pub const MOST_REPLY: usize = 73_100;
 
 /// A reply, kept for retries from one root context.
-#[derive(Debug, Drop)]
+#[derive(Drop)]
 pub struct Kept {
     pub root: u32,
     pub reply: Octets,
 }
 
 /// A slot: the last number that was executed on it, 0 at first, and the reply to that.
-#[derive(Debug, Drop)]
+#[derive(Drop)]
 pub struct Slot {
     pub last: u32,
     pub kept: Option<Kept>,
@@ -55,7 +55,7 @@ pub(crate) fn next_number(number: u32) -> u32
 }
 
 /// The sixteen slots of a session.
-#[derive(Debug, Drop)]
+#[derive(Drop)]
 pub struct Slots {
     slots: Vec<Slot>,
 }

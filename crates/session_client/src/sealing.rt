@@ -16,7 +16,7 @@ use std::alloc::Global;
 use wire_xdr::Octets;
 
 /// What is called under a context.
-#[derive(Clone, Copy, Debug, PartialEq, Eq)]
+#[derive(Clone, Copy, PartialEq, Eq)]
 pub enum CallKind {
     /// COMPOUND (RFC 8881 section 16.2).
     Compound,
@@ -29,7 +29,7 @@ pub enum CallKind {
 }
 
 /// A call as it goes out: its bytes and its seal, and what is awaited of the reply.
-#[derive(Debug, Drop)]
+#[derive(Drop)]
 pub struct SealedCall {
     pub bytes: Octets,
     pub seal: Seal,

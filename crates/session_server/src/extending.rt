@@ -14,7 +14,7 @@ use outcome::Mem;
 use std::alloc::Global;
 
 /// What a server says of a privilege that a CREATE asks for (RFC 7861 section 2.7.1).
-#[derive(Debug, Drop)]
+#[derive(Drop)]
 pub enum Judgement<C> {
     /// It is granted, and the child carries this.
     Granted(C),

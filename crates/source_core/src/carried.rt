@@ -3,7 +3,7 @@ use wire_xdr::Octets;
 
 /// The privilege that a child carries at a source (RFC 7862 section 4.10.1.1), with what a copy needs of the context
 /// under which it was made.
-#[derive(Debug, Drop)]
+#[derive(Drop)]
 pub enum Carried {
     /// copy_from_auth: this destination may read by the secret, for the user.
     From {

@@ -12,7 +12,7 @@ pub const MOST_LOCATION: u32 = 256;
 
 /// Where a source is found itself. Its strings have at most 256 bytes together, so that it fits into the answer of an
 /// operation. Contracts see the location.
-#[derive(Debug, Drop)]
+#[derive(Drop)]
 pub struct OwnLocation {
     loc: NetLoc,
 }

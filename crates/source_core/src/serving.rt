@@ -19,7 +19,7 @@ use std::alloc::Global;
 use wire_xdr::Octets;
 
 /// What a grant keeps of the privilege under which it was asked for.
-#[derive(Debug, Drop)]
+#[derive(Drop)]
 pub struct GrantStrings {
     pub secret: Octets,
     pub user: Octets,

@@ -7,7 +7,7 @@ use nfs_base::Status;
 use wire_xdr::Octets;
 
 /// A file that a client's owner has open (RFC 8881 section 9.1).
-#[derive(Debug, Drop)]
+#[derive(Drop)]
 pub struct OpenFile {
     /// The ID of the client.
     pub client: u64,

@@ -11,12 +11,12 @@ use std::marker::Model;
 use wire_xdr::Octets;
 
 /// There are as many opens as there may be.
-#[derive(Clone, Copy, Debug, PartialEq, Eq)]
+#[derive(Clone, Copy, PartialEq, Eq)]
 pub struct Full;
 
 /// The opens of a server: each is of a client's owner and of a file, and has a stateid. All room is taken when it
 /// is made: only [`Opens::open`], which copies the owner, can want memory afterwards.
-#[derive(Debug, Drop)]
+#[derive(Drop)]
 pub struct Opens {
     boot: u32,
     opens: Vec<OpenFile>,

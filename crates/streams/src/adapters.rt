@@ -13,7 +13,7 @@ const TRIES: u32 = 1_000;
 
 /// A source over a reader of std, as standard input. It tells what the reader tells. A read that a
 /// signal interrupts is tried again, up to a thousand times; any other error is a fault.
-#[derive(Debug, Drop)]
+#[derive(Drop)]
 pub struct Reading<R> {
     inner: R,
     faults: u64,
@@ -67,7 +67,7 @@ impl<R: Read> Source for Reading<R> {
 /// A sink over a writer of std, as standard output. It tells what the writer tells. A write that a
 /// signal interrupts is tried again, up to a thousand times; any other error is a fault, and so is a
 /// write that takes nothing of a piece with bytes. It never flushes: use a writer without a buffer.
-#[derive(Debug, Drop)]
+#[derive(Drop)]
 pub struct Writing<W> {
     inner: W,
     faults: u64,

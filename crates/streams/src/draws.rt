@@ -9,7 +9,7 @@ use sha2::{Digest, Sha256};
 use std::marker::Model;
 
 /// What a source of draws answers to one call.
-#[derive(Clone, Copy, Debug, PartialEq, Eq)]
+#[derive(Clone, Copy, PartialEq, Eq)]
 pub enum Drawn {
     /// 32 bytes.
     Got([u8; 32]),
@@ -37,7 +37,7 @@ pub trait Draws {
 
 /// Draws in memory, which tell their bytes. They fail at planned calls and at no other, and are zeros
 /// once all were given.
-#[derive(Debug, Drop)]
+#[derive(Drop)]
 pub struct MemDraws {
     draws: Vec<[u8; 32]>,
     at: usize,
@@ -108,7 +108,7 @@ impl Draws for MemDraws {
 /// Draws by a counter, which begins at 0: the SHA-256 digest (FIPS 180-4) of the counter in eight
 /// bytes, high first. They never fail, and anyone can foretell them: they are for runs that are to
 /// be the same each time.
-#[derive(Debug, Drop)]
+#[derive(Drop)]
 pub struct CountDraws {
     count: u64,
 }

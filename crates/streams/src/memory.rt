@@ -12,7 +12,7 @@ use std::alloc::Global;
 use std::marker::Model;
 
 /// A source in memory, which tells its bytes. It fails at planned calls and at no other.
-#[derive(Debug, Drop)]
+#[derive(Drop)]
 pub struct MemSource {
     bytes: Vec<u8>,
     at: usize,
@@ -103,7 +103,7 @@ fn copy_front(to: &mut [u8], from: &[u8]) -> usize
 }
 
 /// A sink in memory, which tells its bytes. It fails at planned calls and where memory is refused.
-#[derive(Debug, Drop)]
+#[derive(Drop)]
 pub struct MemSink {
     bytes: Vec<u8>,
     plan: Planned,

@@ -17,7 +17,7 @@ use std::fmt;
 const ROOM: usize = 4096;
 
 /// All that a source has, or why it wasn't read.
-#[derive(Debug, Drop)]
+#[derive(Drop)]
 pub enum Whole {
     /// All the bytes that it had left.
     Text(Vec<u8>),

@@ -3,7 +3,7 @@ use outcome::Mem;
 use std::alloc::Global;
 
 /// A call that is made by hand under a context of boot 1, with the codes of its key.
-#[derive(Clone, Copy, Debug)]
+#[derive(Clone, Copy)]
 pub struct Asked {
     pub version: u32,
     pub gss_proc: u32,

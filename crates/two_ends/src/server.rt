@@ -44,7 +44,7 @@ pub enum Init {
 }
 
 /// A call that was admitted.
-#[derive(Debug, Drop)]
+#[derive(Drop)]
 pub struct Call {
     pub head: CallHead,
     pub number: u32,

@@ -5,7 +5,7 @@ use std::alloc::Global;
 use std::fmt;
 
 /// One line of what is shown. Places are counted in bytes from the start of the record.
-#[derive(Clone, Copy, Debug, PartialEq, Eq)]
+#[derive(Clone, Copy, PartialEq, Eq)]
 pub enum ShownLine {
     /// A record, counted from 1, and its length in bytes.
     Record {

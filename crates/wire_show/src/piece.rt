@@ -12,7 +12,7 @@ use rpc_msg::{Fed, RecordFeed, Sink, WriteFault, put_all};
 use std::alloc::Global;
 
 /// What became of one piece of the stream.
-#[derive(Clone, Copy, Debug)]
+#[derive(Clone, Copy)]
 pub(crate) enum Piece {
     /// All of it was taken; so many bytes came after the last whole record.
     Taken(u64),

@@ -9,7 +9,7 @@
 //!
 //! How to add a type T (`sample.rt` of crate `xdr_rows` and its forms have one of each kind):
 //!
-//! 1. Write the struct or enum with `#[derive(Debug, Drop)]`: u32, u64, i64, bool, `[u8; N]`, [`Octets`],
+//! 1. Write the struct or enum with `#[derive(Drop)]`: u32, u64, i64, bool, `[u8; N]`, [`Octets`],
 //!    [`Items`], `Option` and types that have a form.
 //! 2. Struct, in `specs/`: `unfoldable pub t : Form T` is `seen_as TO FROM (λ v. refl) (λ v. refl)` of nested
 //!    `both`, TO making the record from nested pairs and FROM the pairs from the record. The fields' forms are

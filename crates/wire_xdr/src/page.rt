@@ -10,7 +10,7 @@ use std::marker::Model;
 
 /// Room for bytes that is taken at once, so that what is written into it wants no memory. XDR is written
 /// into it item by item, as by [`Writer`](crate::Writer).
-#[derive(Debug, Drop)]
+#[derive(Drop)]
 pub struct Page {
     bytes: Vec<u8>,
     room: usize,

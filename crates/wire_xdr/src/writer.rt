@@ -11,7 +11,7 @@ use std::marker::Model;
 
 /// Writes XDR, item by item (RFC 4506). Contracts see the bytes written. Without memory they stay as
 /// they were before the call.
-#[derive(Debug, Drop)]
+#[derive(Drop)]
 pub struct Writer {
     bytes: Vec<u8>,
 }

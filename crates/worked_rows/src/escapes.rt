@@ -2,7 +2,7 @@ use outcome::Mem;
 use std::alloc::Global;
 
 /// Where a reader of a text with escapes stands.
-#[derive(Clone, Copy, PartialEq, Eq)]
+#[derive(Clone, Copy, Debug, PartialEq, Eq)]
 enum Place {
     /// Outside an escape.
     Plain,

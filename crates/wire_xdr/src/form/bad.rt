@@ -9,13 +9,13 @@ use std::alloc::{AllocError, AllocFailed};
 /// The bytes spell no value. `at` is the place of the item that is refused, counted from the reader's
 /// first byte: where a word, a length or a field of bytes begins, also one that is cut short; for
 /// padding the byte itself; for an unknown tag the tag.
-#[derive(Clone, Copy, Debug, PartialEq, Eq)]
+#[derive(Clone, Copy, PartialEq, Eq)]
 pub struct BadXdr {
     pub at: usize,
 }
 
 /// Why a value could not be read.
-#[derive(Clone, Copy, Debug, PartialEq, Eq)]
+#[derive(Clone, Copy, PartialEq, Eq)]
 pub enum ReadError {
     Memory,
     Bad(BadXdr),
