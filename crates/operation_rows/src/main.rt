@@ -29,27 +29,53 @@ impl Rows for OperationRows {
         let words = words(alloc, call)?;
         let number = number(&words, 1);
         match word(&words, 0) {
-            "args" => copies::args(alloc, number, &bytes(alloc, &words, 2)?),
-            "res" => copies::res(alloc, number, &bytes(alloc, &words, 2)?),
-            "offload" => copies::offload(alloc, &bytes(alloc, &words, 1)?),
             "fronts" => copies::fronts(alloc, &words),
             "turned" => copies::turned(alloc, &words),
-            "file_args" => files::args(alloc, number, &bytes(alloc, &words, 2)?),
-            "file_res" => files::res(alloc, number, &bytes(alloc, &words, 2)?),
-            "cb_seq" => files::cb_seq(alloc, &bytes(alloc, &words, 1)?),
-            "cb_seq_res" => files::cb_seq_res(alloc, &bytes(alloc, &words, 1)?),
-            "name" => files::name(alloc, number),
-            "compound" => compounds::compound(alloc, &bytes(alloc, &words, 1)?),
-            "owners" => compounds::owners(alloc, &bytes(alloc, &words, 1)?),
-            "cb_compound" => compounds::cb_compound(alloc, &bytes(alloc, &words, 1)?),
-            "reply" => compounds::reply(alloc, &bytes(alloc, &words, 1)?),
-            "cb_reply" => compounds::cb_reply(alloc, &bytes(alloc, &words, 1)?),
-            "walk" => evaluation::evaluated(alloc, number, &bytes(alloc, &words, 2)?),
             "show" => shows::shown(alloc, &words),
-            "cut" => shows::cut(alloc, number, &bytes(alloc, &words, 2)?),
+            "name" => files::name(alloc, number),
             "most" => shows::most(alloc, number),
-            kind => types::told(alloc, kind, &bytes(alloc, &words, 1)?),
+            kind => read(alloc, kind, number, &words),
         }
+    }
+}
+
+/// The answer to `KIND NUMBER BYTES` or `KIND BYTES`.
+fn read(alloc: Global, kind: &str, number: u32, words: &[&str]) -> Mem<String> {
+    let at = match kind {
+        "args" | "res" | "file_args" | "file_res" | "walk" | "cut" => 2,
+        _ => 1,
+    };
+    let bytes = bytes(alloc, words, at)?;
+    match at {
+        2 => by_number(alloc, kind, number, &bytes),
+        _ => whole(alloc, kind, &bytes),
+    }
+}
+
+/// What bytes are to an operation of this number.
+fn by_number(alloc: Global, kind: &str, number: u32, bytes: &[u8]) -> Mem<String> {
+    match kind {
+        "args" => copies::args(alloc, number, bytes),
+        "res" => copies::res(alloc, number, bytes),
+        "file_args" => files::args(alloc, number, bytes),
+        "file_res" => files::res(alloc, number, bytes),
+        "walk" => evaluation::evaluated(alloc, number, bytes),
+        _ => shows::cut(alloc, number, bytes),
+    }
+}
+
+/// What bytes are that name their kind themselves.
+fn whole(alloc: Global, kind: &str, bytes: &[u8]) -> Mem<String> {
+    match kind {
+        "offload" => copies::offload(alloc, bytes),
+        "cb_seq" => files::cb_seq(alloc, bytes),
+        "cb_seq_res" => files::cb_seq_res(alloc, bytes),
+        "compound" => compounds::compound(alloc, bytes),
+        "owners" => compounds::owners(alloc, bytes),
+        "cb_compound" => compounds::cb_compound(alloc, bytes),
+        "reply" => compounds::reply(alloc, bytes),
+        "cb_reply" => compounds::cb_reply(alloc, bytes),
+        _ => types::told(alloc, kind, bytes),
     }
 }
 

@@ -35,16 +35,23 @@ impl Rows for StreamRows {
             "digests" => draws::digests(alloc, first),
             "draws" => draws::in_memory(alloc, first, second),
             "feed" => records::feed(alloc, first, &bytes(alloc, &words, 2)?),
-            "cuts" => records::cuts(alloc, &bytes(alloc, &words, 1)?),
             "mark" => records::mark_of(alloc, first),
-            "fronts" => heads::fronts(alloc, &bytes(alloc, &words, 1)?),
-            "call" => heads::call(alloc, &bytes(alloc, &words, 1)?),
-            "reply" => heads::reply(alloc, &bytes(alloc, &words, 1)?),
-            "cred" => heads::cred(alloc, &bytes(alloc, &words, 1)?),
             "pump" => pump::pump(alloc, &words),
             "watch" => watched::watch(alloc, &words),
-            _ => Ok(format!(in alloc; "no such call")?),
+            kind => read(alloc, kind, &bytes(alloc, &words, 1)?),
         }
+    }
+}
+
+/// What bytes are read as.
+fn read(alloc: Global, kind: &str, bytes: &[u8]) -> Mem<String> {
+    match kind {
+        "cuts" => records::cuts(alloc, bytes),
+        "fronts" => heads::fronts(alloc, bytes),
+        "call" => heads::call(alloc, bytes),
+        "reply" => heads::reply(alloc, bytes),
+        "cred" => heads::cred(alloc, bytes),
+        _ => Ok(format!(in alloc; "no such call")?),
     }
 }
 

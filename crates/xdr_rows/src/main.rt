@@ -23,19 +23,28 @@ struct XdrRows;
 impl Rows for XdrRows {
     fn answer(&mut self, alloc: Global, call: &str) -> Mem<String> {
         let words = words(alloc, call)?;
-        let limit = number(&words, 1);
-        match word(&words, 0) {
-            "file" => readings::told::<File>(alloc, &bytes(alloc, &words, 1)?),
-            "folder" => readings::told::<Folder>(alloc, &bytes(alloc, &words, 1)?),
-            "label" => readings::told::<Label>(alloc, &bytes(alloc, &words, 1)?),
-            "outcome" => readings::told::<Outcome>(alloc, &bytes(alloc, &words, 1)?),
-            "request" => readings::request(alloc, limit, &bytes(alloc, &words, 2)?),
-            "owner" => readings::owner(alloc, &bytes(alloc, &words, 1)?),
-            "all_file" => readings::all::<File>(alloc, &bytes(alloc, &words, 1)?),
-            "all_word" => readings::all::<u32>(alloc, &bytes(alloc, &words, 1)?),
-            "words" => words::read(alloc, &bytes(alloc, &words, 1)?),
-            kind => words::fault(alloc, kind, limit, &bytes(alloc, &words, 2)?),
-        }
+        let kind = word(&words, 0);
+        let at = match kind {
+            "request" | "opaque" | "flag" | "word" => 2,
+            _ => 1,
+        };
+        read(alloc, kind, number(&words, 1), &bytes(alloc, &words, at)?)
+    }
+}
+
+/// What bytes are read as, some by a number or with a limit.
+fn read(alloc: Global, kind: &str, limit: u32, bytes: &[u8]) -> Mem<String> {
+    match kind {
+        "file" => readings::told::<File>(alloc, bytes),
+        "folder" => readings::told::<Folder>(alloc, bytes),
+        "label" => readings::told::<Label>(alloc, bytes),
+        "outcome" => readings::told::<Outcome>(alloc, bytes),
+        "request" => readings::request(alloc, limit, bytes),
+        "owner" => readings::owner(alloc, bytes),
+        "all_file" => readings::all::<File>(alloc, bytes),
+        "all_word" => readings::all::<u32>(alloc, bytes),
+        "words" => words::read(alloc, bytes),
+        _ => words::fault(alloc, kind, limit, bytes),
     }
 }
 
