@@ -1,0 +1,10 @@
+pub mod Faces
+pub mod Gained
+pub mod Heard
+pub mod Losses
+pub mod SendMoves
+pub mod SentLaws
+pub mod Shrunk
+pub mod Spoken
+pub mod StepLaws
+pub mod TakeMoves

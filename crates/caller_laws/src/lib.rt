@@ -1,0 +1,10 @@
+//! The laws of a wire that every caller obeys in every step (`wire_model`'s `CallerLaws`), whatever the machine above it asks.
+//!
+//! There is no code here. `specs/View.antt` says how a mount looks from outside, `specs/Moves.antt` what its steps are and
+//! what is seen of each, `specs/Good.antt` what holds of a mount between steps, `specs/Lawful.antt` what the machine above may
+//! do. The law to read first is [`steps_are_lawful`].
+#![tactic(auto)]
+
+mod laws;
+
+pub use laws::{mounts_begin_lawful, steps_are_lawful};
