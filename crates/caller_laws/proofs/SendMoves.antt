@@ -58,11 +58,12 @@ use Rattle.wire_spelling.specs.Calls.{xid_in}
 use Rattle.wire_spelling.specs.Slots.{first_slot, is_simple, ops_of, slot_of}
 use Rattle.wire_spelling.specs.Spelling.{spelling}
 use Rattle.caller_laws.specs.Good.{FitsAim, Identity, IsAsked, IsFair, IsGood, IsOurs, IsOwnToken}
+use Rattle.caller_laws.specs.Duties.{SendsOwnCalls}
 use Rattle.caller_laws.specs.Lawful.{GoesOn, MaySend, asked_by}
 use Rattle.caller_laws.specs.Moves.{Send, Begin, BeginAnew, SetUp, Reclaim, InSlot, Make, Finish, Again, sending, sent_by}
 use Rattle.caller_laws.specs.View.{Above, Face, awaited_in, caller_of, face, face_of, handle_named, mount_in, next_in, purpose_of, root_seen, what_asked, what_named, what_under}
 use Rattle.caller_laws.proofs.Faces.{numbered_face, numbered_has, some_is}
-use Rattle.caller_laws.proofs.SentLaws.{IsSaid, WasRooted, WentOut, sent_good, sent_obeys, unnamed_new}
+use Rattle.caller_laws.proofs.SentLaws.{IsSaid, WasRooted, WentOut, sent_calls, sent_good, sent_obeys, unnamed_new}
 use Rattle.caller_laws.proofs.Shrunk.{Shrinks, awaiting_of, mapped, seen, shrunk_obeys}
 use Rattle.caller_laws.proofs.Spoken.{AreRead, IsOpen, SaysAsked, says_asked, says_init, slot_in_asked}
 
@@ -76,6 +77,7 @@ pub record Known : Type 0 where
 pub record IsRight (who : Identity) (before after : Above) (m : Mounted) (o : Option out.Sent × Mounted) : Type 0 where
   pub good : IsGood who o.1
   pub obeys : laws.CallerLaws (spelling who.accepts who.whose) m.server who.own (caller_of before m) (caller_of after o.1) (sending o.0)
+  pub calls : SendsOwnCalls before after (sending o.0)
 
 abbrev pub Right : Identity → Above → Above → Mounted → Option out.Sent × Mounted → Type 0
 Right who before after m o = ((sent : out.Sent) → o.0 ≡ Some sent → IsBytes sent.bytes) → IsRight who before after m o
@@ -104,6 +106,7 @@ pub nothing_goes : (who : Identity) (before after : Above) (m : Mounted) → IsG
 nothing_goes who before after m g goes = record {
   good = g;
   obeys = shrunk_obeys who m m (shrinks_itself who m g) before after g goes (sending None) (λ x c. none_sent x c) (λ root learnt. let took = learnt.takes.took in cc);
+  calls = λ bytes seal sends. absurd (none_sent _ sends);
 }
 
 -- ---- compounds of these ends
@@ -260,7 +263,11 @@ module _ (who : Identity) (before after : Above) (m : Mounted) (at : SendAt) (g 
         on = λ xid seal call is. let what : Begins ≡ Slotted seal call = ap (λ (x : Awaited). x.what) is in absurd cc;
         slotted = λ seal name sealed named. absurd cc;
       } in
-      record { good = sent_good who m w at.place p went g; obeys = sent_obeys who before after m w at.place p sent went g goes said }
+      record {
+        good = sent_good who m w at.place p went g;
+        obeys = sent_obeys who before after m w at.place p sent went g goes said;
+        calls = sent_calls who before after m w at.place p sent went g goes said;
+      }
 
   -- ---- a call under a context
 
@@ -394,7 +401,11 @@ module _ (who : Identity) (before after : Above) (m : Mounted) (at : SendAt) (g 
                 subst (λ (s : Seal). laws.IsAwaited (spelling who.accepts who.whose) (caller_of after w) sent.bytes s name) (some_is (sealed asked c).seal seal sealed_by)
                 (slotted_here asked refl name (sym says.slot ∙ named) says);
           } in
-          record { good = sent_good who m w at.place p call_went g; obeys = sent_obeys who before after m w at.place p sent call_went g goes said }
+          record {
+            good = sent_good who m w at.place p call_went g;
+            obeys = sent_obeys who before after m w at.place p sent call_went g goes said;
+            calls = sent_calls who before after m w at.place p sent call_went g goes said;
+          }
 
     -- ---- what may become of a call: nothing goes out, or it does
 

@@ -18,6 +18,7 @@ use Rattle.wire_spelling.specs.Calls.{xid_in}
 use Rattle.wire_spelling.specs.Slots.{is_simple, ops_of, slot_of}
 use Rattle.wire_spelling.specs.Spelling.{spelling}
 use Rattle.caller_laws.specs.Good.{Identity, IsFair, IsGood, IsNumbered, IsOwnToken, xid_awaited}
+use Rattle.caller_laws.specs.Duties.{IsOwnCall, SendsOwnCalls}
 use Rattle.caller_laws.specs.Lawful.{GoesOn}
 use Rattle.caller_laws.specs.Moves.{sending}
 use Rattle.caller_laws.specs.View.{Above, awaited_in, caller_of, face_of, has_in, mount_in, next_in, root_seen}
@@ -275,3 +276,12 @@ module _ (who : Identity) (before after : Above) (m w : Mounted) (place : ℕ) (
         (said.slotted seal name same.1 (ap slot_of same.0 ∙ named));
     in_slot = λ other xid seal call there. in_slot who after w other xid seal call (sent_good who m w place p s g) there;
   }
+
+  pub sent_calls : SendsOwnCalls before after (sending (Some sent))
+  sent_calls bytes seal sends =
+      let same = bytes_are bytes seal sends in
+      let xid = said.says.xid_is in
+      let fresh = said.fresh in
+      let counted = said.counted in
+      subst (IsOwnCall before after) same.0
+      (record { is_call = said.says.is_call; no_callback = said.says.no_callback; fresh = omega arith; counted = omega arith })

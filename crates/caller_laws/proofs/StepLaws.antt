@@ -13,6 +13,7 @@ use Rattle.mount.specs.declared.state.TheConstants.{PLACES}
 use Rattle.wire_model.specs.CallerLaws.{CallerLaws, CallerStart}
 use Rattle.wire_spelling.specs.Spelling.{spelling}
 use Rattle.caller_laws.specs.Good.{Identity, IsGood}
+use Rattle.caller_laws.specs.Duties.{SendsOwnCalls}
 use Rattle.caller_laws.specs.Lawful.{GoesOn, IsStep, May, Obeys}
 use Rattle.caller_laws.specs.Moves.{Move, Sends, Takes, GivesUp, Forgets, Falls, Rests, done, nothing_shown}
 use Rattle.caller_laws.specs.View.{Above, awaited_in, caller_of}
@@ -24,6 +25,7 @@ use Rattle.caller_laws.proofs.TakeMoves.{take_right}
 pub record IsDone (who : Identity) (means : Means) (before after : Above) (m : Mounted) (move : Move) : Type 0 where
   pub good : IsGood who (done means move m).mount
   pub obeys : Obeys who means before after m move
+  pub calls : SendsOwnCalls before after (done means move m).shown
 
 lost : (who : Identity) (before after : Above) (m w : Mounted) → IsGood who m → GoesOn m before after → Shrinks who m w
     → CallerLaws (spelling who.accepts who.whose) m.server who.own (caller_of before m) (caller_of after w) nothing_shown
@@ -38,20 +40,20 @@ step_done who means before after m move sized known step = by move step.may
     by (Sends at send) may =
         let given : IsGiven before after m at = record { place = may.place; unused = may.unused; fresh = may.fresh; counted = may.counted; small = may.small } in
         let right = send_right who before after m at step.good step.goes_on given means.mic sized known send may may.are_bytes in
-        record { good = right.good; obeys = right.obeys }
+        record { good = right.good; obeys = right.obeys; calls = right.calls }
     by (Takes place message) may =
         let right = take_right who before after m place message step.good step.goes_on means may in
-        record { good = right.good; obeys = right.obeys }
+        record { good = right.good; obeys = right.obeys; calls = λ bytes seal sends. absurd (none_sent _ sends) }
     by (GivesUp place) may =
         let s = given_up_shrinks who m place step.good in
-        record { good = shrunk_good who m (given_up place m) s step.good; obeys = lost who before after m (given_up place m) step.good step.goes_on s }
+        record { good = shrunk_good who m (given_up place m) s step.good; obeys = lost who before after m (given_up place m) step.good step.goes_on s; calls = λ bytes seal sends. absurd (none_sent _ sends) }
     by (Forgets child) may =
         let s = forgotten_shrinks who m child step.good in
-        record { good = shrunk_good who m (forgotten child m) s step.good; obeys = lost who before after m (forgotten child m) step.good step.goes_on s }
+        record { good = shrunk_good who m (forgotten child m) s step.good; obeys = lost who before after m (forgotten child m) step.good step.goes_on s; calls = λ bytes seal sends. absurd (none_sent _ sends) }
     by Falls may =
         let s = fallen_shrinks who m in
-        record { good = shrunk_good who m (fallen m) s step.good; obeys = lost who before after m (fallen m) step.good step.goes_on s }
-    by Rests may = record { good = step.good; obeys = lost who before after m m step.good step.goes_on (shrinks_itself who m step.good) }
+        record { good = shrunk_good who m (fallen m) s step.good; obeys = lost who before after m (fallen m) step.good step.goes_on s; calls = λ bytes seal sends. absurd (none_sent _ sends) }
+    by Rests may = record { good = step.good; obeys = lost who before after m m step.good step.goes_on (shrinks_itself who m step.good); calls = λ bytes seal sends. absurd (none_sent _ sends) }
 
 -- ---- before the first call
 

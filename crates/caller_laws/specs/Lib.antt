@@ -2,3 +2,4 @@ pub mod View
 pub mod Moves
 pub mod Good
 pub mod Lawful
+pub mod Duties

@@ -2,6 +2,7 @@ ghost use Rattle.std.specs.Prelude.{◌≡◌, ℕ, Bool, List};
 ghost use Rattle.nfs_base.specs.declared.seal.End.{End};
 ghost use Rattle.mount.specs.State.{Mounted, fresh};
 ghost use Rattle.wire_model.specs.CallerLaws.{CallerStart};
+ghost use Rattle.caller_laws.specs.Duties.{SendsOwnCalls};
 ghost use Rattle.caller_laws.specs.Good.{Identity, IsGood};
 ghost use Rattle.caller_laws.specs.Lawful.{IsStep, Obeys};
 ghost use Rattle.caller_laws.specs.Moves.{Move, done};
@@ -19,6 +20,10 @@ pub fn steps_are_lawful<M: Mechanism>()
     ensures good { (mech : M) (principal : List ℕ) (who : Identity) (before after : Above) (m : Mounted) (move : Move)
         → IsStep who (record { mic = M.mic_of; derived = M.derived; finished = M.finished mech principal }) before after m move
         → IsGood who (done (record { mic = M.mic_of; derived = M.derived; finished = M.finished mech principal }) move m).mount }
+    // What goes out is a call by an xid that the machine gave in this step, and never a reply.
+    ensures calls { (mech : M) (principal : List ℕ) (who : Identity) (before after : Above) (m : Mounted) (move : Move)
+        → IsStep who (record { mic = M.mic_of; derived = M.derived; finished = M.finished mech principal }) before after m move
+        → SendsOwnCalls before after (done (record { mic = M.mic_of; derived = M.derived; finished = M.finished mech principal }) move m).shown }
 {
     tokens_agree::<M>();
     written_compounds_are_read();

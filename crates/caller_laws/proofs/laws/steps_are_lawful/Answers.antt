@@ -12,4 +12,5 @@ returns g c =
     record {
       laws = λ mech principal who before after m move step. (step_done who _ before after m move c.tokens_agree.ensures.codes known step).obeys;
       good = λ mech principal who before after m move step. (step_done who _ before after m move c.tokens_agree.ensures.codes known step).good;
+      calls = λ mech principal who before after m move step. (step_done who _ before after m move c.tokens_agree.ensures.codes known step).calls;
     }
