@@ -1,4 +1,5 @@
 pub mod KeyRows
 pub mod Lists
+pub mod Numbers
 pub mod Tables
 pub mod Writes

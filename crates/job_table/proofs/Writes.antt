@@ -1,13 +1,14 @@
 -- A write of one job's log in the slab is a write of it in the list that contracts see.
-use Rattle.std.proofs.Common.{false, ◌≡◌, ℕ, ◌+◌, ◌<◌, Bool, true, List, [], ◌∷◌, ◌++◌, length, get_or, take, Option, Some, None, refl, ap, sym, ◌∙◌, subst, inl, inr}
-use Rattle.std.specs.Prelude.{◌≢◌, ◌⊎◌, not, find, filter, option_and_then, IfSome, IfNone, IsSome}
+use Rattle.std.proofs.Common.{false, ◌≡◌, ℕ, arith, length-append, ◌+◌, ◌<◌, Bool, true, List, [], ◌∷◌, ◌++◌, length, get_or, take, Option, Some, None, refl, ap, sym, ◌∙◌, subst, inl, inr}
+use Rattle.std.specs.Prelude.{◌≢◌, ◌⊎◌, cond, is_some, All, not, find, filter, option_and_then, IfSome, IfNone, IsSome}
 use Rattle.std.specs.List.{cons_option}
 use Rattle.std.proofs.lemmas.List.{take_more}
 use Rattle.std.proofs.lemmas.List.Elements.{filter_map-append}
 use Rattle.std.proofs.lemmas.Bool.{cases_eq}
 use Rattle.std.proofs.lemmas.List.Kept.{AllPairs-filter}
-use Rattle.slab.specs.Slab.{Slab, get, ContainsKey, with_value, Updates}
-use Rattle.slab.proofs.SlabLemmas.{Updates-with_value}
+use Rattle.std.proofs.lemmas.List.Sums.{sum_by-set}
+use Rattle.slab.specs.Slab.{Slab, get, slab_len, ContainsKey, with_value, Updates}
+use Rattle.slab.proofs.SlabLemmas.{ContainsKey-within, Updates-with_value}
 use Rattle.job_log.specs.declared.chunk.Chunk.{Chunk}
 use Rattle.job_log.specs.Log.{JobView, IsNextClaim, HasNoClaim, with_claim}
 use Rattle.job_table.specs.declared.job.Job.{Job}
@@ -15,8 +16,9 @@ use Rattle.job_table.specs.declared.job.JobId.{JobId}
 use Rattle.copy_model.specs.Job.{has_ended}
 use Rattle.job_table.specs.Table.{is_live, is_running, JobTable, is_job, job_of, with_log, passes, changed, without, IsTable}
 use Rattle.job_table.specs.Stored.{jobs_at, IsStored}
-use Rattle.job_table.proofs.KeyRows.{find_key, hit, hit_some, change_key, drop_keys, all_left, same_values, push_key, push_distinct, push_filled}
+use Rattle.job_table.proofs.KeyRows.{find_key, hit, hit_some, change_key, drop_keys, all_left, length_values, same_values, push_key, push_distinct, push_filled}
 use Rattle.job_table.proofs.Lists.{changed_none}
+use Rattle.job_table.proofs.Numbers.{one_gone}
 use Rattle.job_table.proofs.Tables.{Follows, relogged, table_changed, table_filter}
 
 -- the table that contracts see
@@ -130,6 +132,18 @@ written {boot = boot} {slots = slots} {keys = keys} {id = id} {key = key} {x = x
     change_key p (λ job. relogged job (g job.log)) (λ k. get slots k) (λ k. get (with_value slots key (relogged x log)) k) keys key x
     f.searched f.value (sym one ∙ passed) (u.changed ∙ ap (λ (l : JobView). Some (relogged x l)) made_of) u.others f.stored.distinct
 
+counts_one : (o : Option Job) → IsSome o → cond {A = ℕ} (is_some o) 1 0 ≡ 1
+counts_one None has = absurd (cc)
+counts_one (Some x) has = refl
+
+-- a write of a value where one was leaves their number
+count_rewritten : (slots : Slab Job) (key : ℕ) (v : Job) → ContainsKey slots key → slab_len (with_value slots key v) ≡ slab_len slots
+count_rewritten slots key v has =
+    let f : Option Job → ℕ = λ o. cond {A = ℕ} (is_some o) 1 0 in
+    let e = sum_by-set f slots.slots key (Some v) None (ContainsKey-within slots key has) in
+    let one = counts_one (get slots key) has in
+    omega (arith, e, one)
+
 -- what holds of the table still does
 pub stored_write : {boot capacity made : ℕ} {slots : Slab Job} {keys : List ℕ} {id : JobId} {now : JobTable} {key : ℕ} {x : Job} (log : JobView)
     → IsFound boot capacity made slots keys id now key x → Follows capacity x log → IsStored capacity made (with_value slots key (relogged x log)) keys
@@ -142,6 +156,8 @@ stored_write {boot = boot} {capacity = capacity} {made = made} {slots = slots} {
       table = rw same (table_changed capacity made (jobs_at slots keys) (is_job boot id) x log f.stored.table there follows);
       distinct = f.stored.distinct;
       filled = λ i d lt. still_there slots (with_value slots key (relogged x log)) key _ (relogged x log) u (f.stored.filled i d lt);
+      no_other = count_rewritten slots key (relogged x log) has ∙ f.stored.no_other;
+      room = f.stored.room;
     }
   where
     at_key : (old new : Slab Job) (key k : ℕ) (y : Job) → Updates old new key (Some y) → ContainsKey old k → (k ≡ key) ⊎ (k ≢ key) → ContainsKey new k
@@ -169,6 +185,11 @@ seen_left {boot = boot} {capacity = capacity} {made = made} {slots = slots} {key
 
 -- ---- a job less
 
+-- a search of the table that finds a key finds its job
+job_found : (boot : ℕ) (slots : Slab Job) (keys : List ℕ) (id : JobId) (key : ℕ) → search_by (is_job boot id) slots keys ≡ Some key
+    → find (is_job boot id) (jobs_at slots keys) ≡ get slots key
+job_found boot slots keys id key searched = sym (found_job (is_job boot id) slots keys (Some key) key (get slots key) (sym searched) refl refl)
+
 left_alone : (test : Job → Bool) (old new : Slab Job) (key k : ℕ) → Updates old new key None → passes test (get old key) ≡ true → not (passes test (get old k)) ≡ true → get new k ≡ get old k
 left_alone test old new key k u passed fails =
     u.others k (λ same. (let a : not (passes test (get old k)) ≡ not true = ap (λ (m : ℕ). not (passes test (get old m))) same ∙ ap (λ (b : Bool). not b) passed in cc))
@@ -183,16 +204,27 @@ jobs_less boot slots now keys id key searched u =
     ∙ drop_keys p (λ k. get slots k) keys
 
 pub stored_less : (boot capacity made : ℕ) (slots now : Slab Job) (keys : List ℕ) (id : JobId) (key : ℕ) → IsStored capacity made slots keys
-    → search_by (is_job boot id) slots keys ≡ Some key → Updates slots now key None
+    → search_by (is_job boot id) slots keys ≡ Some key → Updates slots now key None → slab_len now + 1 ≡ slab_len slots → now.capacity ≡ slots.capacity
     → IsStored capacity made now (filter (λ k. not (passes (is_job boot id) (get slots k))) keys)
-stored_less boot capacity made slots now keys id key stored searched u =
+stored_less boot capacity made slots now keys id key stored searched u len room =
     let p : Job → Bool = is_job boot id in
     let passed = hit (λ k. passes p (get slots k)) keys key searched in
+    let left : List ℕ = filter (λ k. not (passes p (get slots k))) keys in
+    let still : All (λ k. ContainsKey now k) left =
+    all_left (λ k. ContainsKey slots k) (λ k. ContainsKey now k) (λ k. not (passes p (get slots k))) keys
+    (λ k fails has. subst (λ (o : Option Job). IsSome o) (sym (left_alone p slots now key k u passed fails)) has) stored.filled in
+    let values : length (jobs_at slots keys) ≡ length keys = length_values (λ k. get slots k) keys stored.filled in
+    let fewer : length (jobs_at now left) ≡ length left = length_values (λ k. get now k) left still in
+    let same : length (jobs_at now left) ≡ length (filter (λ job. not (p job)) (jobs_at slots keys)) = ap (λ (js : List Job). length js) (jobs_less boot slots now keys id key searched u) in
+    let gone = one_gone boot id (jobs_at slots keys) (subst (λ (o : Option Job). IsSome o) (sym (job_found boot slots keys id key searched)) (hit_some p (get slots key) passed)) stored.table.rising in
+    let was = stored.no_other in
+    let enough = stored.room in
     record {
       table = rw (jobs_less boot slots now keys id key searched u) (table_filter capacity made (jobs_at slots keys) (λ job. not (p job)) stored.table);
       distinct = AllPairs-filter (λ (a b : ℕ). a ≢ b) (λ k. not (passes p (get slots k))) keys stored.distinct;
-      filled = all_left (λ k. ContainsKey slots k) (λ k. ContainsKey now k) (λ k. not (passes p (get slots k))) keys
-          (λ k fails has. subst (λ (o : Option Job). IsSome o) (sym (left_alone p slots now key k u passed fails)) has) stored.filled;
+      filled = still;
+      no_other = omega arith;
+      room = omega arith;
     }
 
 -- contracts see the table without the job
@@ -206,15 +238,20 @@ seen_less boot capacity made slots now keys id key t view searched u =
 -- ---- a job more
 
 pub stored_more : (capacity made : ℕ) (slots now : Slab Job) (keys : List ℕ) (key : ℕ) (y : Job) → IsStored capacity made slots keys
-    → get slots key ≡ None → Updates slots now key (Some y)
+    → get slots key ≡ None → Updates slots now key (Some y) → slab_len now ≡ slab_len slots + 1 → now.capacity ≡ slots.capacity
     → IsTable capacity (made + 1) (jobs_at slots keys ++ y ∷ []) → IsStored capacity (made + 1) now (keys ++ key ∷ [])
-stored_more capacity made slots now keys key y stored none u table =
+stored_more capacity made slots now keys key y stored none u len room table =
     let g : ℕ → Option Job = λ k. get slots k in
     let h : ℕ → Option Job = λ k. get now k in
+    let n = length-append keys (key ∷ []) in
+    let was = stored.no_other in
+    let enough = stored.room in
     record {
       table = rw (push_key g h keys key y stored.filled none u.changed u.others) table;
       distinct = push_distinct g keys key stored.filled none stored.distinct;
       filled = push_filled g h keys key y stored.filled none u.changed u.others;
+      no_other = omega arith;
+      room = omega arith;
     }
 
 pub jobs_more : (capacity made : ℕ) (slots now : Slab Job) (keys : List ℕ) (key : ℕ) (y : Job) → IsStored capacity made slots keys

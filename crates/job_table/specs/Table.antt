@@ -110,14 +110,12 @@ IsOverlap boot job (Ok id) = ⊥
 IsOverlap boot job (Err (Overlap id)) = Names boot job id
 IsOverlap boot job (Err Full) = ⊥
 
--- a job that was just accepted
+-- a job that was just accepted: nothing came about in it
+abbrev pub new_log : Bool → JobView
+new_log consecutive = record { consecutive = consecutive; entries = []; cause = None; claims = []; spare = 0 }
+
 abbrev pub new_job : ℕ → Plan → Job
-new_job number plan =
-    record {
-      number = number;
-      plan = plan;
-      log = record { consecutive = plan.consecutive; entries = []; cause = None; claims = []; spare = 0 };
-    }
+new_job number plan = record { number = number; plan = plan; log = new_log plan.consecutive }
 
 -- the table with a job more, which has the next number
 abbrev pub with_job : JobTable → Plan → JobTable

@@ -5,7 +5,7 @@ ghost use Rattle.job_table.specs.Table.{job_of, is_running, is_ended, is_told, w
 
 use crate::job::JobId;
 use crate::jobs::Jobs;
-use crate::keys::{forget, key_of};
+use crate::keys::key_of;
 use copy_model::logs_grow;
 use job_log::{Chunk, Landing};
 use nfs_base::Stop;
@@ -122,7 +122,7 @@ impl Jobs {
         ensures { self.new ≡ without self.old job }
     {
         if let Some(key) = key_of(&self.slots, self.keys.as_slice(), self.boot, job) {
-            forget(&mut self.keys, &self.slots, self.boot, job);
+            self.keys.forget(&self.slots, self.boot, job);
             self.slots.remove(key);
         }
     }

@@ -1,8 +1,9 @@
 ghost use Rattle.std.specs.Prelude.{◌≡◌, ◌==◌, ◌+◌, ◌-◌, ◌<◌, ◌≤◌, ◌^◌, [], ◌∷◌, ◌++◌, All, AllPairs, IfOk, IfErr, OnOk, OnErr, IfSome, IfNone, IsSome, MatchOption, Some, None, Ok, Err, length, option_copied, IsOk};
 ghost use Rattle.job_table.specs.declared.job.Refused.TheVariants.{Full};
-ghost use Rattle.job_table.specs.Table.{job_of, job_above, overlapped, Names, AreApart, IsOverlap, with_job};
+ghost use Rattle.job_table.specs.Table.{job_of, job_above, new_log, overlapped, Names, AreApart, IsOverlap, with_job};
 
 use crate::job::{Job, JobId, Plan, Refused};
+use crate::key_row::KeyRow;
 use crate::keys::{id_at, key_above, key_met, key_of};
 use job_log::JobLog;
 use nfs_base::MOST_JOBS;
@@ -20,7 +21,7 @@ pub struct Jobs {
     pub(crate) slots: Slab<Job>,
 
     // The key of each job, by number.
-    pub(crate) keys: Vec<usize>,
+    pub(crate) keys: KeyRow,
 }
 
 impl Model for Jobs {
@@ -44,7 +45,7 @@ impl Jobs {
             capacity,
             made: 0,
             slots: Slab::with_capacity(alloc, MOST_JOBS)?,
-            keys: Vec::with_capacity(alloc, MOST_JOBS)?,
+            keys: KeyRow::new(alloc)?,
         })
     }
 
@@ -105,13 +106,29 @@ impl Jobs {
         ensures refused { IfOk result (λ answer. OnErr answer (self.new ≡ self.old)) }
         ensures err { OnErr result (self.new ≡ self.old) }
     {
+        let log = JobLog::new(self.keys.allocator(), plan.consecutive)?;
+        Ok(self.accept_taken(plan, log))
+    }
+
+    /// Takes a copy in the same way, with the log of a new job that was made before. It wants no memory.
+    pub fn accept_taken(&mut self, plan: Plan, log: JobLog) -> Result<JobId, Refused>
+        requires numbers { self.old.made < 2 ^ 32 - 1 }
+        requires fits { plan.dst_off + plan.count ≤ self.old.capacity }
+        requires new { log ≡ new_log plan.consecutive }
+        ensures overlap { IfSome (overlapped self.old plan) (λ job. IsOverlap self.old.boot job result) }
+        ensures full { overlapped self.old plan ≡ None → 16 ≤ length self.old.jobs → result ≡ Err Full }
+        ensures taken { overlapped self.old plan ≡ None → length self.old.jobs < 16 → IsOk result }
+        ensures name { IfOk result (λ id. (id.boot ≡ self.old.boot) × (id.number ≡ self.old.made + 1)) }
+        ensures done { OnOk result (self.new ≡ with_job self.old plan) }
+        ensures refused { OnErr result (self.new ≡ self.old) }
+    {
         if let Some(job) = self.overlapping(&plan) {
-            return Ok(Err(Refused::Overlap { job }));
+            return Err(Refused::Overlap { job });
         }
         if self.count() >= MOST_JOBS {
-            return Ok(Err(Refused::Full));
+            return Err(Refused::Full);
         }
-        Ok(Ok(self.add(plan)?))
+        Ok(self.add(plan, log))
     }
 
     fn count(&self) -> usize
@@ -130,26 +147,23 @@ impl Jobs {
         }
     }
 
-    fn add(&mut self, plan: Plan) -> Mem<JobId>
+    fn add(&mut self, plan: Plan, log: JobLog) -> JobId
         requires numbers { self.old.made < 2 ^ 32 - 1 }
         requires few { length self.old.jobs < 16 }
         requires fits { plan.dst_off + plan.count ≤ self.old.capacity }
         requires apart { overlapped self.old plan ≡ None }
-        ensures id { IfOk result (λ id. (id.boot ≡ self.old.boot) × (id.number ≡ self.old.made + 1)) }
-        ensures done { OnOk result (self.new ≡ with_job self.old plan) }
-        ensures err { OnErr result (self.new ≡ self.old) }
+        requires new { log ≡ new_log plan.consecutive }
+        ensures id { (result.boot ≡ self.old.boot) × (result.number ≡ self.old.made + 1) }
+        ensures done { self.new ≡ with_job self.old plan }
     {
-        let alloc = *self.keys.allocator();
-        let log = JobLog::new(alloc, plan.consecutive)?;
-        self.keys.reserve(1)?;
         let number = self.made + 1;
-        let key = self.slots.insert(Job { number, plan, log })?;
+        let key = self.slots.insert_reserved(Job { number, plan, log });
         self.made = number;
-        self.keys.push(key).unwrap();
-        Ok(JobId {
+        self.keys.push(key);
+        JobId {
             key,
             boot: self.boot,
             number,
-        })
+        }
     }
 }

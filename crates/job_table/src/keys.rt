@@ -1,4 +1,4 @@
-ghost use Rattle.std.specs.Prelude.{◌≡◌, find, nat_lt, not, filter, IfSome};
+ghost use Rattle.std.specs.Prelude.{◌≡◌, find, nat_lt, IfSome};
 ghost use Rattle.slab.specs.Slab.{get, ContainsKey};
 ghost use Rattle.job_table.specs.Table.{is_job, overlaps, passes, Names};
 
@@ -15,7 +15,7 @@ pub(crate) fn key_of(slots: &Slab<Job>, keys: &[usize], boot: u32, id: JobId) ->
         .find(|key| is_named(slots, *key, boot, id))
 }
 
-fn is_named(slots: &Slab<Job>, key: usize, boot: u32, id: JobId) -> bool
+pub(crate) fn is_named(slots: &Slab<Job>, key: usize, boot: u32, id: JobId) -> bool
     ensures { result ≡ passes (is_job boot id) (get slots.now key) }
 {
     match slots.get(key) {
@@ -75,11 +75,4 @@ pub(crate) fn id_at(slots: &Slab<Job>, key: usize, boot: u32) -> JobId
         boot,
         number: slots[key].number,
     }
-}
-
-/// Takes the key of the job of this name out of the row.
-pub(crate) fn forget(keys: &mut Vec<usize>, slots: &Slab<Job>, boot: u32, id: JobId)
-    ensures { keys.new.items ≡ filter (λ key. not (passes (is_job boot id) (get slots.now key))) keys.old.items }
-{
-    keys.retain(|key| !is_named(slots, *key, boot, id));
 }

@@ -9,10 +9,11 @@
 mod calls;
 mod job;
 mod jobs;
+mod key_row;
 mod keys;
 mod progress;
 mod ranges;
 
 pub use job::{JobId, JobStatus, Plan, Refused};
-pub use job_log::{Chunk, Landing};
+pub use job_log::{Chunk, JobLog, Landing};
 pub use jobs::Jobs;

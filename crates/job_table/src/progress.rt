@@ -1,4 +1,4 @@
-ghost use Rattle.std.specs.Prelude.{◌≡◌, ◌≤◌, All, length, sum_by, IfSome, IsSome, MatchOption, None, option_and_then};
+ghost use Rattle.std.specs.Prelude.{◌≡◌, ◌*◌, ◌^◌, ◌≤◌, All, length, sum_by, IfSome, IsSome, MatchOption, None, option_and_then};
 ghost use Rattle.std.specs.Bool.{OnTrue, OnFalse};
 ghost use Rattle.copy_model.specs.Job.{size_of, landed_bytes, AllowsCommit, IsLawful};
 ghost use Rattle.job_log.specs.Log.{ClaimsAreNew};
@@ -17,6 +17,7 @@ impl Jobs {
         ensures value { result ≡ sum_by (λ job. landed_bytes job.log.entries) self.now.jobs }
         ensures lawful { All (λ job. IsLawful job.plan.consecutive job.log.entries) self.now.jobs }
         ensures claims { All (λ job. ClaimsAreNew job.log) self.now.jobs }
+        ensures bound { result ≤ length self.now.jobs * 2 ^ 64 }
     {
         landed_by(&self.slots, self.keys.as_slice())
     }
@@ -111,6 +112,7 @@ fn landed_by(slots: &Slab<Job>, keys: &[usize]) -> u128
     ensures value { result ≡ sum_by (λ job. landed_bytes job.log.entries) (jobs_at slots.now keys.now) }
     ensures lawful { All (λ job. IsLawful job.log.consecutive job.log.entries) (jobs_at slots.now keys.now) }
     ensures claims { All (λ job. ClaimsAreNew job.log) (jobs_at slots.now keys.now) }
+    ensures bound { result ≤ length keys.now * 2 ^ 64 }
 {
     let mut bytes = 0u128;
     for key in keys {

@@ -12,7 +12,8 @@ pub invariant_of-self : goal.invariant_of-self
 invariant_of-self c =
     rw c.forget.ensures
     (stored_less c.self.inside.boot c.self.inside.capacity c.self.inside.made c.self.inside.slots c.remove.new.self c.self.inside.keys.items c.args.job c.in-Some.key
-    c.self.invariant (sym (searched c.self.inside.boot c.self.inside.slots c.args.job c.key_of.ensures c.as_slice.ensures.value).is ∙ c.in-Some.is) c.remove.ensures.updates)
+    c.self.invariant (sym (searched c.self.inside.boot c.self.inside.slots c.args.job c.key_of.ensures c.as_slice.ensures.value).is ∙ c.in-Some.is) c.remove.ensures.updates
+    c.remove.ensures.len c.remove.ensures.capacity)
 
 pub returns-in-Some : goal.returns-in-Some
 returns-in-Some c =
