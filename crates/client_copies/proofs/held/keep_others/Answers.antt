@@ -1,0 +1,6 @@
+use Rattle.std.proofs.Common.{rules}
+use Rattle.std.proofs.lemmas.Fn.{filter_same}
+use Rattle.client_copies.proofs.held.keep_others.Goals as goal
+
+pub returns-clause-held : goal.returns-clause-held
+returns-clause-held c = filter_same _ _ _ (λ x b f' k. search rules) _ _ c.retain.ensures.filtered

@@ -1,0 +1,6 @@
+pub mod Copies
+pub mod Held
+pub mod Laws
+pub mod Refusals
+pub mod Steps
+pub mod Words
