@@ -1,0 +1,64 @@
+//! The verifiers of writes.
+
+ghost use Rattle.std.specs.Prelude.{◌≡◌, ◌==◌, ◌≤◌, ◌+◌, ◌<◌, not, filter, length, vec_len, vec_capacity};
+ghost use Rattle.std.specs.List.{list_all, list_any};
+ghost use Rattle.write_queue.specs.Queue.{agrees, cleared, is_pair, is_same, noted};
+
+/// A write of this file was answered under this verifier since the last line of a commit of it.
+#[derive(Clone, Copy)]
+pub struct Seen {
+    pub file: u32,
+    pub verifier: [u8; 8],
+}
+
+/// Notes a write. It takes no memory where there is room for one more.
+pub(crate) fn note(seen: &mut Vec<Seen>, one: Seen)
+    requires { vec_len seen.old < vec_capacity seen.old }
+    ensures noted { seen.new.items ≡ noted one.file one.verifier seen.old.items }
+    ensures few { vec_len seen.new ≤ vec_len seen.old + 1 }
+    ensures room { vec_capacity seen.old ≤ vec_capacity seen.new }
+{
+    if !has(seen.as_slice(), &one) {
+        seen.push(one).unwrap();
+    }
+}
+
+fn has(seen: &[Seen], one: &Seen) -> bool
+    ensures { result ≡ list_any (is_pair one.now.file one.now.verifier) seen.now }
+{
+    seen.iter().any(|other| is_pair(other, one))
+}
+
+fn is_pair(other: &Seen, one: &Seen) -> bool
+    ensures { result ≡ is_pair one.now.file one.now.verifier other.now }
+{
+    other.file == one.file && other.verifier == one.verifier
+}
+
+/// Whether each write of a file that is noted was answered under this verifier.
+pub(crate) fn is_same(seen: &[Seen], file: u32, verifier: &[u8; 8]) -> bool
+    ensures { result ≡ is_same file verifier.now seen.now }
+{
+    seen.iter().all(|one| agrees(one, file, verifier))
+}
+
+fn agrees(one: &Seen, file: u32, verifier: &[u8; 8]) -> bool
+    ensures { result ≡ agrees file verifier.now one.now }
+{
+    one.file != file || one.verifier == *verifier
+}
+
+/// Forgets the writes of a file.
+pub(crate) fn clear(seen: &mut Vec<Seen>, file: u32)
+    ensures cleared { seen.new.items ≡ cleared file seen.old.items }
+    ensures few { vec_len seen.new ≤ vec_len seen.old }
+    ensures room { vec_capacity seen.new ≡ vec_capacity seen.old }
+{
+    seen.retain(|one| is_of_another(one, file));
+}
+
+fn is_of_another(one: &Seen, file: u32) -> bool
+    ensures { result ≡ not (one.now.file == file) }
+{
+    one.file != file
+}
