@@ -1,3 +1,4 @@
 pub mod Courses
 pub mod Causes
 pub mod Holding
+pub mod Early

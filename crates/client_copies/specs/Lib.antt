@@ -3,4 +3,5 @@ pub mod Held
 pub mod Laws
 pub mod Refusals
 pub mod Steps
+pub mod Table
 pub mod Words

@@ -1,6 +1,6 @@
 //! What holds of every copy.
 
-ghost use Rattle.std.specs.Prelude.{◌≡◌, ◌≤◌, ◌++◌, ◌∷◌, ℕ, List, [], Option, Some, None, true, count_by};
+ghost use Rattle.std.specs.Prelude.{◌≡◌, ◌<◌, ◌≤◌, length, option_map, ◌++◌, ◌∷◌, ℕ, List, [], Option, Some, None, true, count_by};
 ghost use Rattle.std.specs.List.{list_any};
 ghost use Rattle.nfs_base.specs.declared.copy_spec.CopySpec.{CopySpec};
 ghost use Rattle.nfs_base.specs.declared.state_id.StateId.{StateId};
@@ -8,9 +8,11 @@ ghost use Rattle.client_copies.specs.Copies.{begun};
 ghost use Rattle.client_copies.specs.Held.{each_told, held_for, one_told, told_for};
 ghost use Rattle.client_copies.specs.Laws.{IsSaidExact, IsSaidStable};
 ghost use Rattle.client_copies.specs.Steps.{after};
+ghost use Rattle.client_copies.specs.Table.{Copies, accepted_at, copy_at};
 ghost use Rattle.client_copies.specs.Words.{behind_all, is_exact_word, is_final, is_stable_word, phase_of, ran, told, told_by_run};
 ghost use Rattle.client_copies.specs.declared.copy.ClientCopy.{ClientCopy};
 ghost use Rattle.client_copies.specs.declared.event.Event.{Event};
+ghost use Rattle.client_copies.specs.declared.event.Event.TheVariants.{Accepted};
 ghost use Rattle.client_copies.specs.declared.held.HeldOffload.{HeldOffload};
 ghost use Rattle.client_copies.specs.declared.told.Word.{Word};
 
@@ -33,4 +35,10 @@ pub fn only_these_are_stable_and_exact()
 pub fn held_reports_are_told()
     ensures said { (id : StateId) (held : List HeldOffload) (c : ClientCopy) → told_by_run (each_told (held_for id held)) c ≡ told_by_run (one_told (told_for id held)) c }
     ensures after { (id : StateId) (held : List HeldOffload) (c : ClientCopy) → ran (each_told (held_for id held)) c ≡ ran (one_told (told_for id held)) c }
+{}
+
+/// A copy ends alike whether its CB_OFFLOADs come behind COPY's answer or before it: those that were held are told behind
+/// its acceptance, in the order in which they came.
+pub fn early_reports_count()
+    ensures { (number : ℕ) (id : StateId) (sent_at : ℕ) (t : Copies) → number < length t.copies → copy_at number (accepted_at number id sent_at t).1 ≡ option_map (ran (Accepted id sent_at ∷ each_told (held_for id t.held))) (copy_at number t) }
 {}
