@@ -3,7 +3,7 @@ use wire_xdr::{Items, Octets};
 
 /// The privilege that a child carries at a destination: copy_to_auth (RFC 7862 section 4.10.1.1). By this secret it may
 /// copy from these places, for the user.
-#[derive(Debug, Drop)]
+#[derive(Drop)]
 pub struct Carried {
     pub secret: Octets,
     pub sources: Items<NetLoc>,

@@ -1,7 +1,7 @@
 use nfs_base::JobName;
 
 /// What becomes of a copy that is asked for.
-#[derive(Clone, Copy, Debug, PartialEq, Eq)]
+#[derive(Clone, Copy, PartialEq, Eq)]
 pub enum Acceptance {
     /// It is a job now.
     Accepted(JobName),
