@@ -101,4 +101,8 @@ abbrev pub created : {P : Type 0} → (List ℕ → ℕ → List ℕ → List �
 created derived now carry call table = created_by derived now carry call.under table (counted now call table)
 
 abbrev pub create_answer : {P : Type 0} → Mic → ContextTable P → Call → Option ℕ → CreateAnswer
-create_answer mic table call made = record { bytes = result_reply mic table call (create_result.spell (create_told table.boot made)); made = made }
+create_answer mic table call made = record {
+  bytes = result_reply mic table call (create_result.spell (create_told table.boot made));
+  major = (create_told table.boot made).major;
+  made = made;
+}

@@ -1,4 +1,4 @@
-ghost use Rattle.std.specs.Prelude.{◌≡◌, ◌+◌, ◌<◌, ◌≤◌, ◌++◌, List, [], length, IfOk, IfSome, OnErr, IsSome, Some};
+ghost use Rattle.std.specs.Prelude.{◌≡◌, ◌+◌, ◌<◌, ◌≤◌, ◌++◌, ℕ, List, [], length, IfOk, IfSome, OnErr, IsSome, Some};
 ghost use Rattle.wire_xdr.specs.Page.{Added};
 ghost use Rattle.gss_ctx.specs.Forms.{create_result};
 ghost use Rattle.rpc_calls.specs.Judging.{HasSpelling, IsThere, MayHaveChild};
@@ -20,6 +20,10 @@ const CREATE_ROOM: usize = 24;
 #[derive(Drop)]
 pub struct CreateAnswer {
     pub bytes: Octets,
+
+    /// The major status that the record says, 0 where a child was made.
+    pub major: u32,
+
     pub made: Option<u32>,
 }
 
@@ -61,8 +65,19 @@ pub fn answer_create<P: Drop, M: Mechanism>(
     put_result(&mut page, boot, made);
     Ok(CreateAnswer {
         bytes: sealer.seal(page.as_slice(), mech),
+        major: created_major(made),
         made,
     })
+}
+
+/// The major status of a CREATE, by the child that was made.
+fn created_major(made: Option<u32>) -> u32
+    ensures { (boot : ℕ) → result ≡ (create_told boot made).major }
+{
+    match made {
+        Some(_) => GSS_S_COMPLETE,
+        None => GSS_S_FAILURE,
+    }
 }
 
 /// The result of CREATE, with the child that was made.

@@ -21,8 +21,8 @@ use std::alloc::Global;
 use streams::Draws;
 use wire_xdr::{Octets, Page};
 
-/// The most bytes that a reply to INIT has, its token being of 4,096 bytes.
-const INIT_ROOM: usize = 4224;
+/// The most bytes that a reply to INIT has: its token has at most 4,096.
+pub const INIT_ROOM: usize = 4224;
 
 /// How INIT was answered: the record, the number of the context that was made, and whether a draw failed.
 #[derive(Drop)]
@@ -65,6 +65,7 @@ pub fn answer_init<P: Drop, M: Mechanism, W: Draws>(
     ensures err { OnErr result (contexts.new ≡ contexts.old) }
     ensures later { W.faults draws.old ≤ W.faults draws.new }
     ensures drawn { IfOk result (λ told. told.draw_failed ≡ true → Rose (W.faults draws.old) (W.faults draws.new)) }
+    ensures short { IfOk result (λ told. length told.bytes ≤ INIT_ROOM) }
     ensures failing { W.failing draws.new ≡ W.failing draws.old }
 {
     let page = Page::new(alloc, INIT_ROOM)?;
@@ -78,7 +79,8 @@ fn init_answer(mut page: Page, xid: u32, number: u32, answer: &Inited) -> InitAn
     requires empty { page.bytes ≡ [] }
     requires room { INIT_ROOM ≤ page.room }
     requires token { HasShortToken answer.now }
-    ensures { result ≡ init_answer xid number answer.now }
+    ensures is { result ≡ init_answer xid number answer.now }
+    ensures short { length result.bytes ≤ INIT_ROOM }
 {
     put_init(&mut page, xid, answer);
     let bytes = page.finish();
@@ -102,7 +104,8 @@ fn init_answer(mut page: Page, xid: u32, number: u32, answer: &Inited) -> InitAn
 fn put_init(page: &mut Page, xid: u32, answer: &Inited)
     requires room { length page.old.bytes + INIT_ROOM ≤ page.old.room }
     requires token { HasShortToken answer.now }
-    ensures { page.new.bytes ≡ page.old.bytes ++ init_reply xid answer.now }
+    ensures bytes { page.new.bytes ≡ page.old.bytes ++ init_reply xid answer.now }
+    ensures len { length page.new.bytes ≤ length page.old.bytes + INIT_ROOM }
 {
     match answer {
         Inited::Made {
@@ -154,7 +157,8 @@ fn put_result(page: &mut Page, handle: &[u8], major: u32, minor: u32, window: u3
     requires handle { length handle.now ≤ 8 }
     requires token { length token.now ≤ 4096 }
     requires room { length page.old.bytes + 4164 ≤ page.old.room }
-    ensures { Added page.old (init_result.spell (record { handle = handle.now; major = major; minor = minor; window = window; token = token.now })) page.new }
+    ensures added { Added page.old (init_result.spell (record { handle = handle.now; major = major; minor = minor; window = window; token = token.now })) page.new }
+    ensures len { length page.new.bytes ≤ length page.old.bytes + 4164 }
 {
     page.opaque(handle);
     page.u32(major);

@@ -17,7 +17,7 @@ mod numbers;
 pub use answers::{answer_destroy, answer_null, count, deny, fail};
 pub use call::{Call, Judged, Program, Under, What};
 pub use children::{CreateAnswer, answer_create};
-pub use contexts::{InitAnswer, answer_init};
+pub use contexts::{INIT_ROOM, InitAnswer, answer_init};
 pub use judging::judge;
 pub use numbers::{
     GSS_S_COMPLETE, GSS_S_DEFECTIVE_TOKEN, GSS_S_FAILURE, MINOR_BAD_TOKEN, MINOR_DRAW_FAILED,

@@ -1,3 +1,4 @@
 pub mod Counting
 pub mod Turns
 pub mod Compounded
+pub mod Lengths

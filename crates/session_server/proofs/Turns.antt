@@ -1,10 +1,11 @@
 -- A step that makes no call on the volume.
-use Rattle.std.proofs.Common.{◌≡◌, sym, subst, List, []}
+use Rattle.std.proofs.Common.{◌≡◌, sym, subst, true, false, List, []}
 use Rattle.std.specs.Prelude.{ℕ, IfOk, Result, Ok, Err}
 use Rattle.block_file.specs.Opened.{Opened}
 use Rattle.disk_model.specs.Elapsed.{Timeline}
 use Rattle.disk_model.specs.declared.fuse.Fuse.{Fuse}
 use Rattle.outbox.specs.declared.outgoing.Outbox.{Outbox}
+use Rattle.outcome.specs.Causes.{Rose}
 use Rattle.server_volume.specs.declared.used.Used.{Used}
 use Rattle.server_volume.specs.MomentLaws.{ran_none}
 use Rattle.server_volume.specs.Moments.{Ran}
@@ -21,3 +22,9 @@ pub ran_unused : {D E : Type 0} (size : D → ℕ) (fuse : D → Fuse) (timeline
     → IfOk r (λ out. Ran (seat_of size fuse timeline old) (seat_of size fuse timeline new) [] out.used)
 ran_unused size fuse timeline {old = old} {new = new} (Ok out) same none = ran_still size fuse timeline old new out.used same none
 ran_unused size fuse timeline (Err e) same none = tt
+
+-- a step that draws nothing tells of no draw that failed
+pub none_failed : {E : Type 0} (before now : ℕ) (r : Result Outbox E) → IfOk r (λ out. out.undrawn ≡ false)
+    → IfOk r (λ out. out.undrawn ≡ true → Rose before now)
+none_failed before now (Ok out) none = λ failed. absurd cc
+none_failed before now (Err e) none = tt

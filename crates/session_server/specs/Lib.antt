@@ -2,3 +2,4 @@ pub mod Host
 pub mod Labels
 pub mod Room
 pub mod Steps
+pub mod Lengths

@@ -1,13 +1,14 @@
 //! Calls that aren't a COMPOUND, under a context or not.
 
-ghost use Rattle.std.specs.Prelude.{◌≡◌, ◌≢◌, ◌<◌, ◌≤◌, ℕ, [], IfOk, OnErr};
+ghost use Rattle.std.specs.Prelude.{◌≡◌, ◌≢◌, ◌<◌, ◌≤◌, ℕ, true, false, [], IfOk, OnErr};
+ghost use Rattle.outcome.specs.Causes.{Rose};
 ghost use Rattle.rpc_msg.specs.Heads.{denial, stat};
 ghost use Rattle.rpc_calls.specs.Answers.{counted};
 ghost use Rattle.rpc_calls.specs.Judging.{HasSpelling, IsThere, MayHaveChild};
-ghost use Rattle.rpc_calls.specs.Making.{create_told};
 ghost use Rattle.session_server.specs.declared.host.TheConstants.{MOST_STEPS};
 ghost use Rattle.session_server.specs.Host.{host_of, rules_of, stepped_of, IsCounted};
 ghost use Rattle.session_server.specs.Labels.{drop_cause};
+ghost use Rattle.session_server.specs.Lengths.{AreShort};
 ghost use Rattle.session_server.specs.Steps.{IsInit, denied, dropped, failed, going_back, granted, on_create, on_destroy, on_null, reply_seal, with_note};
 
 use crate::extending::{Extending, Judgement};
@@ -20,8 +21,8 @@ use nfs_base::Seal;
 use outbox::{CallLabel, Label, Note, Outbox, Outgoing, To};
 use outcome::Mem;
 use rpc_calls::{
-    Call, GSS_S_COMPLETE, GSS_S_FAILURE, RPCSEC_GSS_PRIVILEGE_PROBLEM, answer_create,
-    answer_destroy, answer_init, answer_null, count, deny, fail,
+    Call, RPCSEC_GSS_PRIVILEGE_PROBLEM, answer_create, answer_destroy, answer_init, answer_null,
+    count, deny, fail,
 };
 use rpc_msg::{Denial, Stat};
 use std::alloc::Global;
@@ -44,6 +45,8 @@ impl<D: Disk, X, C: Drop> Host<D, X, C> {
         ensures is { IfOk result (λ out. stepped_of D.size self.new out ≡ dropped (record { leave = X.leaves; lapse = X.lapses }) second (counted second call.now self.old.contexts) (Note.Dropped (drop_cause why)) (host_of D.size self.old)) }
         ensures volume { self.new.server.files.volume ≡ self.old.server.files.volume }
         ensures unused { IfOk result (λ out. out.used ≡ []) }
+        ensures short { IfOk result (λ out. AreShort out.sent) }
+        ensures drawn { IfOk result (λ out. out.undrawn ≡ false) }
         ensures err { OnErr result (self.new ≡ self.old) }
         ensures counted { IsCounted X.given self.new }
     {
@@ -71,6 +74,8 @@ impl<D: Disk, X, C: Drop> Host<D, X, C> {
         ensures is { IfOk result (λ out. stepped_of D.size self.new out ≡ denied (record { leave = X.leaves; lapse = X.lapses }) second conn call.now why (host_of D.size self.old)) }
         ensures volume { self.new.server.files.volume ≡ self.old.server.files.volume }
         ensures unused { IfOk result (λ out. out.used ≡ []) }
+        ensures short { IfOk result (λ out. AreShort out.sent) }
+        ensures drawn { IfOk result (λ out. out.undrawn ≡ false) }
         ensures err { OnErr result (self.new ≡ self.old) }
         ensures counted { IsCounted X.given self.new }
     {
@@ -100,6 +105,8 @@ impl<D: Disk, X, C: Drop> Host<D, X, C> {
         ensures is { IfOk result (λ out. stepped_of D.size self.new out ≡ failed (record { leave = X.leaves; lapse = X.lapses }) (record { mic = X.Mech.mic_of; derived = X.Mech.derived }) second conn call.now failure (host_of D.size self.old)) }
         ensures volume { self.new.server.files.volume ≡ self.old.server.files.volume }
         ensures unused { IfOk result (λ out. out.used ≡ []) }
+        ensures short { IfOk result (λ out. AreShort out.sent) }
+        ensures drawn { IfOk result (λ out. out.undrawn ≡ false) }
         ensures err { OnErr result (self.new ≡ self.old) }
         ensures counted { IsCounted X.given self.new }
     {
@@ -136,6 +143,8 @@ impl<D: Disk, X, C: Drop> Host<D, X, C> {
         ensures is { IfOk result (λ out. stepped_of D.size self.new out ≡ on_null (record { leave = X.leaves; lapse = X.lapses }) (record { mic = X.Mech.mic_of; derived = X.Mech.derived }) second conn call.now (host_of D.size self.old)) }
         ensures volume { self.new.server.files.volume ≡ self.old.server.files.volume }
         ensures unused { IfOk result (λ out. out.used ≡ []) }
+        ensures short { IfOk result (λ out. AreShort out.sent) }
+        ensures drawn { IfOk result (λ out. out.undrawn ≡ false) }
         ensures err { OnErr result (self.new ≡ self.old) }
         ensures counted { IsCounted X.given self.new }
     {
@@ -172,6 +181,8 @@ impl<D: Disk, X, C: Drop> Host<D, X, C> {
         ensures is { IfOk result (λ out. stepped_of D.size self.new out ≡ on_destroy (record { leave = X.leaves; lapse = X.lapses }) (record { mic = X.Mech.mic_of; derived = X.Mech.derived }) second conn call.now (host_of D.size self.old)) }
         ensures volume { self.new.server.files.volume ≡ self.old.server.files.volume }
         ensures unused { IfOk result (λ out. out.used ≡ []) }
+        ensures short { IfOk result (λ out. AreShort out.sent) }
+        ensures drawn { IfOk result (λ out. out.undrawn ≡ false) }
         ensures err { OnErr result (self.new ≡ self.old) }
         ensures counted { IsCounted X.given self.new }
     {
@@ -208,9 +219,11 @@ impl<D: Disk, X, C: Drop> Host<D, X, C> {
         ensures is { IfOk result (λ out. IsInit (rules_of X.gated X.serves X.leaves X.lapses X.judges X.tells X.silent) (record { mic = X.Mech.mic_of; derived = X.Mech.derived }) (X.Mech.accepted (X.mech_of self.old.server.files.extra) token.now) W.gives second conn call.now (host_of D.size self.old) draws.old draws.new (stepped_of D.size self.new out)) }
         ensures volume { self.new.server.files.volume ≡ self.old.server.files.volume }
         ensures unused { IfOk result (λ out. out.used ≡ []) }
+        ensures short { IfOk result (λ out. AreShort out.sent) }
         ensures err { OnErr result (self.new ≡ self.old) }
         ensures counted { IsCounted X.given self.new }
         ensures later { W.faults draws.old ≤ W.faults draws.new }
+        ensures undrawn { IfOk result (λ out. out.undrawn ≡ true → Rose (W.faults draws.old) (W.faults draws.new)) }
         ensures failing { W.failing draws.new ≡ W.failing draws.old }
     {
         let room = Room::new(alloc)?;
@@ -255,6 +268,8 @@ impl<D: Disk, X, C: Drop> Host<D, X, C> {
         ensures is { IfOk result (λ out. stepped_of D.size self.new out ≡ on_create (rules_of X.gated X.serves X.leaves X.lapses X.judges X.tells X.silent) (record { mic = X.Mech.mic_of; derived = X.Mech.derived }) second conn call.now name.now privilege.now (host_of D.size self.old)) }
         ensures volume { self.new.server.files.volume ≡ self.old.server.files.volume }
         ensures unused { IfOk result (λ out. out.used ≡ []) }
+        ensures short { IfOk result (λ out. AreShort out.sent) }
+        ensures drawn { IfOk result (λ out. out.undrawn ≡ false) }
         ensures err { OnErr result (self.new ≡ self.old) }
         ensures counted { IsCounted X.given self.new }
     {
@@ -288,6 +303,8 @@ impl<D: Disk, X, C: Drop> Host<D, X, C> {
         ensures is { IfOk result (λ out. stepped_of D.size self.new out ≡ granted (record { leave = X.leaves; lapse = X.lapses }) (record { mic = X.Mech.mic_of; derived = X.Mech.derived }) second conn call.now carry (host_of D.size self.old)) }
         ensures volume { self.new.server.files.volume ≡ self.old.server.files.volume }
         ensures unused { IfOk result (λ out. out.used ≡ []) }
+        ensures short { IfOk result (λ out. AreShort out.sent) }
+        ensures drawn { IfOk result (λ out. out.undrawn ≡ false) }
         ensures err { OnErr result (self.new ≡ self.old) }
         ensures counted { IsCounted X.given self.new }
     {
@@ -305,7 +322,7 @@ impl<D: Disk, X, C: Drop> Host<D, X, C> {
         self.rest(second);
         let label = Label::Reply {
             to: CallLabel::Create,
-            status: created_major(told.made),
+            status: told.major,
         };
         Ok(room.one_reply(accepted, going_back(conn, told.bytes, seal, label)))
     }
@@ -338,14 +355,4 @@ fn done(to: CallLabel) -> Label
     ensures { result ≡ Label.Reply to 0 }
 {
     Label::Reply { to, status: 0 }
-}
-
-/// The major status of a CREATE whose privilege was granted.
-fn created_major(made: Option<u32>) -> u32
-    ensures { (boot : ℕ) → result ≡ (create_told boot made).major }
-{
-    match made {
-        Some(_) => GSS_S_COMPLETE,
-        None => GSS_S_FAILURE,
-    }
 }

@@ -1,11 +1,12 @@
 //! A server, and a step of it.
 
-ghost use Rattle.std.specs.Prelude.{◌≡◌, ◌+◌, ◌-◌, ◌*◌, ◌^◌, ◌<◌, ◌≤◌, [], max, IfOk, OnErr};
+ghost use Rattle.std.specs.Prelude.{◌≡◌, ◌+◌, ◌-◌, ◌*◌, ◌^◌, ◌<◌, ◌≤◌, [], true, false, max, IfOk, OnErr};
 ghost use Rattle.outcome.specs.Causes.{Rose};
 ghost use Rattle.rpc_calls.specs.Judging.{IsSound, IsSoundWhere, judged_of};
 ghost use Rattle.server_volume.specs.Moments.{Ran};
 ghost use Rattle.server_volume.specs.Store.{seat_of};
 ghost use Rattle.session_server.specs.Host.{host_of, rules_of, stepped_of, IsCounted, IsCountedBy};
+ghost use Rattle.session_server.specs.Lengths.{AreShort};
 ghost use Rattle.session_server.specs.Steps.{IsTurn, IsCallTurn, dropped, rested};
 
 use crate::extending::Extending;
@@ -63,7 +64,7 @@ impl<D: Disk, X, C: Drop> Host<D, X, C> {
     /// Takes a record that comes on a connection, and answers it: one step. A record that can't be read is dropped, and
     /// so is a reply, since this server calls nobody; a call is answered by what it is, a COMPOUND that is admitted after
     /// it was executed. Without memory the server is as before.
-    #[tactic(auto, using(crate::proofs::Turns::ran_unused))]
+    #[tactic(auto, using(crate::proofs::Turns::ran_unused, crate::proofs::Turns::none_failed))]
     pub fn on_record<W: Draws>(
         &mut self,
         alloc: Global,
@@ -78,6 +79,8 @@ impl<D: Disk, X, C: Drop> Host<D, X, C> {
         requires counted { IsCounted X.given self.old }
         ensures turn { D.Told → IfOk result (λ out. IsTurn (rules_of X.gated X.serves X.leaves X.lapses X.judges X.tells X.silent) (record { mic = X.Mech.mic_of; derived = X.Mech.derived }) (X.Mech.accepted (X.mech_of self.old.server.files.extra)) W.gives conn record_.now now (host_of D.size self.old) draws.old draws.new (stepped_of D.size self.new out)) }
         ensures ran { D.Told → IfOk result (λ out. Ran (seat_of D.size D.fuse D.timeline self.old.server.files.volume) (seat_of D.size D.fuse D.timeline self.new.server.files.volume) [] out.used) }
+        ensures short { IfOk result (λ out. AreShort out.sent) }
+        ensures undrawn { IfOk result (λ out. out.undrawn ≡ true → Rose (W.faults draws.old) (W.faults draws.new)) }
         ensures err { OnErr result (self.new ≡ self.old) }
         ensures counted { IsCounted X.given self.new }
         ensures later { W.faults draws.old ≤ W.faults draws.new }
@@ -91,8 +94,9 @@ impl<D: Disk, X, C: Drop> Host<D, X, C> {
         }
     }
 
-    /// Answers a call that was judged in this second, the greatest that the server was given.
-    #[tactic(auto, using(crate::proofs::Turns::ran_unused))]
+    /// Answers a call that was judged in this second. The server goes by it from then on, whatever it went by before: whoever
+    /// judges by [`Host::second_at`] gives the greatest so far.
+    #[tactic(auto, using(crate::proofs::Turns::ran_unused, crate::proofs::Turns::none_failed))]
     pub fn on_call<W: Draws>(
         &mut self,
         alloc: Global,
@@ -108,6 +112,8 @@ impl<D: Disk, X, C: Drop> Host<D, X, C> {
         requires sound { IsSound second self.old.contexts call.now }
         ensures turn { D.Told → IfOk result (λ out. IsCallTurn (rules_of X.gated X.serves X.leaves X.lapses X.judges X.tells X.silent) (record { mic = X.Mech.mic_of; derived = X.Mech.derived }) (X.Mech.accepted (X.mech_of self.old.server.files.extra)) W.gives second conn call.now (host_of D.size self.old) draws.old draws.new (stepped_of D.size self.new out)) }
         ensures ran { D.Told → IfOk result (λ out. Ran (seat_of D.size D.fuse D.timeline self.old.server.files.volume) (seat_of D.size D.fuse D.timeline self.new.server.files.volume) [] out.used) }
+        ensures short { IfOk result (λ out. AreShort out.sent) }
+        ensures undrawn { IfOk result (λ out. out.undrawn ≡ true → Rose (W.faults draws.old) (W.faults draws.new)) }
         ensures err { OnErr result (self.new ≡ self.old) }
         ensures counted { IsCounted X.given self.new }
         ensures later { W.faults draws.old ≤ W.faults draws.new }
@@ -178,6 +184,8 @@ impl<D: Disk, X, C: Drop> Host<D, X, C> {
         ensures is { IfOk result (λ out. stepped_of D.size self.new out ≡ dropped (record { leave = X.leaves; lapse = X.lapses }) second self.old.contexts (Note.Dropped why) (host_of D.size self.old)) }
         ensures volume { self.new.server.files.volume ≡ self.old.server.files.volume }
         ensures unused { IfOk result (λ out. out.used ≡ []) }
+        ensures short { IfOk result (λ out. AreShort out.sent) }
+        ensures drawn { IfOk result (λ out. out.undrawn ≡ false) }
         ensures err { OnErr result (self.new ≡ self.old) }
         ensures counted { IsCounted X.given self.new }
     {

@@ -4,6 +4,7 @@ use Rattle.rpc_calls.specs.Answers.{result_reply}
 use Rattle.compound_server.specs.State.{Given, state_of}
 use Rattle.session_server.proofs.Compounded.{compounded_is, own_counted}
 use Rattle.session_server.proofs.Counting.{counted_made}
+use Rattle.session_server.proofs.Lengths.{result_short, sends_short}
 use Rattle.session_server.specs.Host.{host_of, rules_of}
 use Rattle.session_server.specs.Labels.{compound_label, status_in}
 use Rattle.session_server.proofs.host.Host.evaluate.Goals as goal
@@ -30,6 +31,21 @@ returns-clause-is g c = λ told choice agrees.
     (compounded_is rules (record { mic = mic; derived = g.X.Mech.Mechanism.derived }) choice c.args.second c.args.conn c.args.call.now c.args.compound (host_of g.D.Disk.size c.args.self.now)
     c.unwrap-under.result context c.who_calls-who.result given _ _ _ _ _ _ _ _ is found c.who_calls-who.ensures gives c.count.ensures
     c.tell.ensures.silent bytes c.reply_seal-seal.ensures c.accepted-accepted.ensures label status c.tell.ensures.notes))
+
+pub returns-clause-short : goal.returns-clause-short
+returns-clause-short g c =
+    let is : c.args.call.now.under ≡ Some c.unwrap-under.result = c.unwrap-under.ensures in
+    let lent = rw c.unwrap-context.ensures at c.context.ensures in
+    let found = sym lent in
+    let mic = g.X.Mech.Mechanism.mic_of in
+    let body = c.in_ok-told.told.body in
+    let sealed = rw found at c.in_ok-sealer.ensures.seals in
+    let reply : result_reply mic c.args.self.now.contexts c.args.call.now body ≡ sealed_reply mic c.unwrap-context.result.now.key c.args.call.now.head c.unwrap-under.result.seq body =
+    rw is (rw found refl) in
+    let bytes : c.seal-bytes.result ≡ result_reply mic c.args.self.now.contexts c.args.call.now body =
+    c.seal-bytes.ensures ∙ ap (sealed_with mic c.in_ok-sealer.sealer) c.as_slice-4.ensures ∙ sealed body ∙ sym reply in
+    sends_short _ _ _ _ c.one_reply-out.ensures c.going_back.ensures
+    (rw bytes (result_short mic g.met.X.Mech.Mechanism.sized c.args.self.now.contexts c.args.call.now body (let short = c.in_ok-told.ensures.short in omega (arith, short))))
 
 pub returns-clause-counted : goal.returns-clause-counted
 returns-clause-counted g c =
