@@ -1,0 +1,10 @@
+pub mod Called
+pub mod FileCalls
+pub mod WalkCalls
+pub mod OutsideCalls
+pub mod CompoundCalls
+pub mod StepCalls
+pub mod Answered
+pub mod Volumes
+pub mod Kept
+pub mod Runs

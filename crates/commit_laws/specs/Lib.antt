@@ -1,0 +1,5 @@
+pub mod Calling
+pub mod CallLaws
+pub mod Executing
+pub mod Run
+pub mod Commits
