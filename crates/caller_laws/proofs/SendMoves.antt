@@ -59,11 +59,12 @@ use Rattle.wire_spelling.specs.Slots.{first_slot, is_simple, ops_of, slot_of}
 use Rattle.wire_spelling.specs.Spelling.{spelling}
 use Rattle.caller_laws.specs.Good.{FitsAim, Identity, IsAsked, IsFair, IsGood, IsOurs, IsOwnToken}
 use Rattle.caller_laws.specs.Duties.{SendsOwnCalls}
+use Rattle.caller_laws.specs.Joining.{Keeps}
 use Rattle.caller_laws.specs.Lawful.{GoesOn, MaySend, asked_by}
 use Rattle.caller_laws.specs.Moves.{Send, Begin, BeginAnew, SetUp, Reclaim, InSlot, Make, Finish, Again, sending, sent_by}
 use Rattle.caller_laws.specs.View.{Above, Face, awaited_in, caller_of, face, face_of, handle_named, mount_in, next_in, purpose_of, root_seen, what_asked, what_named, what_under}
 use Rattle.caller_laws.proofs.Faces.{numbered_face, numbered_has, some_is}
-use Rattle.caller_laws.proofs.SentLaws.{IsSaid, WasRooted, WentOut, sent_calls, sent_good, sent_obeys, unnamed_new}
+use Rattle.caller_laws.proofs.SentLaws.{IsSaid, WasRooted, WentOut, kept_on, sent_calls, sent_good, sent_obeys, unnamed_new}
 use Rattle.caller_laws.proofs.Shrunk.{Shrinks, awaiting_of, mapped, seen, shrunk_obeys}
 use Rattle.caller_laws.proofs.Spoken.{AreRead, IsOpen, SaysAsked, says_asked, says_init, slot_in_asked}
 
@@ -78,6 +79,7 @@ pub record IsRight (who : Identity) (before after : Above) (m : Mounted) (o : Op
   pub good : IsGood who o.1
   pub obeys : laws.CallerLaws (spelling who.accepts who.whose) m.server who.own (caller_of before m) (caller_of after o.1) (sending o.0)
   pub calls : SendsOwnCalls before after (sending o.0)
+  pub keeps : ((other : ℕ) (q : Pending) → pending_at m other ≡ Some q → pending_at o.1 other ≡ Some q) → Keeps (caller_of before m) (caller_of after o.1)
 
 abbrev pub Right : Identity → Above → Above → Mounted → Option out.Sent × Mounted → Type 0
 Right who before after m o = ((sent : out.Sent) → o.0 ≡ Some sent → IsBytes sent.bytes) → IsRight who before after m o
@@ -107,6 +109,7 @@ nothing_goes who before after m g goes = record {
   good = g;
   obeys = shrunk_obeys who m m (shrinks_itself who m g) before after g goes (sending None) (λ x c. none_sent x c) (λ root learnt. let took = learnt.takes.took in cc);
   calls = λ bytes seal sends. absurd (none_sent _ sends);
+  keeps = λ stays. kept_on before after m m goes (λ name. refl) refl stays;
 }
 
 -- ---- compounds of these ends
@@ -267,6 +270,7 @@ module _ (who : Identity) (before after : Above) (m : Mounted) (at : SendAt) (g 
         good = sent_good who m w at.place p went g;
         obeys = sent_obeys who before after m w at.place p sent went g goes said;
         calls = sent_calls who before after m w at.place p sent went g goes said;
+        keeps = λ stays. kept_on before after m w goes went.faces went.root stays;
       }
 
   -- ---- a call under a context
@@ -405,6 +409,7 @@ module _ (who : Identity) (before after : Above) (m : Mounted) (at : SendAt) (g 
             good = sent_good who m w at.place p call_went g;
             obeys = sent_obeys who before after m w at.place p sent call_went g goes said;
             calls = sent_calls who before after m w at.place p sent call_went g goes said;
+            keeps = λ stays. kept_on before after m w goes call_went.faces call_went.root stays;
           }
 
     -- ---- what may become of a call: nothing goes out, or it does

@@ -19,6 +19,7 @@ use Rattle.wire_spelling.specs.Slots.{is_simple, ops_of, slot_of}
 use Rattle.wire_spelling.specs.Spelling.{spelling}
 use Rattle.caller_laws.specs.Good.{Identity, IsFair, IsGood, IsNumbered, IsOwnToken, xid_awaited}
 use Rattle.caller_laws.specs.Duties.{IsOwnCall, SendsOwnCalls}
+use Rattle.caller_laws.specs.Joining.{Keeps}
 use Rattle.caller_laws.specs.Lawful.{GoesOn}
 use Rattle.caller_laws.specs.Moves.{sending}
 use Rattle.caller_laws.specs.View.{Above, awaited_in, caller_of, face_of, has_in, mount_in, next_in, root_seen}
@@ -285,3 +286,28 @@ module _ (who : Identity) (before after : Above) (m w : Mounted) (place : ℕ) (
       let counted = said.counted in
       subst (IsOwnCall before after) same.0
       (record { is_call = said.says.is_call; no_callback = said.says.no_callback; fresh = omega arith; counted = omega arith })
+
+-- ---- what is kept where nothing that is awaited is given up for what is sent
+
+pub kept_on : (before after : Above) (m w : Mounted) → GoesOn m before after → ((name : ℕ) → face_of name w.contexts ≡ face_of name m.contexts)
+    → root_name w.standing ≡ root_name m.standing → ((other : ℕ) (q : Pending) → pending_at m other ≡ Some q → pending_at w other ≡ Some q)
+    → Keeps (caller_of before m) (caller_of after w)
+kept_on before after m w goes faces roots stays = record { mount = λ root there. mount_stays m.standing root refl there; awaited = awaited_stays }
+  where
+    mount_stays : (st : Standing) (root : Context) → m.standing ≡ st → mount_in st m.contexts ≡ Some root → mount_in w.standing w.contexts ≡ Some root
+    mount_stays (Down kept) root is h = absurd cc
+    mount_stays (Rooted r) root is h =
+        let at = rooted_by w.standing r.name (roots ∙ ap root_name is) in
+        ap (λ (st : Standing). mount_in st w.contexts) at.is
+        ∙ ap (λ (n : ℕ). root_seen (face_of n w.contexts)) at.name_is
+        ∙ ap root_seen (faces r.name)
+        ∙ h
+
+    awaited_stays : (other : ℕ) (x : Awaited) → (caller_of before m).awaits other ≡ Some x → (caller_of after w).awaits other ≡ Some x
+    awaited_stays other x h =
+        let it = mapped (awaited_in m.contexts (before.purpose other)) (pending_at m other) x h in
+        let a = awaiting_of (awaited_at m other) it.from it.was in
+        let same : awaited_in w.contexts (after.purpose other) it.from ≡ awaited_in m.contexts (before.purpose other) it.from =
+        awaited_same it.from w.contexts m.contexts (after.purpose other) (before.purpose other) (goes.purpose other a.a a.is)
+        (λ context aim call is. faces context) in
+        ap (option_map (awaited_in w.contexts (after.purpose other))) (stays other it.from it.was) ∙ ap (λ (y : Awaited). Some y) (same ∙ it.gives)

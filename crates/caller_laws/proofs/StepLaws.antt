@@ -14,8 +14,10 @@ use Rattle.wire_model.specs.CallerLaws.{CallerLaws, CallerStart}
 use Rattle.wire_spelling.specs.Spelling.{spelling}
 use Rattle.caller_laws.specs.Good.{Identity, IsGood}
 use Rattle.caller_laws.specs.Duties.{SendsOwnCalls}
+use Rattle.mount.specs.declared.machine.SendAt.{SendAt}
+use Rattle.caller_laws.specs.Joining.{Keeps}
 use Rattle.caller_laws.specs.Lawful.{GoesOn, IsStep, May, Obeys}
-use Rattle.caller_laws.specs.Moves.{Move, Sends, Takes, GivesUp, Forgets, Falls, Rests, done, nothing_shown}
+use Rattle.caller_laws.specs.Moves.{Move, Send, Sends, Takes, GivesUp, Forgets, Falls, Rests, done, nothing_shown, sent_by}
 use Rattle.caller_laws.specs.View.{Above, awaited_in, caller_of}
 use Rattle.caller_laws.proofs.Losses.{fallen_shrinks, forgotten_shrinks, given_up_shrinks}
 use Rattle.caller_laws.proofs.SendMoves.{IsGiven, Known, none_sent, send_right, shrinks_itself}
@@ -54,6 +56,16 @@ step_done who means before after m move sized known step = by move step.may
         let s = fallen_shrinks who m in
         record { good = shrunk_good who m (fallen m) s step.good; obeys = lost who before after m (fallen m) step.good step.goes_on s; calls = λ bytes seal sends. absurd (none_sent _ sends) }
     by Rests may = record { good = step.good; obeys = lost who before after m m step.good step.goes_on (shrinks_itself who m step.good); calls = λ bytes seal sends. absurd (none_sent _ sends) }
+
+-- what is sent follows other steps
+pub sending_keeps : (who : Identity) (means : Means) (before after : Above) (m : Mounted) (at : SendAt) (send : Send) → IsSized means.mic → Known
+    → IsStep who means before after m (Sends at send)
+    → ((place : ℕ) (p : Pending) → pending_at m place ≡ Some p → pending_at (sent_by means.mic at send m).1 place ≡ Some p)
+    → Keeps (caller_of before m) (caller_of after (sent_by means.mic at send m).1)
+sending_keeps who means before after m at send sized known step stays =
+    let may = step.may in
+    let given : IsGiven before after m at = record { place = may.place; unused = may.unused; fresh = may.fresh; counted = may.counted; small = may.small } in
+    (send_right who before after m at step.good step.goes_on given means.mic sized known send may may.are_bytes).keeps stays
 
 -- ---- before the first call
 

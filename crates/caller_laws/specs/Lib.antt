@@ -3,3 +3,4 @@ pub mod Moves
 pub mod Good
 pub mod Lawful
 pub mod Duties
+pub mod Joining
