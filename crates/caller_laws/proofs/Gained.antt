@@ -1,23 +1,21 @@
 -- A mount that holds a context more, whose call's answer was taken at a place: the root that an INIT gave, or the child of a CREATE.
-use Rattle.std.proofs.Common.{◌≡◌, ◌⊎◌, inl, inr, ℕ, ◌≤◌, Bool, true, false, List, [], ◌∷◌, ◌++◌, length, get_or, set, Option, Some, None, refl, sym, ap, subst, ◌∙◌, arith}
-use Rattle.std.specs.Prelude.{◌≢◌, ◌&&◌, filter, option_map}
+use Rattle.std.proofs.Common.{◌≡◌, ◌⊎◌, inl, inr, ℕ, ◌≤◌, Bool, true, false, List, [], ◌∷◌, ◌++◌, length, get_or, set, Option, Some, None, refl, sym, ap, subst, ◌∙◌}
+use Rattle.std.specs.Prelude.{option_map}
 use Rattle.std.proofs.lemmas.Bool.{and_parts}
-use Rattle.std.proofs.lemmas.List.{length-set}
-use Rattle.session_client.specs.Pending.{Asking, Beginning}
+use Rattle.session_client.specs.Pending.{Asking}
 use Rattle.mount.specs.Falling.{is_used, stays_for, tidied}
 use Rattle.mount.specs.State.{Mounted, awaited_at, pending_at, pending_in, root_name}
 use Rattle.mount.specs.declared.state.Aim.{Aim}
-use Rattle.mount.specs.declared.state.Awaiting.{Awaiting}
 use Rattle.mount.specs.declared.state.Context as held
 use Rattle.mount.specs.declared.state.Pending.{Pending}
-use Rattle.mount.specs.declared.state.Pending.TheVariants.{Init, Under}
+use Rattle.mount.specs.declared.state.Pending.TheVariants.{Under}
 use Rattle.mount.specs.declared.state.Standing.{Standing}
 use Rattle.wire_model.specs.Spelling.{Context}
 use Rattle.wire_model.specs.Wire.{Awaited}
-use Rattle.caller_laws.specs.Good.{Identity, IsFace, IsFair, IsFairCall, IsGood, IsNumbered, xid_awaited}
+use Rattle.caller_laws.specs.Good.{Identity, IsFace, IsFairCall, IsGood, IsNumbered, xid_awaited}
 use Rattle.caller_laws.specs.Lawful.{GoesOn}
 use Rattle.caller_laws.specs.View.{Above, Face, awaited_in, caller_of, face, face_of, handle_named, has_in, is_same}
-use Rattle.caller_laws.proofs.Faces.{face_new, face_other, face_stays, face_was, has_more, has_was, kept_face, same_are, some_is}
+use Rattle.caller_laws.proofs.Faces.{face_new, face_other, face_stays, face_was, has_more, has_was, kept_face, same_are}
 use Rattle.caller_laws.proofs.Losses.{emptied_is, pending_was, used_awaited}
 use Rattle.caller_laws.proofs.Shrunk.{awaited_same, awaiting_of, mapped}
 

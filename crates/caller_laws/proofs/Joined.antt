@@ -1,11 +1,10 @@
 -- Two steps of a caller that obey the laws obey them as one.
-use Rattle.std.proofs.Common.{◌≡◌, ◌⊎◌, inl, inr, ℕ, ◌<◌, ◌≤◌, true, false, List, ◌++◌, Option, Some, None, refl, sym, ap, subst, ◌∙◌, arith}
-use Rattle.std.specs.Prelude.{Contains}
+use Rattle.std.proofs.Common.{◌≡◌, ◌⊎◌, inl, inr, ℕ, ◌<◌, ◌≤◌, false, List, Option, Some, None, sym, ◌∙◌, arith}
 use Rattle.std.proofs.lemmas.List.Elements.{Contains-append_cases, Contains-append_left, Contains-append_right}
 use Rattle.nfs_base.specs.declared.seal.End.{End}
 use Rattle.nfs_base.specs.declared.seal.Seal.{Seal}
-use Rattle.wire_model.specs.CallerLaws.{CallerLaws, GoesOn, IsAwaited, IsNew, IsSent, LearnsChild, LearnsRoot, Takes}
-use Rattle.wire_model.specs.Spelling.{Context, SlotName, Spelling}
+use Rattle.wire_model.specs.CallerLaws.{CallerLaws, GoesOn, IsNew, IsSent, LearnsChild, LearnsRoot, Takes}
+use Rattle.wire_model.specs.Spelling.{Context, Spelling}
 use Rattle.wire_model.specs.Wire.{Acts, Awaited, Call, Caller, Sends, Sent, Slotted, What}
 use Rattle.caller_laws.specs.Joining.{Follows, joined}
 

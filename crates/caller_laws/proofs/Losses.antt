@@ -1,13 +1,13 @@
 -- What a mount loses: what was awaited at a place, a child, or, where it begins again, its root and all that belongs to it.
-use Rattle.std.proofs.Common.{◌≡◌, ◌⊎◌, inl, inr, ℕ, zero, suc, Bool, true, false, List, [], ◌∷◌, length, get_or, set, Option, Some, None, Result, Ok, Err, refl, sym, ap, subst, ◌∙◌}
-use Rattle.std.specs.Prelude.{◌≢◌, ◌==◌, ◌||◌, if◌then◌else◌, map, replicate}
+use Rattle.std.proofs.Common.{◌≡◌, ◌⊎◌, inl, inr, ℕ, zero, suc, Bool, true, false, List, [], ◌∷◌, get_or, set, Option, Some, None, Ok, Err, refl, sym, ap, subst, ◌∙◌}
+use Rattle.std.specs.Prelude.{◌==◌, ◌||◌, if◌then◌else◌, map, replicate}
 use Rattle.std.specs.List.{list_any}
 use Rattle.std.proofs.lemmas.Bool.{eq-eqb, or_left, or_right}
 use Rattle.std.proofs.lemmas.List.{length-map, length-set}
 use Rattle.nfs_base.specs.declared.status.Status.{Status}
 use Rattle.nfs_compound.specs.declared.res.Res.{Res}
 use Rattle.session_client.specs.Pending.{Asking, Beginning}
-use Rattle.session_client.specs.Setup.{after_answer, joined, reclaimed, registered, with_session, exchanged, created}
+use Rattle.session_client.specs.Setup.{after_answer, joined, registered, exchanged, created}
 use Rattle.session_client.specs.declared.setup.Setup.{Setup}
 use Rattle.session_client.specs.declared.setup.Setup.TheVariants as setups
 use Rattle.mount.specs.Falling.{awaits_under, fallen, forgotten, given_up, is_used, pends_under, standing_without, stays_for, stays_pending, staying}
@@ -22,7 +22,6 @@ use Rattle.mount.specs.declared.state.Standing.{Standing}
 use Rattle.mount.specs.declared.state.Standing.TheVariants.{Down, Rooted}
 use Rattle.mount.specs.declared.state.TheConstants.{PLACES}
 use Rattle.caller_laws.specs.Good.{Identity, IsGood, IsOwnToken}
-use Rattle.caller_laws.specs.View.{face_of}
 use Rattle.caller_laws.proofs.Faces.{face_was, has_was, kept_face, some_is}
 use Rattle.caller_laws.proofs.Shrunk.{Shrinks, StaysRooted, awaiting_of}
 use Rattle.caller_laws.proofs.SendMoves.{shrinks_itself}

@@ -1,8 +1,8 @@
 -- Each call that goes out of a mount: what is then awaited, and that the step obeys a wire's laws.
 use Rattle.std.proofs.Common.{◌≡◌, ◌⊎◌, inl, inr, ℕ, zero, suc, ◌+◌, ◌<◌, ◌≤◌, ◌^◌, Bool, true, false, List, [], ◌∷◌, length, get_or, set, Option, Some, None, refl, sym, ap, subst, ◌∙◌, arith}
-use Rattle.std.specs.Prelude.{◌≢◌, ◌||◌, Contains, nat_lt, option_map, slice_index}
+use Rattle.std.specs.Prelude.{◌≢◌, Contains, nat_lt, option_map, slice_index}
 use Rattle.std.specs.List.{AllByRecursion, list_any}
-use Rattle.std.proofs.lemmas.Bool.{cases_eq, false≢true, ltb-true, or_left, or_right}
+use Rattle.std.proofs.lemmas.Bool.{false≢true, ltb-true, or_left, or_right}
 use Rattle.std.proofs.lemmas.List.{get_or-set_other, get_or-set_same, length-set}
 use Rattle.wire_xdr.specs.Cursor.{IsBytes}
 use Rattle.gss_mech.specs.Tokens.{IsSized}
@@ -35,7 +35,7 @@ use Rattle.session_client.specs.declared.setup.Setup.{Setup}
 use Rattle.session_client.specs.declared.setup.Setup.TheVariants as setups
 use Rattle.mount.specs.Falling.{stays_for}
 use Rattle.mount.specs.Sending as sends
-use Rattle.mount.specs.State.{Mounted, awaited_at, awaiting_at, child_name, context_of, is_setting_up, kept_in, pending_at, pending_in, place_sets_up, root_name, sets_up, setup_in}
+use Rattle.mount.specs.State.{Mounted, awaited_at, child_name, context_of, is_setting_up, kept_in, pending_at, pending_in, place_sets_up, root_name, sets_up, setup_in}
 use Rattle.mount.specs.declared.calling.Ending.{Ending}
 use Rattle.mount.specs.declared.calling.Ending.TheVariants as endings
 use Rattle.mount.specs.declared.calling.Under as under
@@ -53,14 +53,14 @@ use Rattle.mount.specs.declared.state.Standing.{Standing}
 use Rattle.mount.specs.declared.state.Standing.TheVariants.{Down, Rooted}
 use Rattle.wire_model.specs.CallerLaws as laws
 use Rattle.wire_model.specs.Spelling.{Context, SlotName}
-use Rattle.wire_model.specs.Wire.{Awaited, Call, Purpose, ForOther, Sent, Slotted, What, Begins}
+use Rattle.wire_model.specs.Wire.{Awaited, Call, Purpose, Sent, Slotted, Begins}
 use Rattle.wire_spelling.specs.Calls.{xid_in}
-use Rattle.wire_spelling.specs.Slots.{first_slot, is_simple, ops_of, slot_of}
+use Rattle.wire_spelling.specs.Slots.{first_slot, ops_of, slot_of}
 use Rattle.wire_spelling.specs.Spelling.{spelling}
-use Rattle.caller_laws.specs.Good.{FitsAim, Identity, IsAsked, IsFair, IsGood, IsOurs, IsOwnToken}
+use Rattle.caller_laws.specs.Good.{FitsAim, Identity, IsAsked, IsGood, IsOurs, IsOwnToken}
 use Rattle.caller_laws.specs.Duties.{SendsOwnCalls}
 use Rattle.caller_laws.specs.Joining.{Keeps}
-use Rattle.caller_laws.specs.Lawful.{GoesOn, MaySend, asked_by}
+use Rattle.caller_laws.specs.Lawful.{GoesOn, MaySend}
 use Rattle.caller_laws.specs.Moves.{Send, Begin, BeginAnew, SetUp, Reclaim, InSlot, Make, Finish, Again, sending, sent_by}
 use Rattle.caller_laws.specs.View.{Above, Face, awaited_in, caller_of, face, face_of, handle_named, mount_in, next_in, purpose_of, root_seen, what_asked, what_named, what_under}
 use Rattle.caller_laws.proofs.Faces.{numbered_face, numbered_has, some_is}

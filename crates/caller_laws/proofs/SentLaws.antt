@@ -1,5 +1,5 @@
 -- A mount of which a call went out is as it should be if it was so before, and the step obeys a wire's laws.
-use Rattle.std.proofs.Common.{◌≡◌, ◌⊎◌, inl, inr, ℕ, zero, suc, ◌<◌, ◌≤◌, true, false, List, [], ◌∷◌, length, get_or, Option, Some, None, refl, sym, ap, subst, ◌∙◌, arith}
+use Rattle.std.proofs.Common.{◌≡◌, ◌⊎◌, inl, inr, ℕ, zero, suc, ◌<◌, ◌≤◌, true, List, [], ◌∷◌, length, get_or, Option, Some, None, refl, sym, ap, subst, ◌∙◌, arith}
 use Rattle.std.specs.Prelude.{◌≢◌, Contains, option_map, slice_index}
 use Rattle.std.proofs.lemmas.Bool.{cases_eq}
 use Rattle.nfs_base.specs.declared.seal.Seal.{Seal}

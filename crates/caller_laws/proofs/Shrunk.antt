@@ -1,7 +1,6 @@
 -- A mount to which nothing came is as it should be if it was so before, and shows a wire nothing new.
 use Rattle.std.proofs.Common.{◌≡◌, inl, ℕ, ◌≤◌, true, false, List, length, Option, Some, None, refl, sym, ap, subst, ◌∙◌, arith}
 use Rattle.std.specs.Prelude.{Contains, option_map, slice_index}
-use Rattle.nfs_base.specs.declared.seal.End.{End}
 use Rattle.nfs_base.specs.declared.seal.Seal.{Seal}
 use Rattle.nfs_compound.specs.Compounds.{compound_bytes}
 use Rattle.nfs_compound.specs.declared.compound.Compound.{Compound}
@@ -21,7 +20,7 @@ use Rattle.mount.specs.declared.state.Standing.{Standing}
 use Rattle.mount.specs.declared.state.Standing.TheVariants.{Down, Rooted}
 use Rattle.wire_model.specs.CallerLaws.{CallerLaws, LearnsRoot}
 use Rattle.wire_model.specs.Spelling.{Context, SlotName}
-use Rattle.wire_model.specs.Wire.{Acts, Awaited, Call, Purpose, Sent, What, Begins, Makes, Slotted, Other, context_of}
+use Rattle.wire_model.specs.Wire.{Acts, Awaited, Call, Purpose, Sent, What, Begins, Slotted, context_of}
 use Rattle.wire_spelling.specs.Slots.{first_slot}
 use Rattle.wire_spelling.specs.Spelling.{spelling}
 use Rattle.caller_laws.specs.Good.{Identity, IsAsked, IsFair, IsGood, IsNumbered, IsOwnToken}

@@ -1,5 +1,5 @@
 -- What a call says that goes out: its xid, its operations, the slot that they name, and whose INIT it is.
-use Rattle.std.proofs.Common.{◌≡◌, ℕ, ◌+◌, ◌<◌, ◌≤◌, ◌^◌, Bool, true, false, List, ◌++◌, length, Option, Some, None, Result, Ok, Err, refl, sym, ap, subst, ◌∙◌, arith, lit<, lit≤}
+use Rattle.std.proofs.Common.{◌≡◌, ℕ, ◌+◌, ◌<◌, ◌≤◌, ◌^◌, Bool, true, false, List, ◌++◌, length, Option, Some, None, Result, Ok, ap, subst, ◌∙◌, arith, lit<, lit≤}
 use Rattle.std.specs.Prelude.{◌==◌, ◌&&◌, nat_le, [], if◌then◌else◌}
 use Rattle.std.proofs.lemmas.Bool.{le-leb}
 use Rattle.nfs_base.specs.declared.programs.TheConstants.{NFS_PROGRAM, PROC_COMPOUND}
@@ -17,7 +17,6 @@ use Rattle.gss_ctx.specs.Forms.{init_token}
 use Rattle.gss_ctx.specs.Init.{asked_cred, asked_head, init_head, init_message}
 use Rattle.gss_ctx.specs.Seals.{Mic, cred_of, header_of, sealed_body}
 use Rattle.nfs_base.specs.declared.limits.TheConstants.{TOKEN_LIMIT}
-use Rattle.nfs_base.specs.declared.seal.End.{End}
 use Rattle.nfs_compound.specs.Compounds.{CompoundFits, compound_bytes, compound_of}
 use Rattle.nfs_compound.specs.Ops.{op_is_cut}
 use Rattle.nfs_compound.specs.declared.compound.Compound.{Compound}

@@ -1,5 +1,5 @@
 -- Every step of a mount leaves it as it should be, and obeys a wire's laws.
-use Rattle.std.proofs.Common.{◌≡◌, ℕ, zero, suc, Bool, List, get_or, Option, Some, None, refl, ap, ◌∙◌}
+use Rattle.std.proofs.Common.{◌≡◌, ℕ, zero, suc, Bool, get_or, Option, Some, None, refl, ap}
 use Rattle.std.specs.Prelude.{option_map, replicate}
 use Rattle.std.proofs.lemmas.List.{length-replicate}
 use Rattle.gss_mech.specs.Tokens.{IsSized}

@@ -1,7 +1,6 @@
 -- A record that is taken at a place: what the mount learns by it, and that the step obeys a wire's laws.
-use Rattle.std.proofs.Common.{◌≡◌, ◌⊎◌, inl, inr, ℕ, ◌≤◌, Bool, true, false, List, [], ◌∷◌, ◌++◌, length, get_or, set, Option, Some, None, Result, Ok, Err, refl, sym, ap, subst, ◌∙◌, arith}
-use Rattle.std.specs.Prelude.{◌≢◌, ◌&&◌, Contains, option_map, slice_set}
-use Rattle.std.proofs.lemmas.Bool.{and_parts}
+use Rattle.std.proofs.Common.{◌≡◌, inl, inr, ℕ, ◌≤◌, Bool, true, List, set, Option, Some, None, Result, Ok, Err, refl, sym, ap, subst, ◌∙◌, arith}
+use Rattle.std.specs.Prelude.{◌&&◌, option_map}
 use Rattle.std.proofs.lemmas.List.{length-set}
 use Rattle.wire_xdr.specs.Cursor.{IsBytes}
 use Rattle.gss_ctx.specs.Calls.{seal_of}
@@ -25,10 +24,9 @@ use Rattle.session_client.specs.declared.answers.TakenChild.TheVariants as child
 use Rattle.session_client.specs.declared.asked.Asked.{Asked}
 use Rattle.session_client.specs.declared.asked.Asked.TheVariants as asks
 use Rattle.session_client.specs.declared.setup.Setup.{Setup}
-use Rattle.session_client.specs.declared.setup.Setup.TheVariants as setups
-use Rattle.mount.specs.Falling.{fallen, is_used, stays_for, tidied}
-use Rattle.mount.specs.State.{Mounted, awaited_at, child_name, context_of, emptied, is_present, kept_in, no_children, pending_at, pending_in, root_name}
-use Rattle.mount.specs.Taking.{Means, after_call, after_create, after_init, after_reply, after_setup, after_step, by_aim, by_awaiting, by_context, by_pending, child_for, fallen_if, heard, is_lost, new_side, parent_of, stepped_to, taken_at, with_context, with_root}
+use Rattle.mount.specs.Falling.{fallen, is_used}
+use Rattle.mount.specs.State.{Mounted, awaited_at, context_of, emptied, is_present, no_children, pending_at, pending_in, root_name}
+use Rattle.mount.specs.Taking.{Means, after_call, after_create, after_init, after_reply, after_setup, after_step, by_aim, by_awaiting, by_context, by_pending, child_for, fallen_if, heard, is_lost, new_side, parent_of, stepped_to, taken_at, with_context}
 use Rattle.mount.specs.declared.state.Aim.{Aim}
 use Rattle.mount.specs.declared.state.Aim.TheVariants as aims
 use Rattle.mount.specs.declared.state.Awaiting.{Awaiting}
@@ -47,18 +45,17 @@ use Rattle.wire_model.specs.Wire.{Awaited, ForOther, Purpose, Slotted, Begins, M
 use Rattle.nfs_compound.specs.Compounds.{compound_bytes}
 use Rattle.wire_spelling.specs.Calls.{xid_in}
 use Rattle.wire_spelling.specs.Slots.{first_slot}
-use Rattle.wire_spelling.specs.Replies.{context_in}
 use Rattle.wire_spelling.specs.Spelling.{spelling}
 use Rattle.caller_laws.specs.Good.{FitsAim, Identity, IsFair, IsGood, IsUp}
 use Rattle.caller_laws.specs.Lawful.{GoesOn}
 use Rattle.caller_laws.specs.Moves.{hearing}
-use Rattle.caller_laws.specs.View.{Above, Face, awaited_in, caller_of, face, face_of, handle_named, has_in, is_held, is_same, mount_in, next_in, purpose_of, root_seen, what_asked, what_named, what_under}
+use Rattle.caller_laws.specs.View.{Above, Face, awaited_in, caller_of, face, face_of, handle_named, has_in, mount_in, next_in, purpose_of, root_seen, what_asked, what_named, what_under}
 use Rattle.caller_laws.proofs.Faces.{held_found, some_is}
 use Rattle.caller_laws.proofs.Gained.{apart, awaits_is, face_gained, face_is, face_needed, fair_is, gained, has_is, held_is, pending_is, unnamed_is}
 use Rattle.caller_laws.proofs.Heard.{BegunSays, ChildSays, GivesChild, GivesRoot, IsReplyBy, TakenSays, begun_says, child_says, taken_says}
-use Rattle.caller_laws.proofs.Losses.{answer_up, emptied_is, emptied_shrinks, fallen_if_shrinks, fallen_shrinks, filled_was, kept_shrinks, no_child, pending_was, stepped_shrinks, used_awaited, used_root}
+use Rattle.caller_laws.proofs.Losses.{answer_up, emptied_shrinks, fallen_if_shrinks, fallen_shrinks, filled_was, kept_shrinks, no_child, stepped_shrinks, used_root}
 use Rattle.caller_laws.proofs.SendMoves.{none_sent, shrinks_itself}
-use Rattle.caller_laws.proofs.Shrunk.{Shrinks, awaited_same, awaiting_of, in_slot, mapped, none_stays, seen, shrinks_on, shrunk_good, shrunk_obeys}
+use Rattle.caller_laws.proofs.Shrunk.{Shrinks, in_slot, mapped, seen, shrinks_on, shrunk_good, shrunk_obeys}
 
 -- the mount afterwards is as it should be, and the step obeys
 pub record IsHeard (who : Identity) (before after : Above) (m : Mounted) (message : List ℕ) (o : Heard × Mounted) : Type 0 where

@@ -2,7 +2,6 @@
 use Rattle.std.specs.Prelude.{◌≡◌, ℕ, ◌<◌, ◌≤◌, ◌^◌, true, false, List, Option, Some, None}
 use Rattle.wire_xdr.specs.Cursor.{IsBytes}
 use Rattle.gss_ctx.specs.Seals.{Mic}
-use Rattle.session_calls.specs.declared.sole_call.BackChannel.{BackChannel}
 use Rattle.session_calls.specs.declared.slot_call.SlotCall.TheVariants.{ReclaimComplete}
 use Rattle.session_client.specs.Asked.{AskedFits, create_args}
 use Rattle.session_client.specs.declared.asked.Asked.{Asked}
@@ -14,6 +13,7 @@ use Rattle.mount.specs.Taking.{Means}
 use Rattle.mount.specs.declared.machine.SendAt.{SendAt}
 use Rattle.mount.specs.declared.machine.Sent as out
 use Rattle.mount.specs.declared.state.Awaiting.{Awaiting}
+use Rattle.mount.specs.declared.state.TheConstants.{PLACES}
 use Rattle.wire_model.specs.CallerLaws.{CallerLaws}
 use Rattle.wire_model.specs.Wire.{ForOther}
 use Rattle.wire_spelling.specs.Spelling.{spelling}
@@ -45,7 +45,7 @@ Suits who above m at Again = Unit {0}
 
 -- Something may be sent: its xid is above that of every call of the machine; it has a spelling, and what goes out is bytes.
 pub record MaySend (who : Identity) (mic : Mic) (before after : Above) (m : Mounted) (at : SendAt) (send : Send) : Type 0 where
-  pub place : at.place < 16
+  pub place : at.place < PLACES
   pub unused : m.calls < at.xid
   pub fresh : before.calls < at.xid
   pub counted : at.xid ≤ after.calls

@@ -6,7 +6,6 @@ use Rattle.gss_ctx.specs.Table.{boot_named, number_named}
 use Rattle.nfs_base.specs.declared.seal.End.{End}
 use Rattle.nfs_base.specs.declared.seal.Seal.{Seal}
 use Rattle.nfs_compound.specs.Compounds.{compound_bytes}
-use Rattle.session_client.specs.Pending.{Asking}
 use Rattle.session_client.specs.declared.asked.Asked.{Asked}
 use Rattle.session_client.specs.declared.asked.Asked.TheVariants.{Compound, Create, Destroy}
 use Rattle.mount.specs.State.{Mounted, context_of, pending_at}
