@@ -1,5 +1,5 @@
 -- Every step of a mount leaves it as it should be, and obeys a wire's laws.
-use Rattle.std.proofs.Common.{◌≡◌, ℕ, zero, suc, Bool, get_or, Option, Some, None, refl, ap}
+use Rattle.std.proofs.Common.{◌≡◌, ◌<◌, arith, ℕ, zero, suc, Bool, get_or, Option, Some, None, refl, ap}
 use Rattle.std.specs.Prelude.{option_map, replicate}
 use Rattle.std.proofs.lemmas.List.{length-replicate}
 use Rattle.gss_mech.specs.Tokens.{IsSized}
@@ -12,6 +12,7 @@ use Rattle.mount.specs.declared.state.Pending.{Pending}
 use Rattle.mount.specs.declared.state.TheConstants.{PLACES}
 use Rattle.wire_model.specs.CallerLaws.{CallerLaws, CallerStart}
 use Rattle.wire_spelling.specs.Spelling.{spelling}
+use Rattle.wire_model.specs.Wire.{Awaited, Begins, Caller, Slotted}
 use Rattle.caller_laws.specs.Good.{Identity, IsGood}
 use Rattle.caller_laws.specs.Duties.{SendsOwnCalls}
 use Rattle.mount.specs.declared.machine.SendAt.{SendAt}
@@ -102,3 +103,26 @@ start_is above server reclaims = record {
   no_mount = refl;
   none_awaited = λ place. ap (option_map (awaited_in (fresh server reclaims).contexts (above.purpose place))) (nothing_awaited server reclaims place);
 }
+
+-- whatever was there before, an opening with a greater number obeys the laws, where nothing is sent
+pub reopened : (who : Identity) (server : End) (reclaims : Bool) (v : Caller) (after : Above) → v.boot < after.boot
+    → CallerLaws (spelling who.accepts who.whose) server who.own v (caller_of after (fresh server reclaims)) nothing_shown
+reopened who server reclaims v after later =
+    let none : (place : ℕ) (x : Awaited) → (caller_of after (fresh server reclaims)).awaits place ≡ Some x → ⊥ = λ place x there.
+    let start = (start_is after server reclaims).none_awaited place in
+    cc in
+    record {
+      boot = omega arith;
+      calls = λ same. absurd (omega arith);
+      fresh = λ bytes seal sends call. absurd (none_sent _ sends);
+      one = λ bytes other seal seal' sends sends' call call' same. absurd (none_sent _ sends);
+      directed = λ bytes call seal sends own reply took. absurd (none_sent _ sends);
+      simple = λ bytes seal name sends own named. absurd (none_sent _ sends);
+      has = λ context root there. absurd cc;
+      begin = λ root learnt place xid there. none place (record { xid = xid; what = Begins }) there;
+      mount = λ root there. absurd cc;
+      awaits = λ place x there. absurd (none place x there);
+      goes_on = λ place xid seal call there. absurd (none place (record { xid = xid; what = Slotted seal call }) there);
+      sends = λ bytes seal name sends own named. absurd (none_sent _ sends);
+      in_slot = λ place xid seal call there. absurd (none place (record { xid = xid; what = Slotted seal call }) there);
+    }

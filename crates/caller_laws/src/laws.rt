@@ -1,11 +1,13 @@
-ghost use Rattle.std.specs.Prelude.{◌≡◌, ℕ, Bool, List};
+ghost use Rattle.std.specs.Prelude.{◌≡◌, ℕ, ◌<◌, Bool, List};
 ghost use Rattle.nfs_base.specs.declared.seal.End.{End};
 ghost use Rattle.mount.specs.State.{Mounted, fresh};
-ghost use Rattle.wire_model.specs.CallerLaws.{CallerStart};
+ghost use Rattle.wire_model.specs.CallerLaws.{CallerLaws, CallerStart};
+ghost use Rattle.wire_model.specs.Wire.{Caller};
+ghost use Rattle.wire_spelling.specs.Spelling.{spelling};
 ghost use Rattle.caller_laws.specs.Duties.{SendsOwnCalls};
 ghost use Rattle.caller_laws.specs.Good.{Identity, IsGood};
 ghost use Rattle.caller_laws.specs.Lawful.{IsStep, Obeys};
-ghost use Rattle.caller_laws.specs.Moves.{Move, done};
+ghost use Rattle.caller_laws.specs.Moves.{Move, done, nothing_shown};
 ghost use Rattle.caller_laws.specs.View.{Above, caller_of};
 
 use gss_mech::{Mechanism, tokens_agree};
@@ -34,4 +36,7 @@ pub fn steps_are_lawful<M: Mechanism>()
 pub fn mounts_begin_lawful()
     ensures good { (who : Identity) (server : End) (reclaims : Bool) → IsGood who (fresh server reclaims) }
     ensures start { (above : Above) (server : End) (reclaims : Bool) → CallerStart (caller_of above (fresh server reclaims)) }
+    // Whatever there was in an earlier opening, to open it anew obeys the laws.
+    ensures reopened { (who : Identity) (server : End) (reclaims : Bool) (before : Caller) (after : Above) → before.boot < after.boot
+        → CallerLaws (spelling who.accepts who.whose) server who.own before (caller_of after (fresh server reclaims)) nothing_shown }
 {}
