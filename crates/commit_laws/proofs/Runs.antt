@@ -4,7 +4,7 @@ use Rattle.std.specs.Int.{w64, from_be_bytes}
 use Rattle.std.proofs.lemmas.Bool.{cases_lt}
 use Rattle.std.proofs.lemmas.Nat.{from_be_bytes-to_be_bytes_8}
 use Rattle.block_file.specs.Opened.{IsFresh}
-use Rattle.copy_model.specs.Effect.{Commits, Crashes, IsFirm, Writes, after}
+use Rattle.copy_model.specs.Effect.{Crashes, IsFirm, Writes, after}
 use Rattle.copy_model.specs.Volume.{Kept, Volume, byte_at}
 use Rattle.file_ops.specs.declared.args.FileArg.TheVariants as args
 use Rattle.file_ops.specs.declared.files.WriteDone.{WriteDone}
