@@ -4,6 +4,7 @@ use Rattle.std.specs.Prelude.{max}
 use Rattle.nfs_base.specs.declared.seal.End.{End}
 use Rattle.nfs_base.specs.declared.seal.Seal.{Seal}
 use Rattle.gss_ctx.specs.declared.context.Entry.{Entry}
+use Rattle.gss_mech.specs.Tokens.{IsSized}
 use Rattle.gss_mech.specs.declared.mechanism.Accepted.{Accepted}
 use Rattle.rpc_calls.specs.Judging.{judged_of}
 use Rattle.rpc_calls.specs.declared.call.Judged.{Judged}
@@ -82,27 +83,27 @@ module _ {X C W : Type 0} (rules : Rules X C) (codes : Codes) (accepted : List �
       let told = root_judged (judged_of codes.mic (max s.second now) programs.NFS bytes s.contexts) refl step.turn accepts whose by begun reply seal c in
       (told.0, made_of s t.host seal.number seal.number (sym boot_stays) told.1)
 
-  child_judged : (told : Judged) → judged_of codes.mic (max s.second now) programs.NFS bytes s.contexts ≡ told
+  child_judged : IsSized codes.mic → (told : Judged) → judged_of codes.mic (max s.second now) programs.NFS bytes s.contexts ≡ told
       → IsJudgedTurn told rules codes accepted gives (max s.second now) conn s before after t → is_create bytes ≡ true → TellsChild s t
-  child_judged judged.Unread is turn creates reply seal child c given =
+  child_judged sized judged.Unread is turn creates reply seal child c given =
       absurd (sends_none reply seal (subst (λ (v : Stepped X C). Carries v.out.sent reply seal) turn.0 c))
-  child_judged judged.Reply is turn creates reply seal child c given =
+  child_judged sized judged.Reply is turn creates reply seal child c given =
       absurd (sends_none reply seal (subst (λ (v : Stepped X C). Carries v.out.sent reply seal) turn.0 c))
-  child_judged (judged.Call call) is turn creates reply seal child c given =
+  child_judged sized (judged.Call call) is turn creates reply seal child c given =
       let r = judged_read codes.mic (max s.second now) programs.NFS bytes s.contexts call is in
       let few = step.few in
       let counted = step.good.counted in
-      child_told rules codes accepted gives (max s.second now) conn call s before after step.good.numbered step.sized
+      child_told rules codes accepted gives (max s.second now) conn call s before after step.good.numbered sized
       (judged_fits codes.mic (max s.second now) programs.NFS bytes s.contexts call r step.are_bytes) step.good.boot (omega arith)
       (λ under under_is. judged_there codes.mic (max s.second now) programs.NFS bytes s.contexts call under r under_is)
       call.what t (create_is_of codes.mic (max s.second now) programs.NFS bytes s.contexts call r creates) turn reply seal child c given
 
-  pub create_law : (reply : List ℕ) (seal : Seal) (child : spelling.Context)
+  pub create_law : IsSized codes.mic → (reply : List ℕ) (seal : Seal) (child : spelling.Context)
       → is_create bytes ≡ true → Carries t.out.sent reply seal → context_in reply ≡ Some child
       → (child.boot ≡ t.host.contexts.boot) × (seal.boot ≡ t.host.contexts.boot)
       × IsMade (view s) (view t.host) child.number seal.number
-  create_law reply seal child creates c given =
-      let told = child_judged (judged_of codes.mic (max s.second now) programs.NFS bytes s.contexts) refl step.turn creates reply seal child c given in
+  create_law sized reply seal child creates c given =
+      let told = child_judged sized (judged_of codes.mic (max s.second now) programs.NFS bytes s.contexts) refl step.turn creates reply seal child c given in
       (told.0, told.1, made_of s t.host child.number seal.number (sym boot_stays) told.2)
 
 -- ---- a server without contexts, and a second that comes by itself

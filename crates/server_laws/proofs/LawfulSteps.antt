@@ -1,5 +1,6 @@
 -- The laws on contexts and those on slots are all that a server owes in a step.
 use Rattle.std.proofs.Common.{◌≡◌, inl, inr, ℕ, List, Option, Some, true, refl, sym, subst, arith}
+use Rattle.gss_mech.specs.Tokens.{IsSized}
 use Rattle.gss_mech.specs.declared.mechanism.Accepted.{Accepted}
 use Rattle.nfs_base.specs.declared.seal.End.{End}
 use Rattle.streams.specs.declared.draws.Drawn.{Drawn}
@@ -23,10 +24,10 @@ module _ {X C W : Type 0} (rules : Rules X C) (codes : Codes) (accepted : List �
   pub owner_stays : KeepsOwner bytes now s t
   owner_stays = (after_turn rules codes accepted gives conn bytes now s before after t step.good.numbered step.turn).follows.owner
 
-  pub step_lawful : ObeysLaws codes bytes now s t
-  step_lawful owner accepts whose is has short =
+  pub step_lawful : IsSized codes.mic → ObeysLaws codes bytes now s t
+  step_lawful sized owner accepts whose is has =
       let boot = boot_stays rules codes accepted gives conn bytes now s before after t step in
-      let slots = step_obeys rules codes accepted gives conn bytes now s before after t step owner accepts whose is has short in
+      let slots = step_obeys rules codes accepted gives conn bytes now s before after t step sized owner accepts whose is has in
       record {
         boot = omega (arith, boot);
         made = λ same. made_rises rules codes accepted gives conn bytes now s before after t step;
@@ -38,7 +39,7 @@ module _ {X C W : Type 0} (rules : Rules X C) (codes : Codes) (accepted : List �
             init_law rules codes accepted gives conn bytes now s before after t step accepts whose by reply seal
             (subst (λ (xs : List ℕ). begun_by accepts whose xs ≡ Some by) (sym (some_bytes bytes call took)) begun) sends;
         create = λ call reply seal child took creates sends is_reply given.
-            create_law rules codes accepted gives conn bytes now s before after t step reply seal child
+            create_law rules codes accepted gives conn bytes now s before after t step sized reply seal child
             (subst (λ (xs : List ℕ). is_create xs ≡ true) (sym (some_bytes bytes call took)) creates) sends given;
         slot = slots.slot;
         kept = slots.kept;

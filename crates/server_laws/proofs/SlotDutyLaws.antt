@@ -1,6 +1,7 @@
 -- Each step obeys the laws of slots, and keeps what they need.
 use Rattle.std.proofs.Common.{◌≡◌, inl, inr, ℕ, List, Option, Some, None, sym, ap, subst, ◌∙◌, add-one, arith}
 use Rattle.std.specs.Prelude.{max}
+use Rattle.gss_mech.specs.Tokens.{IsSized}
 use Rattle.gss_mech.specs.declared.mechanism.Accepted.{Accepted}
 use Rattle.nfs_base.specs.declared.seal.End.{End}
 use Rattle.sess_slots.specs.Table.{SessionTable}
@@ -14,7 +15,7 @@ use Rattle.wire_spelling.specs.Spelling.{spelling}
 use Rattle.server_laws.specs.Acts.{acts_of, told}
 use Rattle.server_laws.specs.SlotDuties.{KeepsSessions, KeepsSlots, ObeysSlots}
 use Rattle.server_laws.specs.Steps.{IsStep}
-use Rattle.server_laws.specs.Slots.{AreShort, HasSlots, IsCompoundStep, IsFair, IsOtherStep}
+use Rattle.server_laws.specs.Slots.{HasSlots, IsCompoundStep, IsFair, IsOtherStep}
 use Rattle.server_laws.specs.View.{view}
 use Rattle.server_laws.proofs.Contexts.{boot_stays}
 use Rattle.server_laws.proofs.SlotKept.{compound_has}
@@ -67,21 +68,21 @@ other_has codes bytes second s t o has = record {
 module _ {X C W : Type 0} (rules : Rules X C) (codes : Codes) (accepted : List ℕ → List ℕ → Option Accepted) (gives : W → Drawn → W → Type 0)
     (conn : ℕ) (bytes : List ℕ) (now : ℕ) (s : HostState X C) (before after : W) (t : Stepped X C)
     (step : IsStep rules codes accepted gives conn bytes now s before after t) where
-  fair_step : (owner : End) → s.contexts.owner ≡ owner → HasSlots s → AreShort t.out.sent → IsFair owner codes bytes s t
-  fair_step owner is has short = record {
+  fair_step : IsSized codes.mic → (owner : End) → s.contexts.owner ≡ owner → HasSlots s → IsFair owner codes bytes s t
+  fair_step sized owner is has = record {
     slots = has;
     distinct = step.good.numbered.distinct;
     owner_is = is;
     same_boot = sym (boot_stays rules codes accepted gives conn bytes now s before after t step);
     are_bytes = step.are_bytes;
-    sized = step.sized;
-    short = short;
+    sized = sized;
+    short = step.short;
     left = omega (arith, step.few);
   }
 
-  pub step_obeys : KeepsSlots codes bytes now s t
-  step_obeys owner accepts whose is has short =
-      let fair = fair_step owner is has short in
+  pub step_obeys : IsSized codes.mic → KeepsSlots codes bytes now s t
+  step_obeys sized owner accepts whose is has =
+      let fair = fair_step sized owner is has in
       elim (step_kind rules codes accepted gives conn bytes now s before after t step.good.numbered.distinct step.turn) [
         | inl k ↦ compound_obeys rules codes owner accepts whose conn bytes now s t fair k
         | inr o ↦ other_obeys rules codes owner accepts whose conn bytes now s t fair o

@@ -6,15 +6,15 @@ use Rattle.wire_model.specs.Wire.{Acts}
 use Rattle.wire_spelling.specs.Spelling.{spelling}
 use Rattle.session_server.specs.Host.{Codes, HostState, Stepped}
 use Rattle.server_laws.specs.Acts.{acts_of}
-use Rattle.server_laws.specs.Slots.{AreShort, HasSlots}
+use Rattle.server_laws.specs.Slots.{HasSlots}
 use Rattle.server_laws.specs.View.{view}
 
--- A server of this owner, whose sessions are as they should be and whose reply isn't too long, obeys all of them, by whatever
--- tokens are accepted and whosever principals are.
+-- A server of this owner, whose sessions are as they should be, obeys all of them, by whatever tokens are accepted and
+-- whosever principals are.
 abbrev pub ObeysLaws : {X C : Type 0} → Codes → List ℕ → ℕ → HostState X C → Stepped X C → Type 0
 ObeysLaws codes bytes now s t =
     (owner : End) (accepts : List ℕ → Option (List ℕ)) (whose : List ℕ → Option End)
-    → s.contexts.owner ≡ owner → HasSlots s → AreShort t.out.sent
+    → s.contexts.owner ≡ owner → HasSlots s
     → ServerLaws (spelling accepts whose) owner (view s) (view t.host) (acts_of codes bytes now s t)
 
 -- the owner is the same

@@ -8,7 +8,7 @@ use Rattle.wire_model.specs.Wire.{Acts, Sends, Server}
 use Rattle.wire_spelling.specs.Spelling.{spelling}
 use Rattle.session_server.specs.Host.{Codes, HostState, Stepped}
 use Rattle.server_laws.specs.Acts.{acts_of}
-use Rattle.server_laws.specs.Slots.{AreShort, HasSlots}
+use Rattle.server_laws.specs.Slots.{HasSlots}
 use Rattle.server_laws.specs.View.{view}
 
 -- A call of a slot is executed or answered as kept. What is kept was kept, or is that of the call executed now. What runs has
@@ -22,11 +22,11 @@ pub record ObeysSlots (spell : Spelling) (owner : End) (v w : Server) (a : Acts)
       → spell.has_run results ≡ true → (last_of v name < name.number) × (name.number ≤ last_of w name)
   pub last : (name : SlotName) → v.boot ≡ w.boot → last_of v name ≤ last_of w name
 
--- A server of this owner, whose sessions are as they should be and whose reply isn't too long, obeys them.
+-- A server of this owner, whose sessions are as they should be, obeys them.
 abbrev pub KeepsSlots : {X C : Type 0} → Codes → List ℕ → ℕ → HostState X C → Stepped X C → Type 0
 KeepsSlots codes bytes now s t =
     (owner : End) (accepts : List ℕ → Option (List ℕ)) (whose : List ℕ → Option End)
-    → s.contexts.owner ≡ owner → HasSlots s → AreShort t.out.sent
+    → s.contexts.owner ≡ owner → HasSlots s
     → ObeysSlots (spelling accepts whose) owner (view s) (view t.host) (acts_of codes bytes now s t)
 
 -- and its sessions stay so

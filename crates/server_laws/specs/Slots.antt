@@ -1,5 +1,5 @@
 -- What a server's slots need of its state, and what a step is to them.
-use Rattle.std.specs.Prelude.{◌≡◌, ℕ, ◌+◌, ◌^◌, ◌<◌, ◌≤◌, List, length, map, not, All, Contains, Some, Ok, false}
+use Rattle.std.specs.Prelude.{◌≡◌, ℕ, ◌+◌, ◌^◌, ◌<◌, ◌≤◌, List, map, not, Contains, Some, Ok, false}
 use Rattle.context_laws.specs.View.{root_number}
 use Rattle.gss_ctx.specs.Table.{AreDistinct}
 use Rattle.gss_ctx.specs.declared.context.Context.{Context}
@@ -13,11 +13,11 @@ use Rattle.rpc_calls.specs.Judging.{judged_of}
 use Rattle.rpc_calls.specs.declared.call.Call.{Call}
 use Rattle.rpc_calls.specs.declared.call.Judged.TheVariants as judged
 use Rattle.rpc_calls.specs.declared.call.TheConstants.Program as programs
-use Rattle.rpc_msg.specs.declared.records.TheConstants.{RECORD_LIMIT}
 use Rattle.server_volume.specs.Choices.{Choice}
 use Rattle.compound_server.specs.Compounds.{on_compound}
 use Rattle.compound_server.specs.State.{Given}
 use Rattle.session_server.specs.Host.{Codes, HostState, Rules, Stepped}
+use Rattle.session_server.specs.Lengths.{AreShort}
 use Rattle.session_server.specs.Steps.{compounded, who_calls}
 use Rattle.slot_calls.specs.Asked.{IsAsked}
 use Rattle.slot_laws.specs.Sound.{AreBelow, IsSound}
@@ -64,10 +64,6 @@ pub record IsOtherStep {X C : Type 0} (codes : Codes) (bytes : List ℕ) (second
   pub steps : t.host.steps ≡ s.steps + 1
   pub none_told : tells (judged_of codes.mic second programs.NFS bytes s.contexts) s.contexts s.state.sessions ≡ false
   pub unanswered : AnswersSlot bytes t.out.sent → ⊥
-
--- no reply is longer than a record may be
-abbrev pub AreShort : List Outgoing → Type 0
-AreShort sent = All (λ o. length o.bytes ≤ RECORD_LIMIT) sent
 
 -- What the laws of slots rest on in a step.
 pub record IsFair {X C : Type 0} (owner : End) (codes : Codes) (bytes : List ℕ) (s : HostState X C) (t : Stepped X C) : Type 0 where

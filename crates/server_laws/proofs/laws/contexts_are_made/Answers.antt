@@ -6,5 +6,5 @@ returns g c = record {
   init = λ mech conn bytes now s before after t step accepts whose by reply seal begun sends.
       init_law _ _ _ _ conn bytes now s before after t step accepts whose by reply seal begun sends;
   create = λ mech conn bytes now s before after t step reply seal child creates sends given.
-      create_law _ _ _ _ conn bytes now s before after t step reply seal child creates sends given;
+      create_law _ _ _ _ conn bytes now s before after t step g.met.X.Mech.Mechanism.sized reply seal child creates sends given;
 }
