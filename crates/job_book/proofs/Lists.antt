@@ -1,5 +1,5 @@
 -- Lists without the elements that pass a test.
-use Rattle.std.proofs.Common.{◌≡◌, ℕ, suc, ◌+◌, ◌≤◌, Bool, true, false, List, [], ◌∷◌, length, Option, Some, refl, arith}
+use Rattle.std.proofs.Common.{suc, ◌+◌, ◌≤◌, Bool, true, false, List, [], ◌∷◌, length, Some, arith}
 use Rattle.std.specs.Prelude.{not, find, filter, IsSome, if◌then◌else◌}
 
 kept_at : {X : Type 0} (test : X → Bool) (x : X) (xs : List X) (b : Bool) → length (filter test xs) ≤ length xs

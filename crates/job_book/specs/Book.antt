@@ -1,6 +1,6 @@
 -- The jobs of a destination by name, and how many bytes were landed by those that aren't there any more. RFC 7862 section
 -- 4.2; the table itself is that of crate job_table.
-use Rattle.std.specs.Prelude.{◌≡◌, ℕ, ◌+◌, ◌*◌, ◌^◌, ◌<◌, ◌≤◌, nat_lt, List, length, Option, Some, None, option_map, sum_by, All, AllPairs, if◌then◌else◌}
+use Rattle.std.specs.Prelude.{ℕ, ◌+◌, ◌*◌, ◌^◌, ◌<◌, ◌≤◌, nat_lt, length, Option, Some, None, option_map, sum_by, All, AllPairs, if◌then◌else◌}
 use Rattle.copy_model.specs.Job.{IsLawful, landed_bytes}
 use Rattle.job_log.specs.Log.{ClaimsAreNew}
 use Rattle.job_table.specs.declared.job.Job.{Job}

@@ -1,4 +1,4 @@
-ghost use Rattle.std.specs.Prelude.{◌≡◌, ◌-◌, ◌^◌, ◌<◌, [], IfOk, IsSome};
+ghost use Rattle.std.specs.Prelude.{◌≡◌, ◌-◌, ◌^◌, ◌<◌, ◌≤◌, [], All, AllPairs, length, IfOk, IsSome};
 ghost use Rattle.job_table.specs.Table.{is_running, new_log};
 ghost use Rattle.job_book.specs.Book.{accept_answer, after_accept, book_bytes, client_of, id_of, job_status, landed_at, named, next_name, retired, IsSound};
 
@@ -35,6 +35,16 @@ impl Book {
             jobs: Jobs::new(alloc, boot, capacity)?,
             past: 0,
         })
+    }
+
+    /// How many numbers were given out. There are at most sixteen jobs, by rising number.
+    pub fn made(&self) -> u32
+        ensures value { result ≡ self.now.table.made }
+        ensures few { length self.now.table.jobs ≤ 16 }
+        ensures rising { AllPairs (λ a b. a.number < b.number) self.now.table.jobs }
+        ensures given { All (λ job. (0 < job.number) × (job.number ≤ self.now.table.made)) self.now.table.jobs }
+    {
+        self.jobs.made()
     }
 
     /// The job with the lowest number above this one.

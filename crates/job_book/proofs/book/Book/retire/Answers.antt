@@ -2,7 +2,7 @@ use Rattle.std.proofs.Common.{ℕ, ◌+◌, sym, subst}
 use Rattle.std.specs.Prelude.{IsSome}
 use Rattle.job_table.specs.declared.job.JobId.{JobId}
 use Rattle.job_table.specs.Table.{JobTable, job_of}
-use Rattle.job_book.specs.Book.{BookView, IsWithin, id_of, named}
+use Rattle.job_book.specs.Book.{BookView, IsWithin, named}
 use Rattle.job_book.proofs.Books.{within_less}
 use Rattle.job_book.proofs.book.Book.retire.Goals as goal
 
