@@ -1,6 +1,6 @@
 //! The end of jobs that a client brings about, and what is told of a step.
 
-ghost use Rattle.std.specs.Prelude.{◌≡◌, IsSome};
+ghost use Rattle.std.specs.Prelude.{◌≡◌, not, filter, IsSome};
 ghost use Rattle.job_book.specs.Book.{client_of, named};
 ghost use Rattle.dest_jobs.specs.Ending.{end_all, end_from, end_if, ended, noted, takes, test_of, with_note};
 
@@ -76,10 +76,12 @@ impl Copies {
         }
     }
 
-    /// Ends the jobs of some clients. It wants no memory.
+    /// Ends the jobs of some clients, by number. The others stay as they are. It wants no memory.
     pub fn end_all(&mut self, whose: &Whose, cause: Stop)
-        ensures { self.new ≡ end_all (test_of whose.now) cause self.old }
+        ensures is { self.new ≡ end_all (test_of whose.now) cause self.old }
+        ensures others { self.new.book.table.jobs ≡ filter (λ job. not (test_of whose.now job.plan.client)) self.old.book.table.jobs }
     {
+        let _made = self.book.made();
         self.end_from(whose, cause, MOST_JOBS, 0);
     }
 }
