@@ -1,7 +1,7 @@
 use Rattle.std.proofs.Common.{◌≡◌, ℕ, ◌+◌, ◌≤◌, ◌<◌, List, [], ◌∷◌, ◌++◌, length, None, refl, ap, sym, ◌∙◌, subst, arith}
 use Rattle.copy_model.specs.Job.{size_of}
 use Rattle.job_log.specs.Log.{JobView}
-use Rattle.slab.specs.Slab.{get, slab_len}
+use Rattle.slab.specs.Slab.{get}
 use Rattle.job_table.specs.declared.job.Job.{Job}
 use Rattle.job_table.specs.Table.{JobTable, overlapped, with_job}
 use Rattle.job_table.specs.Stored.{jobs_at, IsStored}
