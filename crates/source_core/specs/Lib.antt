@@ -1,4 +1,5 @@
 pub mod Asking
+pub mod CallLaws
 pub mod Core
 pub mod Judging
 pub mod Laws

@@ -8,6 +8,7 @@
 #![tactic(auto)]
 
 mod asking;
+mod calling;
 mod carried;
 mod granting;
 mod judging;

@@ -13,6 +13,7 @@ ghost use Rattle.server_volume.specs.Moments.{Ran};
 ghost use Rattle.server_volume.specs.Store.{seat_of};
 ghost use Rattle.session_server.specs.declared.host.TheConstants.{MOST_STEPS};
 ghost use Rattle.session_server.specs.Host.{host_of, stepped_of};
+ghost use Rattle.session_server.specs.Lengths.{AreShort};
 ghost use Rattle.session_server.specs.Steps.{IsTurn, ticked};
 ghost use Rattle.source_core.specs.Core.{nothing, source_rules, IsNew};
 ghost use Rattle.source_core.specs.Location.{IsShort};
@@ -140,6 +141,8 @@ impl<D: Disk, M: Mechanism> SourceCore<D, M> {
         requires few { self.old.steps < MOST_STEPS }
         ensures turn { D.Told → IfOk result (λ out. IsTurn (source_rules M.mic_of) (record { mic = M.mic_of; derived = M.derived }) (M.accepted self.old.server.files.extra.mech) W.gives conn record_.now now (host_of D.size self.old) draws.old draws.new (stepped_of D.size self.new out)) }
         ensures ran { D.Told → IfOk result (λ out. Ran (seat_of D.size D.fuse D.timeline self.old.server.files.volume) (seat_of D.size D.fuse D.timeline self.new.server.files.volume) [] out.used) }
+        ensures short { IfOk result (λ out. AreShort out.sent) }
+        ensures undrawn { IfOk result (λ out. out.undrawn ≡ true → Rose (W.faults draws.old) (W.faults draws.new)) }
         ensures err { OnErr result (self.new ≡ self.old) }
         ensures later { W.faults draws.old ≤ W.faults draws.new }
         ensures failing { W.failing draws.new ≡ W.failing draws.old }
