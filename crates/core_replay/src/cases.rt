@@ -1,0 +1,97 @@
+//! How cases go.
+
+ghost use Rattle.std.specs.Prelude.{◌≡◌, ◌≢◌, false, IfOk, OnErr};
+ghost use Rattle.core_replay.specs.Counting.{one_more, IsAsBefore, IsCounted};
+
+use outcome::Mem;
+use std::alloc::Global;
+
+/// The case that is replayed, and how the ones before went. At its type's end a count stands still.
+#[derive(Drop)]
+pub struct Cases {
+    name: String,
+
+    /// The lines of the last event's outcome that weren't met yet, the next one last.
+    due: Vec<String>,
+
+    /// Whether a line of this case was told already.
+    pub is_told: bool,
+
+    /// How many cases were begun.
+    pub begun: u32,
+
+    /// How many of them had a line for which another one was given.
+    pub differ: u32,
+}
+
+impl Cases {
+    pub fn new(alloc: Global) -> Cases
+        ensures begun { result.begun ≡ 0 }
+        ensures differ { result.differ ≡ 0 }
+    {
+        Cases {
+            name: String::new(alloc),
+            due: Vec::new(alloc),
+            is_told: false,
+            begun: 0,
+            differ: 0,
+        }
+    }
+
+    /// Begins the next case.
+    pub fn begin(&mut self, alloc: Global, name: &str) -> Mem<()>
+        ensures begun { IfOk result (λ _. self.new.begun ≡ one_more self.old.begun) }
+        ensures told { IfOk result (λ _. self.new.is_told ≡ false) }
+        ensures differ { self.new.differ ≡ self.old.differ }
+        ensures err { OnErr result (self.new ≡ self.old) }
+    {
+        let name = format!(in alloc; "{name}")?;
+        self.name = name;
+        self.due = Vec::new(alloc);
+        self.is_told = false;
+        self.begun = self.begun.saturating_add(1);
+        Ok(())
+    }
+
+    /// These lines are the outcome of an event.
+    pub fn expect(&mut self, lines: Vec<String>)
+        ensures { IsAsBefore self.old self.new }
+    {
+        self.due = lines;
+        self.due.reverse();
+    }
+
+    /// The next line of the outcome, if one is due.
+    pub fn next_due(&mut self) -> Option<String>
+        ensures { IsAsBefore self.old self.new }
+    {
+        self.due.pop()
+    }
+
+    /// Compares a line with the one that was given for it, and answers what is to be told.
+    pub fn meet(&mut self, alloc: Global, line: &str, given: &str) -> Mem<Option<String>>
+        ensures same { given.now ≡ line.now → self.new ≡ self.old }
+        ensures other { given.now ≢ line.now → IfOk result (λ _. IsCounted self.old self.new) }
+    {
+        if given == line {
+            return Ok(None);
+        }
+        self.tell(alloc, line, given)
+    }
+
+    /// Counts a case with a line for which another one was given, and answers what is to be told of it: the first such
+    /// line of each case.
+    pub fn tell(&mut self, alloc: Global, line: &str, given: &str) -> Mem<Option<String>>
+        ensures counted { IfOk result (λ _. IsCounted self.old self.new) }
+        ensures err { OnErr result (self.new ≡ self.old) }
+    {
+        if self.is_told {
+            return Ok(None);
+        }
+        let name = &self.name;
+        let told = format!(in alloc; "{name}: {given} FOR {line}")?;
+        self.is_told = true;
+        self.differ = self.differ.saturating_add(1);
+        Ok(Some(told))
+    }
+}

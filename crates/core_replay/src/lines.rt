@@ -1,0 +1,56 @@
+//! The lines of cases.
+
+use outcome::Mem;
+use row_text::word;
+use std::alloc::Global;
+
+/// What a line is, by its first word.
+#[derive(Clone, Copy)]
+pub enum Kind {
+    Case,
+    Event,
+    Outcome,
+    Held,
+    End,
+}
+
+/// What a line with this first word is. Words that are no others' are those of events.
+pub fn kind_of(word: &str) -> Kind {
+    if is_outcome(word) {
+        return Kind::Outcome;
+    }
+    if is_held(word) {
+        return Kind::Held;
+    }
+    match word {
+        "case" => Kind::Case,
+        "end" => Kind::End,
+        _ => Kind::Event,
+    }
+}
+
+fn is_outcome(word: &str) -> bool {
+    word == "note" || word == "accepted" || word == "used" || word == "undrawn" || word == "sent"
+}
+
+fn is_held(word: &str) -> bool {
+    word == "file" || word == "peek"
+}
+
+/// Whether a line says nothing.
+pub fn is_passed_over(line: &str) -> bool {
+    line.is_empty() || line.starts_with('#')
+}
+
+/// The number at a place, and the greatest where there is none.
+pub fn long(words: &[&str], at: usize) -> u64 {
+    word(words, at).parse::<u64>().unwrap_or(u64::MAX)
+}
+
+/// The bytes of a word, and none where it isn't hex.
+pub fn bytes_of(alloc: Global, word: &str) -> Mem<Vec<u8>> {
+    match hex::decode(alloc, word) {
+        Ok(bytes) => Ok(bytes),
+        Err(_) => Ok(Vec::new(alloc)),
+    }
+}
