@@ -1,0 +1,74 @@
+-- The operations of a copy in a compound: COPY, OFFLOAD_STATUS and OFFLOAD_CANCEL. What they decide is in crate dest_jobs.
+-- RFC 7862 sections 15.2, 15.8 and 15.9.
+use Rattle.std.specs.Prelude.{ℕ, nat_lt, Option, Some, None, Result, Ok, Err, List, if◌then◌else◌}
+use Rattle.compound_server.specs.Serves.{Served}
+use Rattle.copy_ops.specs.declared.args.CopyArgs.{CopyArgs}
+use Rattle.copy_ops.specs.declared.res.CopyRes.TheVariants as results
+use Rattle.copy_ops.specs.declared.results.CopyAnswer.{CopyAnswer}
+use Rattle.copy_ops.specs.declared.results.CopyAnswer.TheVariants.{Refused}
+use Rattle.dest_jobs.specs.Copying.{copied}
+use Rattle.dest_jobs.specs.Offloads.{after_cancel, cancel_status, own_job, status_told}
+use Rattle.dest_jobs.specs.declared.carried.Carried.{Carried}
+use Rattle.dest_jobs.specs.declared.copies.Copies.{Copies}
+use Rattle.dest_jobs.specs.declared.copying.CopyRoom.{CopyRoom}
+use Rattle.dest_jobs.specs.declared.copying.Ends.{Ends}
+use Rattle.file_server.specs.Answering.{meant_id, open_refusal}
+use Rattle.file_server.specs.Handles.{current_file}
+use Rattle.file_server.specs.Machine.{Going, with_extra}
+use Rattle.file_server.specs.declared.extension.Caller.{Caller}
+use Rattle.nfs_base.specs.declared.state_id.StateId.{StateId}
+use Rattle.nfs_base.specs.declared.status.Status.{Status}
+use Rattle.nfs_base.specs.declared.status.TheConstants.Status.{ISDIR, NOFILEHANDLE}
+use Rattle.server_volume.specs.Store.{Store}
+use Rattle.state_ids.specs.declared.access.Access.TheVariants as access
+use Rattle.dest_core.specs.declared.destination.Destination.{Destination}
+
+abbrev pub with_copies : {M : Type 0} → Copies → Going (Destination M) → Going (Destination M)
+with_copies copies g = with_extra (record g.machine.extra { copies = copies }) g
+
+-- ---- COPY: between which files, the saved one of the source and the current one here, which isn't the root
+
+abbrev pub unless_root : Result ℕ Status → Result ℕ Status
+unless_root (Err status) = Err status
+unless_root (Ok file) = if nat_lt 0 file then Ok file else Err ISDIR
+
+abbrev pub ends_at : (source : List ℕ) → Result ℕ Status → Result Ends Status
+ends_at source (Err status) = Err status
+ends_at source (Ok file) = Ok (record { source = source; file = file })
+
+abbrev pub ends_of : Store → Option (List ℕ) → Option (List ℕ) → Result Ends Status
+ends_of s None saved = Err NOFILEHANDLE
+ends_of s (Some current) None = Err NOFILEHANDLE
+ends_of s (Some current) (Some saved) = ends_at saved (unless_root (current_file s (Some current)))
+
+abbrev pub copy_answered : {X : Type 0} → Going X → CopyAnswer → Served X
+copy_answered g answer = record { going = g; res = results.Copy answer }
+
+-- what is left of the copies, and the answer
+abbrev pub answered_by : {M : Type 0} → Copies × CopyAnswer → Going (Destination M) → Served (Destination M)
+answered_by d g = copy_answered (with_copies d.0 g) d.1
+
+abbrev pub copied_here : {M : Type 0} → Caller → Option Carried → CopyArgs → Ends → CopyRoom → Going (Destination M) → Copies × CopyAnswer
+copied_here caller carry args ends room g =
+    copied caller.client carry args ends room (open_refusal g.machine.opens (meant_id g.held.id args.dst_id) ends.file access.Write)
+    g.machine.store.volume.boot g.machine.extra.copies
+
+abbrev pub copy_between : {M : Type 0} → Result Ends Status → Caller → Option Carried → CopyArgs → CopyRoom → Going (Destination M) → Served (Destination M)
+copy_between (Err status) caller carry args room g = copy_answered g (Refused status)
+copy_between (Ok ends) caller carry args room g = answered_by (copied_here caller carry args ends room g) g
+
+abbrev pub copy : {M : Type 0} → Caller → Option Carried → CopyArgs → CopyRoom → Going (Destination M) → Served (Destination M)
+copy caller carry args room g = copy_between (ends_of g.machine.store g.held.current g.held.saved) caller carry args room g
+
+-- ---- OFFLOAD_STATUS and OFFLOAD_CANCEL, which look at no handle
+
+abbrev pub offload_status : {M : Type 0} → (client : ℕ) → StateId → Going (Destination M) → Served (Destination M)
+offload_status client id g =
+    let t = g.machine.extra.copies.book.table in
+    record { going = g; res = results.OffloadStatus (status_told t (own_job t client id)) }
+
+abbrev pub offload_cancel : {M : Type 0} → (client : ℕ) → StateId → Going (Destination M) → Served (Destination M)
+offload_cancel client id g =
+    let copies = g.machine.extra.copies in
+    let job = own_job copies.book.table client id in
+    record { going = with_copies (after_cancel job copies) g; res = results.OffloadCancel (cancel_status job) }
