@@ -23,7 +23,8 @@ use Rattle.client_copies.specs.Table.{Copies, offloaded_in}
 use Rattle.client_copies.specs.declared.table.Named.{Named}
 use Rattle.client_copies.specs.declared.table.Named.TheVariants as named
 use Rattle.callbacks.specs.declared.evaluation.Told.{Told}
-use Rattle.callbacks.specs.declared.evaluation.TheConstants.{HIGHEST_SLOT, MINOR_VERSION}
+use Rattle.callbacks.specs.declared.evaluation.TheConstants.{HIGHEST_SLOT}
+use Rattle.nfs_compound.specs.declared.compound.TheConstants.{MINOR_VERSION}
 
 -- what is answered: the status, the results, what is told of copies, and the copies behind it
 pub record Outcome : Type 0 where

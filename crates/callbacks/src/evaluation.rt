@@ -10,13 +10,10 @@ use client_copies::{CopyTable, Named, Said};
 use copy_ops::{CbOffload, OP_CB_OFFLOAD};
 use file_ops::{CbSeq, CbSeqDone, OP_CB_SEQUENCE, OP_ILLEGAL};
 use nfs_base::{Answer, MOST_OPERATIONS, SLOTS, Status};
-use nfs_compound::{CbCompound, CbOp, CbRes, Tail};
+use nfs_compound::{CbCompound, CbOp, CbRes, MINOR_VERSION, Tail};
 use outcome::Mem;
 use std::alloc::Global;
 use wire_xdr::Items;
-
-/// The minor version of callbacks that is served (RFC 7862).
-const MINOR_VERSION: u32 = 2;
 
 /// The highest slot that a server may use.
 const HIGHEST_SLOT: u32 = SLOTS - 1;

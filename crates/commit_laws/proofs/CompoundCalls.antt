@@ -15,7 +15,7 @@ use Rattle.server_volume.specs.declared.used.Used.{Used}
 use Rattle.sess_slots.specs.Begins.{begin_of}
 use Rattle.sess_slots.specs.declared.answers.Begin.{Begin}
 use Rattle.sess_slots.specs.declared.answers.Begin.TheVariants as begin
-use Rattle.compound_server.specs.declared.compounds.TheConstants.{MINOR_VERSION}
+use Rattle.nfs_compound.specs.declared.compound.TheConstants.{MINOR_VERSION}
 use Rattle.compound_server.specs.declared.who.Who.{Who}
 use Rattle.compound_server.specs.Compounds.{by_begin, by_first, by_minor, caller_at, on_compound, sequence, unless_many}
 use Rattle.compound_server.specs.Course.{Service}

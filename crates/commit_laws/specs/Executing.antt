@@ -5,7 +5,7 @@ use Rattle.compound_server.specs.Compounds.{caller_at}
 use Rattle.compound_server.specs.Course.{Course, Performed, Service}
 use Rattle.compound_server.specs.Performing.{perform}
 use Rattle.compound_server.specs.State.{Parting, State, begun, with_own}
-use Rattle.compound_server.specs.declared.compounds.TheConstants.{MINOR_VERSION}
+use Rattle.nfs_compound.specs.declared.compound.TheConstants.{MINOR_VERSION}
 use Rattle.compound_server.specs.declared.who.Who.{Who}
 use Rattle.file_ops.specs.declared.args.FileArg.TheVariants as args
 use Rattle.file_server.specs.declared.extension.Caller.{Caller}

@@ -6,6 +6,7 @@ use Rattle.file_ops.specs.declared.parms.ChannelAttrs.{ChannelAttrs}
 use Rattle.file_ops.specs.declared.parms.SecParm.{SecParm}
 use Rattle.file_ops.specs.declared.parms.SecParm.TheVariants.{Gss}
 use Rattle.file_ops.specs.declared.results.FileRes.TheVariants as results
+use Rattle.file_ops.specs.declared.sessions.TheConstants.{CONN_BACK_CHAN}
 use Rattle.file_ops.specs.declared.sessions.CreateSessionArgs.{CreateSessionArgs}
 use Rattle.file_ops.specs.declared.sessions.CreateSessionDone.{CreateSessionDone}
 use Rattle.file_ops.specs.declared.sessions.ExchangeIdArgs.{ExchangeIdArgs}
@@ -27,7 +28,7 @@ use Rattle.sess_slots.specs.declared.answers.Exchanged.TheVariants as exchanged
 use Rattle.sess_slots.specs.Clients as tables
 use Rattle.state_ids.specs.Opens.{holds_open}
 use Rattle.wire_xdr.specs.Words.{hyper_bytes}
-use Rattle.compound_server.specs.declared.clients.TheConstants.{CONN_BACK_CHAN, USE_NON_PNFS, CONFIRMED_R}
+use Rattle.compound_server.specs.declared.clients.TheConstants.{USE_NON_PNFS, CONFIRMED_R}
 use Rattle.compound_server.specs.declared.who.Who.{Who}
 use Rattle.compound_server.specs.State.{State, Given, Parting, answered_by, refusal, with_sessions, without_one, without_all}
 

@@ -29,7 +29,7 @@ use Rattle.sess_slots.specs.declared.answers.Begin.TheVariants as begin
 use Rattle.sess_slots.specs.declared.answers.Place.{Place}
 use Rattle.sess_slots.specs.Begins.{begin_of, client_at, reply_at, finished}
 use Rattle.sess_slots.specs.Table.{SessionTable}
-use Rattle.compound_server.specs.declared.compounds.TheConstants.{MINOR_VERSION}
+use Rattle.nfs_compound.specs.declared.compound.TheConstants.{MINOR_VERSION}
 use Rattle.compound_server.specs.declared.refusing.TailRefusal.{TailRefusal}
 use Rattle.compound_server.specs.declared.who.Who.{Who}
 use Rattle.compound_server.specs.Course.{Service}

@@ -21,8 +21,8 @@ use crate::serving::Serving;
 use crate::who::Who;
 use disk_model::Disk;
 use file_ops::{
-    CreateSessionArgs, ExchangeIdArgs, OP_CREATE_SESSION, OP_DESTROY_CLIENTID, OP_DESTROY_SESSION,
-    OP_EXCHANGE_ID, Protection, SecParm,
+    CONN_BACK_CHAN, CreateSessionArgs, ExchangeIdArgs, OP_CREATE_SESSION, OP_DESTROY_CLIENTID,
+    OP_DESTROY_SESSION, OP_EXCHANGE_ID, Protection, SecParm,
 };
 use nfs_base::{MOST_OPERATIONS, SLOTS, Status};
 use outcome::Mem;
@@ -31,9 +31,6 @@ use server_volume::CallList;
 use sess_slots::{Created, Exchanged, MOST_REPLY};
 use std::alloc::Global;
 use wire_xdr::Page;
-
-/// The flag of CREATE_SESSION that asks for a back channel on the same connection (CREATE_SESSION4_FLAG_CONN_BACK_CHAN).
-pub const CONN_BACK_CHAN: u32 = 2;
 
 /// The flag by which EXCHANGE_ID says that the server takes no part in pNFS (EXCHGID4_FLAG_USE_NON_PNFS).
 pub const USE_NON_PNFS: u32 = 0x0001_0000;

@@ -25,15 +25,12 @@ use disk_model::Disk;
 use file_ops::{FileArg, OP_ILLEGAL, OP_SEQUENCE, SequenceArgs};
 use file_server::{Ask, Caller, Gate, Progress};
 use nfs_base::{MOST_OPERATIONS, Status};
-use nfs_compound::{Compound, Op, Tail};
+use nfs_compound::{Compound, MINOR_VERSION, Op, Tail};
 use outcome::Mem;
 use server_volume::CallList;
 use sess_slots::{Begin, MOST_REPLY, Place};
 use std::alloc::Global;
 use wire_xdr::{Octets, Page};
-
-/// The minor version that is served, NFSv4.2 (RFC 7862).
-pub const MINOR_VERSION: u32 = 2;
 
 /// What a COMPOUND gives besides the server's new state.
 #[derive(Drop)]

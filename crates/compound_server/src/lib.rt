@@ -18,8 +18,8 @@ mod server;
 mod serving;
 mod who;
 
-pub use clients::{CONFIRMED_R, CONN_BACK_CHAN, USE_NON_PNFS};
-pub use compounds::{MINOR_VERSION, Reply};
+pub use clients::{CONFIRMED_R, USE_NON_PNFS};
+pub use compounds::Reply;
 pub use evaluating::Evaluated;
 pub use preparing::{Prepared, PreparedOps, prepare};
 pub use refusing::{TailRefusal, stands_alone, tail_refusal};

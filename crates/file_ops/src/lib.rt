@@ -41,7 +41,7 @@ pub use operation::{
 pub use parms::{ChannelAttrs, GssParm, SecParm, SysParm};
 pub use results::{FileRes, read_file_res, results_have_one_spelling, write_file_res};
 pub use sessions::{
-    CreateSessionArgs, CreateSessionDone, ExchangeIdArgs, ExchangeIdDone, ImplId, Protection,
-    SequenceArgs, SequenceDone,
+    CONN_BACK_CHAN, CreateSessionArgs, CreateSessionDone, ExchangeIdArgs, ExchangeIdDone, ImplId,
+    Protection, SequenceArgs, SequenceDone,
 };
 pub use zero::Zero;

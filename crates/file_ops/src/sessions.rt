@@ -9,6 +9,10 @@ use outcome::Mem;
 use std::alloc::Global;
 use wire_xdr::{Items, Octets, ReadError, Reader, Writer, Xdr, put_four};
 
+/// The flag of CREATE_SESSION by which the connection serves callbacks too, CREATE_SESSION4_FLAG_CONN_BACK_CHAN (RFC 8881
+/// section 18.36).
+pub const CONN_BACK_CHAN: u32 = 2;
+
 /// Who made an implementation and when, nfs_impl_id4 (RFC 8881 section 3.3.12).
 #[derive(Drop)]
 pub struct ImplId {

@@ -14,6 +14,9 @@ use outcome::{Mem, NoMemory};
 use std::alloc::Global;
 use wire_xdr::{BadXdr, Items, Octets, ReadError, Reader, Writer, Xdr};
 
+/// The minor version that a COMPOUND and a CB_COMPOUND of ours have: NFSv4.2 (RFC 7862).
+pub const MINOR_VERSION: u32 = 2;
+
 /// The arguments of COMPOUND, COMPOUND4args (RFC 8881 section 16.2). A tag has at most 1,024 bytes.
 #[derive(Drop)]
 pub struct Compound {

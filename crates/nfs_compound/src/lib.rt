@@ -30,7 +30,7 @@ pub use cb_compound::{CbCompound, read_cb_compound, write_cb_compound};
 pub use cb_op::{CbOp, cb_name_of};
 pub use cb_reply::{CbReply, read_cb_reply, write_cb_reply};
 pub use cb_res::CbRes;
-pub use compound::{Compound, read_compound, write_compound};
+pub use compound::{Compound, MINOR_VERSION, read_compound, write_compound};
 pub use evaluation::{Actor, walk};
 pub use held::Held;
 pub use laws::{compounds_are_spelled, written_compounds_are_read};

@@ -2,7 +2,7 @@
 -- (RFC 8881 sections 2.10 and 18, RFC 7862 section 15). Where the RFC leaves a field to the caller, what they say
 -- there is their own choice.
 use Rattle.std.specs.Prelude.{◌≡◌, ℕ, ◌≤◌, ◌<◌, false, Option, Some, None, List, [], ◌∷◌, length}
-use Rattle.nfs_base.specs.declared.limits.TheConstants.{DATA_LIMIT, NAME_LIMIT}
+use Rattle.nfs_base.specs.declared.limits.TheConstants.{DATA_LIMIT, MOST_OPERATIONS, NAME_LIMIT, SLOTS}
 use Rattle.nfs_base.specs.declared.net_loc.NetLoc.{NetLoc}
 use Rattle.nfs_base.specs.declared.programs.TheConstants.{CALLBACK_PROGRAM}
 use Rattle.nfs_base.specs.declared.state_id.StateId.{StateId}
@@ -16,15 +16,17 @@ use Rattle.file_ops.specs.declared.opening.OpenHow.TheVariants.{NoCreate}
 use Rattle.file_ops.specs.declared.parms.ChannelAttrs.{ChannelAttrs}
 use Rattle.file_ops.specs.declared.parms.SecParm.{SecParm}
 use Rattle.file_ops.specs.declared.parms.SecParm.TheVariants.{Gss}
+use Rattle.file_ops.specs.declared.sessions.TheConstants.{CONN_BACK_CHAN}
 use Rattle.file_ops.specs.declared.sessions.Protection.TheVariants.{Unprotected}
 use Rattle.nfs_compound.specs.declared.compound.Compound.{Compound}
+use Rattle.nfs_compound.specs.declared.compound.TheConstants.{MINOR_VERSION}
 use Rattle.nfs_compound.specs.declared.op.Op.{Op}
 use Rattle.nfs_compound.specs.declared.op.Op.TheVariants.{Copy, File}
 use Rattle.nfs_compound.specs.declared.tail.Tail.TheVariants.{Whole}
 use Rattle.file_ops.specs.declared.files.TheConstants.{ATTR_CHANGE}
 use Rattle.session_calls.specs.declared.answer.TheConstants.{ATTRS_CHANGE_AND_SIZE}
 use Rattle.nfs_compound.specs.Compounds.{CompoundFits, compound_bytes}
-use Rattle.session_calls.specs.declared.compound.TheConstants.{LONGEST_CALL, MINOR_VERSION}
+use Rattle.session_calls.specs.declared.compound.TheConstants.{LONGEST_CALL}
 use Rattle.session_calls.specs.declared.slot_call.TheConstants.{HIGHEST_SLOT, ACCESS_BOTH}
 use Rattle.session_calls.specs.declared.slot_call.CopyRange.{CopyRange}
 use Rattle.session_calls.specs.declared.slot_call.FileCall.{FileCall}
@@ -35,7 +37,8 @@ use Rattle.session_calls.specs.declared.slot_call.SlotUse.{SlotUse}
 use Rattle.session_calls.specs.declared.sole_call.BackChannel.{BackChannel}
 use Rattle.session_calls.specs.declared.sole_call.SoleCall.{SoleCall}
 use Rattle.session_calls.specs.declared.sole_call.SoleCall.TheVariants as soles
-use Rattle.session_calls.specs.declared.sole_call.TheConstants.{CONN_BACK_CHAN, BACK_SERVICE, CHANNEL_BYTES, CHANNEL_OPERATIONS, CHANNEL_REQUESTS}
+use Rattle.rpc_msg.specs.declared.numbers.TheConstants.{RPC_GSS_SVC_INTEGRITY}
+use Rattle.rpc_msg.specs.declared.records.TheConstants.{RECORD_LIMIT}
 
 -- the compound of these operations: no tag, and minor version 2
 abbrev pub whole : List Op → Compound
@@ -114,17 +117,17 @@ slot_compound slot call = whole (sequence_op slot ∷ slot_ops call)
 abbrev pub channel : ChannelAttrs
 channel = record {
   header_padding = 0;
-  max_request = CHANNEL_BYTES;
-  max_response = CHANNEL_BYTES;
-  max_cached_response = CHANNEL_BYTES;
-  max_operations = CHANNEL_OPERATIONS;
-  max_requests = CHANNEL_REQUESTS;
+  max_request = RECORD_LIMIT;
+  max_response = RECORD_LIMIT;
+  max_cached_response = RECORD_LIMIT;
+  max_operations = MOST_OPERATIONS;
+  max_requests = SLOTS;
   rdma = None;
 }
 
 -- under which contexts the server may call back
 abbrev pub back_parm : BackChannel → SecParm
-back_parm back = Gss (record { service = BACK_SERVICE; handle_from_server = back.from_server; handle_from_client = back.from_client })
+back_parm back = Gss (record { service = RPC_GSS_SVC_INTEGRITY; handle_from_server = back.from_server; handle_from_client = back.from_client })
 
 -- CREATE_SESSION (section 18.36), with a back channel or without one
 abbrev pub create_op : ℕ → ℕ → Option BackChannel → FileArg

@@ -8,13 +8,10 @@ ghost use Rattle.session_calls.specs.Calls.{whole, IsSendable};
 
 use file_ops::FileArg;
 use nfs_base::MOST_OPERATIONS;
-use nfs_compound::{Compound, Op, Tail, compounds_have_lengths};
+use nfs_compound::{Compound, MINOR_VERSION, Op, Tail, compounds_have_lengths};
 use outcome::Mem;
 use std::alloc::Global;
 use wire_xdr::{Items, Octets};
-
-/// The minor version of NFSv4.2 (RFC 7862 section 1).
-pub const MINOR_VERSION: u32 = 2;
 
 /// No compound of these ends has so many bytes.
 pub const LONGEST_CALL: u32 = 73_728;

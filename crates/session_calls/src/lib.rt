@@ -13,7 +13,7 @@ mod slot_call;
 mod sole_call;
 
 pub use answer::is_answer;
-pub use compound::{LONGEST_CALL, MINOR_VERSION};
+pub use compound::LONGEST_CALL;
 pub use laws::calls_are_simple;
 pub use slot_call::{CopyRange, FileCall, HIGHEST_SLOT, SlotCall, SlotUse};
 pub use sole_call::{BackChannel, SoleCall};

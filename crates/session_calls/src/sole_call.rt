@@ -13,28 +13,15 @@ ghost use Rattle.session_calls.specs.Calls.{channel, back_parm, create_op, sole_
 
 use crate::compound::of_one;
 use file_ops::{
-    ChannelAttrs, CreateSessionArgs, ExchangeIdArgs, FileArg, GssParm, Protection, SecParm,
+    CONN_BACK_CHAN, ChannelAttrs, CreateSessionArgs, ExchangeIdArgs, FileArg, GssParm, Protection,
+    SecParm,
 };
-use nfs_base::CALLBACK_PROGRAM;
+use nfs_base::{CALLBACK_PROGRAM, MOST_OPERATIONS, SLOTS};
 use nfs_compound::{Compound, Op};
 use outcome::Mem;
+use rpc_msg::{RECORD_LIMIT, RPC_GSS_SVC_INTEGRITY};
 use std::alloc::Global;
 use wire_xdr::{Items, Octets};
-
-/// CREATE_SESSION4_FLAG_CONN_BACK_CHAN: the connection serves callbacks too (RFC 8881 section 18.36).
-const CONN_BACK_CHAN: u32 = 2;
-
-/// RPC_GSS_SVC_INTEGRITY, under which callbacks are made (RFC 2203 section 5.3.1).
-const BACK_SERVICE: u32 = 2;
-
-/// How many bytes a record may have, which is what a channel takes.
-const CHANNEL_BYTES: u32 = 73_728;
-
-/// How many operations a compound of a channel may have.
-const CHANNEL_OPERATIONS: u32 = 16;
-
-/// How many slots a channel has.
-const CHANNEL_REQUESTS: u32 = 16;
 
 /// The contexts of a session's back channel, by their handles: the one that makes the session, and the one under
 /// which the server calls back (RFC 8881 section 18.36).
@@ -78,11 +65,11 @@ fn channel() -> ChannelAttrs
 {
     ChannelAttrs {
         header_padding: 0,
-        max_request: CHANNEL_BYTES,
-        max_response: CHANNEL_BYTES,
-        max_cached_response: CHANNEL_BYTES,
-        max_operations: CHANNEL_OPERATIONS,
-        max_requests: CHANNEL_REQUESTS,
+        max_request: RECORD_LIMIT,
+        max_response: RECORD_LIMIT,
+        max_cached_response: RECORD_LIMIT,
+        max_operations: MOST_OPERATIONS,
+        max_requests: SLOTS,
         rdma: None,
     }
 }
@@ -167,7 +154,7 @@ fn back_parm(alloc: Global, back: &BackChannel) -> Mem<SecParm>
     ensures size { IfOk result (λ parm. parm_size parm ≤ 1000) }
 {
     Ok(SecParm::Gss(GssParm {
-        service: BACK_SERVICE,
+        service: RPC_GSS_SVC_INTEGRITY,
         handle_from_server: Octets::from_slice(alloc, &back.from_server)?,
         handle_from_client: Octets::from_slice(alloc, &back.from_client)?,
     }))

@@ -18,7 +18,7 @@ use Rattle.sess_slots.specs.declared.answers.Begin.{Begin}
 use Rattle.sess_slots.specs.declared.answers.Begin.TheVariants as begin
 use Rattle.sess_slots.specs.Begins.{begin_of, reply_kept}
 use Rattle.sess_slots.specs.Table.{SessionTable}
-use Rattle.compound_server.specs.declared.compounds.TheConstants.{MINOR_VERSION}
+use Rattle.nfs_compound.specs.declared.compound.TheConstants.{MINOR_VERSION}
 use Rattle.compound_server.specs.declared.who.Who.{Who}
 use Rattle.compound_server.specs.Compounds.{by_begin, by_first, by_minor, caller_at, first_number, on_compound, sequence, sequence_done, tail_results, unless_many}
 use Rattle.compound_server.specs.Course.{Service}

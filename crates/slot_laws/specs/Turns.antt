@@ -12,7 +12,7 @@ use Rattle.sess_slots.specs.declared.answers.Begin.TheVariants as begin
 use Rattle.sess_slots.specs.declared.answers.Place.{Place}
 use Rattle.sess_slots.specs.Begins.{begin_of, reply_at}
 use Rattle.sess_slots.specs.Table.{SessionTable}
-use Rattle.compound_server.specs.declared.compounds.TheConstants.{MINOR_VERSION}
+use Rattle.nfs_compound.specs.declared.compound.TheConstants.{MINOR_VERSION}
 use Rattle.compound_server.specs.Compounds.{kept_bytes}
 use Rattle.slot_laws.specs.Fronts.{SaysNotRun, SaysRun}
 use Rattle.slot_laws.specs.Moves.{Moves, Rests}
