@@ -17,6 +17,8 @@ use Rattle.sess_slots.specs.declared.answers.Exchanged.{Exchanged}
 use Rattle.sess_slots.specs.declared.answers.Exchanged.TheVariants as exchanged
 use Rattle.server_volume.specs.Store.{Store}
 use Rattle.state_ids.specs.Opens.{holds_open}
+use Rattle.compound_server.specs.declared.client_end.ClientEnd.{ClientEnd}
+use Rattle.compound_server.specs.declared.client_end.ClientEnd.TheVariants.{Lapsed, Gone}
 use Rattle.compound_server.specs.declared.who.Who.{Who}
 use Rattle.compound_server.specs.Clients.{asks_back, back_handle, by_created, by_exchanged, by_protection, create_session, destroy_clientid, destroy_session, exchange_id, left_if}
 use Rattle.compound_server.specs.Compounds.{alone_refusal, outside_session, unless}
@@ -29,17 +31,17 @@ pub record Rests {X : Type 0} (store : Store) (g : Given X) : Type 0 where
   pub none : g.used ≡ []
 
 module _ {X : Type 0} (parting : Parting X) where
-  left_same : (clients : List ℕ) (s : State X) → (without_all parting clients s).machine.store ≡ s.machine.store
+  left_same : (why : ClientEnd) (clients : List ℕ) (s : State X) → (without_all parting why clients s).machine.store ≡ s.machine.store
   unfolding without_all
-  left_same [] s = refl
-  left_same (client ∷ clients) s = left_same clients (without_one parting client s)
+  left_same why [] s = refl
+  left_same why (client ∷ clients) s = left_same why clients (without_one parting why client s)
 
   left_one : (b : Bool) (client : ℕ) (s : State X) → (left_if b parting client s).machine.store ≡ s.machine.store
   left_one true client s = refl
   left_one false client s = refl
 
   exchanged_rests : (answer : Exchanged) (tag : List ℕ) (s : State X) → Rests s.machine.store (by_exchanged answer parting tag s)
-  exchanged_rests (exchanged.Client id sequence confirmed ended) tag s = record { same = left_same ended s; none = refl }
+  exchanged_rests (exchanged.Client id sequence confirmed ended) tag s = record { same = left_same Lapsed ended s; none = refl }
   exchanged_rests (exchanged.Refused status) tag s = record { same = refl; none = refl }
 
   protection_rests : (p : Protection) (who : Who) (principal tag : List ℕ) (a : ExchangeIdArgs) (s : State X)
@@ -54,7 +56,7 @@ module _ {X : Type 0} (parting : Parting X) where
   exchange_rests who principal tag a s = protection_rests a.protection who principal tag a s
 
   created_rests : (answer : Created) (tag : List ℕ) (s : State X) → Rests s.machine.store (by_created answer parting tag s)
-  created_rests (created.Made session sequence ended asked) tag s = record { same = left_same _ s; none = refl }
+  created_rests (created.Made session sequence ended asked) tag s = record { same = left_same Gone _ s; none = refl }
   created_rests (created.Refused status) tag s = record { same = refl; none = refl }
 
   create_rests : (who : Who) (tag : List ℕ) (a : CreateSessionArgs) (s : State X) → Rests s.machine.store (create_session parting who tag a s)

@@ -1,6 +1,5 @@
 pub mod Executed
 pub mod Outside
-pub mod Pages
 pub mod Replies
 pub mod Steps
 pub mod Suited

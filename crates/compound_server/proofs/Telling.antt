@@ -15,6 +15,7 @@ use Rattle.sess_slots.specs.declared.answers.Created.TheVariants as created
 use Rattle.sess_slots.specs.declared.answers.Exchanged.{Exchanged}
 use Rattle.sess_slots.specs.declared.answers.Exchanged.TheVariants as exchanged
 use Rattle.wire_xdr.specs.Words.{word_bytes, hyper_bytes, opaque_bytes}
+use Rattle.compound_server.specs.declared.client_end.ClientEnd.TheVariants.{Lapsed, Gone}
 use Rattle.compound_server.specs.Clients.{by_created, by_exchanged, create_done, exchange_done, one_result}
 use Rattle.compound_server.specs.State.{Given, Parting, State, refusal_bytes, without_all}
 use Rattle.compound_server.proofs.Replies.{one_spelled}
@@ -48,10 +49,10 @@ created_refused parting answer status tag s t used body is same calls told =
     same_given t s used [] body (refusal_bytes tag OP_CREATE_SESSION status) same calls told ∙ ap (λ (a : Created). by_created a parting tag s) (sym is)
 
 pub created_made : {X : Type 0} (parting : Parting X) (answer : Created) (session : List ℕ) (sequence : ℕ) (ended : Option ℕ) (asked : Bool) (tag : List ℕ) (s t : State X)
-    (used : List Used) (body : List ℕ) → answer ≡ created.Made session sequence ended asked → t ≡ without_all parting (option_to_list ended) s → used ≡ []
+    (used : List Used) (body : List ℕ) → answer ≡ created.Made session sequence ended asked → t ≡ without_all parting Gone (option_to_list ended) s → used ≡ []
     → body ≡ done_text tag (created_res session sequence asked) → given t used body ≡ by_created answer parting tag s
 created_made parting answer session sequence ended asked tag s t used body is same calls told =
-    one_given (without_all parting (option_to_list ended) s) t tag (created_res session sequence asked) used body refl same calls told
+    one_given (without_all parting Gone (option_to_list ended) s) t tag (created_res session sequence asked) used body refl same calls told
     ∙ ap (λ (a : Created). by_created a parting tag s) (sym is)
 
 pub exchanged_refused : {X : Type 0} (parting : Parting X) (answer : Exchanged) (status : Status) (tag : List ℕ) (s t : State X) (used : List Used) (body : List ℕ)
@@ -61,8 +62,8 @@ exchanged_refused parting answer status tag s t used body is same calls told =
     same_given t s used [] body (refusal_bytes tag OP_EXCHANGE_ID status) same calls told ∙ ap (λ (a : Exchanged). by_exchanged a parting tag s) (sym is)
 
 pub exchanged_known : {X : Type 0} (parting : Parting X) (answer : Exchanged) (id sequence : ℕ) (confirmed : Bool) (ended : List ℕ) (tag : List ℕ) (s t : State X)
-    (used : List Used) (body : List ℕ) → answer ≡ exchanged.Client id sequence confirmed ended → t ≡ without_all parting ended s → used ≡ []
+    (used : List Used) (body : List ℕ) → answer ≡ exchanged.Client id sequence confirmed ended → t ≡ without_all parting Lapsed ended s → used ≡ []
     → body ≡ done_text tag (exchanged_res s.machine.store.tag id sequence confirmed) → given t used body ≡ by_exchanged answer parting tag s
 exchanged_known parting answer id sequence confirmed ended tag s t used body is same calls told =
-    one_given (without_all parting ended s) t tag (exchanged_res s.machine.store.tag id sequence confirmed) used body refl same calls told
+    one_given (without_all parting Lapsed ended s) t tag (exchanged_res s.machine.store.tag id sequence confirmed) used body refl same calls told
     ∙ ap (λ (a : Exchanged). by_exchanged a parting tag s) (sym is)

@@ -28,6 +28,7 @@ use Rattle.sess_slots.specs.declared.answers.Exchanged.TheVariants as exchanged
 use Rattle.sess_slots.specs.Clients as tables
 use Rattle.state_ids.specs.Opens.{holds_open}
 use Rattle.wire_xdr.specs.Words.{hyper_bytes}
+use Rattle.compound_server.specs.declared.client_end.ClientEnd.TheVariants.{Lapsed, Gone}
 use Rattle.compound_server.specs.declared.clients.TheConstants.{USE_NON_PNFS, CONFIRMED_R}
 use Rattle.compound_server.specs.declared.who.Who.{Who}
 use Rattle.compound_server.specs.State.{State, Given, Parting, answered_by, refusal, with_sessions, without_one, without_all}
@@ -53,10 +54,10 @@ exchange_done tag_bytes client sequence confirmed = record {
   impl_id = None;
 }
 
--- clients that made room have ended
+-- clients that made room have ended, as by their lease
 abbrev pub by_exchanged : {X : Type 0} → Exchanged → Parting X → (tag : List ℕ) → State X → Given X
 by_exchanged (exchanged.Client id sequence confirmed ended) parting tag s =
-    one_result (without_all parting ended s) tag (File (results.ExchangeId (Done (exchange_done (hyper_bytes s.machine.store.tag) id sequence confirmed))))
+    one_result (without_all parting Lapsed ended s) tag (File (results.ExchangeId (Done (exchange_done (hyper_bytes s.machine.store.tag) id sequence confirmed))))
 by_exchanged (exchanged.Refused status) parting tag s = refusal s tag OP_EXCHANGE_ID status
 
 -- no protection of state is served
@@ -110,7 +111,7 @@ create_done session sequence asked =
 -- the client that this one replaces has ended
 abbrev pub by_created : {X : Type 0} → Created → Parting X → (tag : List ℕ) → State X → Given X
 by_created (created.Made session sequence ended asked) parting tag s =
-    one_result (without_all parting (option_to_list ended) s) tag (File (results.CreateSession (Done (create_done session sequence asked))))
+    one_result (without_all parting Gone (option_to_list ended) s) tag (File (results.CreateSession (Done (create_done session sequence asked))))
 by_created (created.Refused status) parting tag s = refusal s tag OP_CREATE_SESSION status
 
 unfoldable pub create_session : {X : Type 0} → Parting X → Who → (tag : List ℕ) → CreateSessionArgs → State X → Given X
@@ -126,7 +127,7 @@ destroy_session tag session s =
 
 -- a client that has ended leaves what a particular server keeps of it
 abbrev pub left_if : {X : Type 0} → Bool → Parting X → (client : ℕ) → State X → State X
-left_if true parting client s = without_one parting client s
+left_if true parting client s = without_one parting Gone client s
 left_if false parting client s = s
 
 unfoldable pub destroy_clientid : {X : Type 0} → Parting X → (tag : List ℕ) → (client : ℕ) → State X → Given X

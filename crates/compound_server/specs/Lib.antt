@@ -1,9 +1,11 @@
 pub mod Clients
 pub mod Compounds
 pub mod Course
+pub mod PageLaws
 pub mod Performing
 pub mod Preparing
 pub mod Refusals
+pub mod SayingLaws
 pub mod Serves
 pub mod State
 pub mod Walking

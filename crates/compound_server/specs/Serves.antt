@@ -12,6 +12,10 @@ pub record Served (X : Type 0) : Type 0 where
   pub going : Going X
   pub res : CopyRes
 
+-- one that is answered with this result, and changes nothing more
+abbrev pub served : {X : Type 0} → Going X → CopyRes → Served X
+served g res = record { going = g; res = res }
+
 -- how a result stands in a reply: behind its operation's number
 abbrev pub served_bytes : CopyRes → List ℕ
 served_bytes res = word_bytes (copy_res_number res) ++ (copy_res (copy_res_number res)).spell res

@@ -11,6 +11,7 @@ use Rattle.server_volume.specs.declared.used.Used.{Used}
 use Rattle.server_volume.specs.Choices.{Choice, Agrees}
 use Rattle.sess_slots.specs.Table.{SessionTable, numbers_made}
 use Rattle.state_ids.specs.Opens.{without_client}
+use Rattle.compound_server.specs.declared.client_end.ClientEnd.{ClientEnd}
 use Rattle.compound_server.specs.declared.compounds.Reply.{Reply}
 use Rattle.compound_server.specs.declared.server.Server.{Server}
 use Rattle.compound_server.specs.Course.{Course}
@@ -36,17 +37,17 @@ with_sessions table s = record s { sessions = table }
 
 -- what a client's end leaves of what a particular server has, and what a second does to it
 pub record Parting (X : Type 0) : Type 0 where
-  pub leave : ℕ → X → X
+  pub leave : ℕ → ClientEnd → X → X
   pub lapse : ℕ → X → X
 
 -- clients have ended: their opens are gone
-abbrev pub without_one : {X : Type 0} → Parting X → ℕ → State X → State X
-without_one parting client s =
-    record s { machine = record s.machine { opens = without_client s.machine.opens client; extra = parting.leave client s.machine.extra } }
+abbrev pub without_one : {X : Type 0} → Parting X → ClientEnd → ℕ → State X → State X
+without_one parting why client s =
+    record s { machine = record s.machine { opens = without_client s.machine.opens client; extra = parting.leave client why s.machine.extra } }
 
-unfoldable pub without_all : {X : Type 0} → Parting X → List ℕ → State X → State X
-without_all parting [] s = s
-without_all parting (client ∷ clients) s = without_all parting clients (without_one parting client s)
+unfoldable pub without_all : {X : Type 0} → Parting X → ClientEnd → List ℕ → State X → State X
+without_all parting why [] s = s
+without_all parting why (client ∷ clients) s = without_all parting why clients (without_one parting why client s)
 
 -- what a COMPOUND gives: the state after it, its calls on the volume, and the reply
 pub record Given (X : Type 0) : Type 0 where

@@ -12,8 +12,10 @@ ghost use Rattle.nfs_compound.specs.Results.{outcome};
 ghost use Rattle.file_ops.specs.declared.results.FileRes.TheVariants as results;
 ghost use Rattle.nfs_base.specs.declared.answer.Answer.TheVariants.{Done};
 ghost use Rattle.wire_xdr.specs.Page.{Added};
+ghost use Rattle.compound_server.specs.declared.client_end.ClientEnd.TheVariants.{Gone};
 ghost use Rattle.wire_xdr.specs.Words.{hyper_bytes};
 
+use crate::client_end::ClientEnd;
 use crate::compounds::Reply;
 use crate::replying::{HEAD_ROOM, REFUSAL_ROOM, put_head, put_refusal, put_session};
 use crate::server::Server;
@@ -130,7 +132,7 @@ impl<D: Disk, X> Server<D, X> {
                 confirmed,
                 ended,
             } => {
-                self.end_clients(ended.as_slice());
+                self.end_clients(ended.as_slice(), ClientEnd::Lapsed);
                 put_head(&mut page, Status::OK, tag, 1);
                 put_exchanged(&mut page, self.files.volume.tag(), id, sequence, confirmed);
             }
@@ -280,30 +282,30 @@ impl<D: Disk, X> Server<D, X> {
         ensures rest { LeavesRest X.given self.old self.new }
     {
         if ended {
-            self.end_client(client);
+            self.end_client(client, ClientEnd::Gone);
         }
     }
 
-    fn end_client<C>(&mut self, client: u64)
+    fn end_client<C>(&mut self, client: u64, why: ClientEnd)
     where
         X: Serving<C>,
-        ensures left { state_of D.size self.new ≡ without_one (record { leave = X.leaves; lapse = X.lapses }) client (state_of D.size self.old) }
+        ensures left { state_of D.size self.new ≡ without_one (record { leave = X.leaves; lapse = X.lapses }) why client (state_of D.size self.old) }
         ensures rest { LeavesRest X.given self.old self.new }
     {
         self.files.opens.end(client);
-        self.files.extra.leave(client);
+        self.files.extra.leave(client, why);
     }
 
     #[tactic(auto, unfolding(crate::specs::State::without_all))]
-    fn end_clients<C>(&mut self, clients: &[u64])
+    fn end_clients<C>(&mut self, clients: &[u64], why: ClientEnd)
     where
         X: Serving<C>,
-        ensures left { state_of D.size self.new ≡ without_all (record { leave = X.leaves; lapse = X.lapses }) clients.now (state_of D.size self.old) }
+        ensures left { state_of D.size self.new ≡ without_all (record { leave = X.leaves; lapse = X.lapses }) why clients.now (state_of D.size self.old) }
         ensures rest { LeavesRest X.given self.old self.new }
     {
         if let [client, rest @ ..] = clients {
-            self.end_client(*client);
-            self.end_clients(rest);
+            self.end_client(*client, why);
+            self.end_clients(rest, why);
         }
     }
 
@@ -311,11 +313,11 @@ impl<D: Disk, X> Server<D, X> {
     fn end_client_if<C>(&mut self, client: Option<u64>)
     where
         X: Serving<C>,
-        ensures left { state_of D.size self.new ≡ without_all (record { leave = X.leaves; lapse = X.lapses }) (option_to_list client) (state_of D.size self.old) }
+        ensures left { state_of D.size self.new ≡ without_all (record { leave = X.leaves; lapse = X.lapses }) Gone (option_to_list client) (state_of D.size self.old) }
         ensures rest { LeavesRest X.given self.old self.new }
     {
         if let Some(client) = client {
-            self.end_client(client);
+            self.end_client(client, ClientEnd::Gone);
         }
     }
 }

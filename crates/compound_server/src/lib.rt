@@ -7,6 +7,7 @@
 //! of [`Server::on_compound`].
 #![tactic(auto)]
 
+mod client_end;
 mod clients;
 mod compounds;
 mod evaluating;
@@ -18,6 +19,7 @@ mod server;
 mod serving;
 mod who;
 
+pub use client_end::ClientEnd;
 pub use clients::{CONFIRMED_R, USE_NON_PNFS};
 pub use compounds::Reply;
 pub use evaluating::Evaluated;

@@ -8,8 +8,10 @@ ghost use Rattle.file_server.specs.Machine.{Going};
 ghost use Rattle.server_volume.specs.Choices.{Choice};
 ghost use Rattle.server_volume.specs.Moments.{Ran};
 ghost use Rattle.server_volume.specs.Store.{seat_of};
+ghost use Rattle.compound_server.specs.declared.client_end.ClientEnd.{ClientEnd};
 ghost use Rattle.compound_server.specs.Serves.{Served, Serves};
 
+use crate::client_end::ClientEnd;
 use copy_ops::CopyArg;
 use disk_model::Disk;
 use file_server::{Caller, Extension, Files, Progress};
@@ -27,6 +29,7 @@ pub trait Serving<C>: Extension<Option<C>> + Drop {
     ghost use Rattle.file_server.specs.declared.extension.Caller.{Caller};
     ghost use Rattle.file_server.specs.Machine.{Going};
     ghost use Rattle.server_volume.specs.Choices.{Choice};
+    ghost use Rattle.compound_server.specs.declared.client_end.ClientEnd.{ClientEnd};
     ghost use Rattle.compound_server.specs.Serves.{Served};
 
     /// What an operation wants of memory.
@@ -39,7 +42,7 @@ pub trait Serving<C>: Extension<Option<C>> + Drop {
     ghost serves: { Choice → Caller → Option C → CopyArg → Going Self → Served Self };
 
     // What a client's end leaves, and what a second does.
-    ghost leaves: { ℕ → Self → Self };
+    ghost leaves: { ℕ → ClientEnd → Self → Self };
 
     ghost lapses: { ℕ → Self → Self };
 
@@ -69,8 +72,8 @@ pub trait Serving<C>: Extension<Option<C>> + Drop {
         ensures given { given files.new.extra ≤ given files.old.extra + 1 };
 
     /// A client has ended.
-    fn leave(&mut self, client: u64)
-        ensures { self.new ≡ leaves client self.old };
+    fn leave(&mut self, client: u64, why: ClientEnd)
+        ensures { self.new ≡ leaves client why self.old };
 
     /// This second has come: what is too old goes.
     fn lapse(&mut self, second: u64)
@@ -84,7 +87,7 @@ pub trait Serving<C>: Extension<Option<C>> + Drop {
     // Only serving an operation gives numbers out.
     ghost by_gate: { (x : Self) (caller : Caller) (carry : Option C) (ask : Ask) → given (Self.gated x caller carry ask).0 ≤ given x };
 
-    ghost by_leaving: { (client : ℕ) (x : Self) → given (leaves client x) ≤ given x };
+    ghost by_leaving: { (client : ℕ) (why : ClientEnd) (x : Self) → given (leaves client why x) ≤ given x };
 
     ghost by_lapsing: { (second : ℕ) (x : Self) → given (lapses second x) ≤ given x };
 }

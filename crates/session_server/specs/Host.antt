@@ -12,6 +12,7 @@ use Rattle.outbox.specs.declared.note.Note.{Note}
 use Rattle.outbox.specs.declared.outgoing.Outbox.{Outbox}
 use Rattle.server_volume.specs.Choices.{Choice}
 use Rattle.sess_slots.specs.Table.{numbers_made}
+use Rattle.compound_server.specs.declared.client_end.ClientEnd.{ClientEnd}
 use Rattle.compound_server.specs.Course.{Service}
 use Rattle.compound_server.specs.Serves.{Served}
 use Rattle.compound_server.specs.State.{State, Parting, state_of}
@@ -59,7 +60,7 @@ abbrev pub IsCounted : {D X C : Type 0} → (X → ℕ) → Host D X C → Type 
 IsCounted given h = IsCountedBy given h.steps h
 
 abbrev pub rules_of : {X C : Type 0} → (X → Caller → Option C → Ask → X × Gate) → (Choice → Caller → Option C → CopyArg → Going X → Served X)
-    → (ℕ → X → X) → (ℕ → X → X) → (ℕ → ContextTable C → ℕ → List ℕ → List ℕ → X → Judgement C) → (X → List Note) → (X → X) → Rules X C
+    → (ℕ → ClientEnd → X → X) → (ℕ → X → X) → (ℕ → ContextTable C → ℕ → List ℕ → List ℕ → X → Judgement C) → (X → List Note) → (X → X) → Rules X C
 rules_of gate serve leave lapse judge tells silent = record {
   service = record { gate = gate; serve = serve };
   parting = record { leave = leave; lapse = lapse };

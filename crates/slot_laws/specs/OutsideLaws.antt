@@ -21,6 +21,8 @@ use Rattle.sess_slots.specs.Clients as tables
 use Rattle.sess_slots.specs.Table.{SessionTable}
 use Rattle.state_ids.specs.Opens.{holds_open}
 use Rattle.wire_xdr.specs.Words.{hyper_bytes}
+use Rattle.compound_server.specs.declared.client_end.ClientEnd.{ClientEnd}
+use Rattle.compound_server.specs.declared.client_end.ClientEnd.TheVariants.{Lapsed, Gone}
 use Rattle.compound_server.specs.declared.who.Who.{Who}
 use Rattle.compound_server.specs.Clients.{asks_back, back_handle, by_created, by_exchanged, by_protection, create_done, create_session, destroy_clientid, destroy_session, exchange_done, exchange_id, left_if}
 use Rattle.compound_server.specs.Compounds.{alone_refusal, outside_session, unless}
@@ -56,13 +58,13 @@ failure_given v s tag op status fails rests =
     record { rests = rests; says = failure_told op status fails (last_status (refused op status ∷ [])) tag }
 
 module _ {X : Type 0} (parting : Parting X) where
-  left_same : (clients : List ℕ) (s : State X) → (without_all parting clients s).sessions ≡ s.sessions
+  left_same : (why : ClientEnd) (clients : List ℕ) (s : State X) → (without_all parting why clients s).sessions ≡ s.sessions
   unfolding without_all
-  left_same [] s = refl
-  left_same (client ∷ clients) s = left_same clients (without_one parting client s)
+  left_same why [] s = refl
+  left_same why (client ∷ clients) s = left_same why clients (without_one parting why client s)
 
-  left_rests : (v : SessionTable) (clients : List ℕ) (s : State X) → Rests v s.sessions → Rests v (without_all parting clients s).sessions
-  left_rests v clients s rests = subst (λ w. Rests v w) (sym (left_same clients s)) rests
+  left_rests : (v : SessionTable) (why : ClientEnd) (clients : List ℕ) (s : State X) → Rests v s.sessions → Rests v (without_all parting why clients s).sessions
+  left_rests v why clients s rests = subst (λ w. Rests v w) (sym (left_same why clients s)) rests
 
   left_one : (b : Bool) (v : SessionTable) (client : ℕ) (s : State X) → Rests v s.sessions → Rests v (left_if b parting client s).sessions
   left_one true v client s rests = rests
@@ -86,7 +88,7 @@ module _ {X : Type 0} (parting : Parting X) where
       → GivesStays tag v (by_exchanged answer parting tag s)
   exchanged_stays v (exchanged.Client id sequence confirmed ended) tag s rests =
       let done = exchange_done (hyper_bytes s.machine.store.tag) id sequence confirmed in
-      record { rests = left_rests v ended s rests; says = other_told OP_EXCHANGE_ID 0 _ (exchange_spelled done) is_exchange _ tag }
+      record { rests = left_rests v Lapsed ended s rests; says = other_told OP_EXCHANGE_ID 0 _ (exchange_spelled done) is_exchange _ tag }
   exchanged_stays v (exchanged.Refused status) tag s rests = other_refused v s tag OP_EXCHANGE_ID status is_exchange rests
 
   protection_stays : (p : Protection) (who : Who) (principal tag : List ℕ) (a : ExchangeIdArgs) (s : State X) → IsSound s.sessions
@@ -107,7 +109,7 @@ module _ {X : Type 0} (parting : Parting X) where
   created_stays : (v : SessionTable) (answer : Created) (tag : List ℕ) (s : State X) → Rests v s.sessions
       → GivesStays tag v (by_created answer parting tag s)
   created_stays v (created.Made session sequence ended asked) tag s rests =
-      record { rests = left_rests v _ s rests; says = other_told OP_CREATE_SESSION 0 _ (create_spelled (create_done session sequence asked)) is_create _ tag }
+      record { rests = left_rests v Gone _ s rests; says = other_told OP_CREATE_SESSION 0 _ (create_spelled (create_done session sequence asked)) is_create _ tag }
   created_stays v (created.Refused status) tag s rests = other_refused v s tag OP_CREATE_SESSION status is_create rests
 
   create_stays : (who : Who) (tag : List ℕ) (a : CreateSessionArgs) (s : State X) → IsSound s.sessions

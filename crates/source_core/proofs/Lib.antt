@@ -1,3 +1,1 @@
 pub mod Carrying
-pub mod Pages
-pub mod Saying

@@ -24,16 +24,13 @@ use Rattle.nfs_base.specs.declared.status.TheConstants.Status.{OK, ACCESS, BAD_S
 use Rattle.nfs_base.specs.Locations.{same_location}
 use Rattle.server_volume.specs.Choices.{Choice}
 use Rattle.state_ids.specs.declared.access.Access.TheVariants as access
-use Rattle.compound_server.specs.Serves.{Served}
+use Rattle.compound_server.specs.declared.client_end.ClientEnd.{ClientEnd}
+use Rattle.compound_server.specs.Serves.{Served, served}
 use Rattle.source_core.specs.Asking.{is_of_grant}
 use Rattle.source_core.specs.declared.carried.Carried.{Carried}
 use Rattle.source_core.specs.declared.carried.Carried.TheVariants.{From, Confirm}
 use Rattle.source_core.specs.declared.serving.GrantStrings.{GrantStrings}
 use Rattle.source_core.specs.declared.source.Source.{Source}
-
--- an operation that is answered with this result, and changes nothing more
-abbrev pub served : {X : Type 0} → Going X → CopyRes → Served X
-served g res = record { going = g; res = res }
 
 abbrev pub with_grants : {M : Type 0} → GrantTable → Going (Source M) → Going (Source M)
 with_grants grants g = with_extra (record g.machine.extra { grants = grants }) g
@@ -127,8 +124,8 @@ abbrev pub lapses : {M : Type 0} → (second : ℕ) → Source M → Source M
 lapses second x = record x { grants = expired second x.grants }
 
 -- a grant doesn't end with its client
-abbrev pub leaves : {M : Type 0} → (client : ℕ) → Source M → Source M
-leaves client x = x
+abbrev pub leaves : {M : Type 0} → (client : ℕ) → ClientEnd → Source M → Source M
+leaves client why x = x
 
 abbrev pub given : {M : Type 0} → Source M → ℕ
 given x = x.grants.made

@@ -8,7 +8,7 @@ ghost use Rattle.source_core.specs.Serving.{after_cancel, cancel, cancel_status,
 use crate::carried::Carried;
 use crate::granting::notify;
 use crate::source::Source;
-use compound_server::Serving;
+use compound_server::{ClientEnd, Serving};
 use copy_ops::{CopyArg, OP_CLONE, OP_COPY, OP_OFFLOAD_CANCEL, OP_OFFLOAD_STATUS};
 use disk_model::Disk;
 use file_server::{Caller, Files, Progress};
@@ -67,7 +67,7 @@ impl<M: Mechanism> Serving<Carried> for Source<M> {
         }
     }
 
-    fn leave(&mut self, client: u64) {}
+    fn leave(&mut self, client: u64, why: ClientEnd) {}
 
     fn lapse(&mut self, second: u64) {
         self.grants.expire(second);
@@ -79,7 +79,7 @@ impl<M: Mechanism> Serving<Carried> for Source<M> {
 
     ghost by_gate = { gates_give_none M.mic_of };
 
-    ghost by_leaving = { λ client x. none_given x };
+    ghost by_leaving = { λ client why x. none_given x };
 
     ghost by_lapsing = { λ second x. none_given x };
 }

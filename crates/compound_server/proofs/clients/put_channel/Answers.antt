@@ -5,7 +5,7 @@ use Rattle.rpc_msg.specs.declared.records.TheConstants.{RECORD_LIMIT}
 use Rattle.wire_xdr.specs.Parts.{option_spell}
 use Rattle.wire_xdr.specs.Words.{word_bytes, flag_bytes}
 use Rattle.compound_server.specs.Clients.{channel}
-use Rattle.compound_server.proofs.Pages.{added_then, added_as}
+use Rattle.compound_server.specs.PageLaws.{added_then, added_as}
 use Rattle.compound_server.proofs.clients.put_channel.Goals as goal
 
 abbrev text : List ℕ

@@ -10,7 +10,7 @@ use Rattle.nfs_compound.specs.declared.res.Res.TheVariants.{File}
 use Rattle.nfs_compound.specs.Results.{outcome, res_body}
 use Rattle.wire_xdr.specs.Words.{word_bytes, fixed_bytes}
 use Rattle.compound_server.specs.Clients.{channel, create_done, granted_flags}
-use Rattle.compound_server.proofs.Pages.{added_then, added_as}
+use Rattle.compound_server.specs.PageLaws.{added_then, added_as}
 use Rattle.compound_server.proofs.clients.put_created.Goals as goal
 
 abbrev text_of : (session : List ℕ) (sequence flags : ℕ) → List ℕ

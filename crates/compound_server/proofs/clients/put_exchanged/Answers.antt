@@ -12,7 +12,7 @@ use Rattle.nfs_compound.specs.Results.{outcome, res_body}
 use Rattle.wire_xdr.specs.Parts.{option_spell}
 use Rattle.wire_xdr.specs.Words.{word_bytes, hyper_bytes, flag_bytes, opaque_bytes}
 use Rattle.compound_server.specs.Clients.{exchange_done, exchange_flags}
-use Rattle.compound_server.proofs.Pages.{added_then, added_as}
+use Rattle.compound_server.specs.PageLaws.{added_then, added_as}
 use Rattle.compound_server.proofs.clients.put_exchanged.Goals as goal
 
 abbrev text_of : (name : List ℕ) → (client sequence flags : ℕ) → List ℕ

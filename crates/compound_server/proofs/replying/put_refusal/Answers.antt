@@ -1,6 +1,6 @@
 use Rattle.std.proofs.Common.{ℕ, List, ◌++◌, sym, ap, ◌∙◌}
 use Rattle.wire_xdr.specs.Words.{word_bytes, opaque_bytes}
-use Rattle.compound_server.proofs.Pages.{added_then}
+use Rattle.compound_server.specs.PageLaws.{added_then}
 use Rattle.compound_server.proofs.Replies.{refusal_spelled}
 use Rattle.compound_server.proofs.replying.put_refusal.Goals as goal
 

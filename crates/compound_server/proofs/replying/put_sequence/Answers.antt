@@ -8,7 +8,7 @@ use Rattle.nfs_base.specs.Forms.{answer}
 use Rattle.nfs_compound.specs.Results.{outcome, res_body}
 use Rattle.wire_xdr.specs.Words.{word_bytes, fixed_bytes}
 use Rattle.compound_server.specs.Compounds.{sequence_done}
-use Rattle.compound_server.proofs.Pages.{added_then, added_as}
+use Rattle.compound_server.specs.PageLaws.{added_then, added_as}
 use Rattle.compound_server.proofs.replying.put_sequence.Goals as goal
 
 abbrev text_of : SequenceArgs → List ℕ

@@ -1,7 +1,7 @@
 use Rattle.std.proofs.Common.{◌≡◌, ℕ, List, ◌++◌, length, sym, ap, ◌∙◌, append-nil}
 use Rattle.std.specs.Prelude.{replicate}
 use Rattle.wire_xdr.specs.Words.{fixed_bytes, padding}
-use Rattle.compound_server.proofs.Pages.{added_as}
+use Rattle.compound_server.specs.PageLaws.{added_as}
 use Rattle.compound_server.proofs.replying.put_session.Goals as goal
 
 -- sixteen bytes have no padding

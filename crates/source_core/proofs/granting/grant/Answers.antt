@@ -1,5 +1,5 @@
 use Rattle.std.proofs.Common.{sym, ap, ◌∙◌, Result}
-use Rattle.compound_server.specs.Serves.{told_of}
+use Rattle.compound_server.specs.Serves.{served, told_of}
 use Rattle.copy_grants.specs.Grants.{GrantTable, notify_table}
 use Rattle.copy_grants.specs.declared.grants.Full.{Full}
 use Rattle.copy_ops.specs.declared.res.CopyRes.TheVariants as results
@@ -7,8 +7,8 @@ use Rattle.file_server.specs.Answering.{going_of, machine_of}
 use Rattle.nfs_base.specs.declared.answer.Answer.TheVariants.{Done, Refused}
 use Rattle.nfs_base.specs.declared.state_id.StateId.{StateId}
 use Rattle.nfs_base.specs.declared.status.TheConstants.Status.{DELAY}
-use Rattle.source_core.specs.Serving.{grant_told, notify_refused, notify_told, served, with_grants}
-use Rattle.source_core.proofs.Saying.{notify_done_spelled, notify_refused_spelled, serves_said}
+use Rattle.source_core.specs.Serving.{grant_told, notify_refused, notify_told, with_grants}
+use Rattle.compound_server.specs.SayingLaws.{notify_done_spelled, notify_refused_spelled, serves_said}
 use Rattle.source_core.proofs.granting.grant.Goals as goal
 
 pub returns-in-Err-clause-serves : goal.returns-in-Err-clause-serves

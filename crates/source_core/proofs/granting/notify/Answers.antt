@@ -6,7 +6,7 @@ use Rattle.nfs_base.specs.declared.answer.Answer.TheVariants.{Refused}
 use Rattle.nfs_base.specs.declared.status.Status.{Status}
 use Rattle.source_core.specs.Serving.{notify_allowed, notify_file, strings_of}
 use Rattle.source_core.specs.declared.serving.GrantStrings.{GrantStrings}
-use Rattle.source_core.proofs.Saying.{notify_refused_spelled, serves_said}
+use Rattle.compound_server.specs.SayingLaws.{notify_refused_spelled, serves_said}
 use Rattle.source_core.proofs.granting.notify.Goals as goal
 
 pub returns-in-Err-clause-serves : goal.returns-in-Err-clause-serves

@@ -7,7 +7,7 @@ use Rattle.nfs_base.specs.declared.state_id.StateId.{StateId}
 use Rattle.wire_xdr.specs.Parts.{list_spell}
 use Rattle.wire_xdr.specs.Words.{hyper_bytes, signed_bytes, word_bytes}
 use Rattle.source_core.specs.Serving.{grant_told}
-use Rattle.source_core.proofs.Pages.{added_as, added_then}
+use Rattle.compound_server.specs.PageLaws.{added_as, added_then}
 use Rattle.source_core.proofs.granting.put_grant.Goals as goal
 
 grant_spelled : (id : StateId) (own : NetLoc)

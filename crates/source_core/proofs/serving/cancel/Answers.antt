@@ -1,11 +1,11 @@
 use Rattle.std.proofs.Common.{sym, ap, ◌∙◌}
-use Rattle.compound_server.specs.Serves.{told_of}
+use Rattle.compound_server.specs.Serves.{served, told_of}
 use Rattle.copy_ops.specs.declared.res.CopyRes.TheVariants as results
 use Rattle.file_server.specs.Answering.{going_of, machine_of}
 use Rattle.file_server.specs.Machine.{with_extra}
 use Rattle.nfs_base.specs.declared.status.Status.{Status}
-use Rattle.source_core.specs.Serving.{after_cancel, grant_refusal, served, with_grants}
-use Rattle.source_core.proofs.Saying.{cancel_spelled, serves_said}
+use Rattle.source_core.specs.Serving.{after_cancel, grant_refusal, with_grants}
+use Rattle.compound_server.specs.SayingLaws.{cancel_spelled, serves_said}
 use Rattle.source_core.proofs.serving.cancel.Goals as goal
 
 pub returns-clause-serves : goal.returns-clause-serves

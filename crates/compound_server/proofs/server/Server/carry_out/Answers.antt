@@ -11,7 +11,7 @@ use Rattle.compound_server.specs.Preparing.{op_of}
 use Rattle.compound_server.specs.State.{Given}
 use Rattle.compound_server.specs.Walking.{Walked, results_of, walk}
 use Rattle.compound_server.proofs.Executed.{executed_as, sequence_text}
-use Rattle.compound_server.proofs.Pages.{added_then}
+use Rattle.compound_server.specs.PageLaws.{added_then}
 use Rattle.compound_server.proofs.Steps.{begun_as}
 use Rattle.compound_server.proofs.server.Server.carry_out.Goals as goal
 

@@ -1,7 +1,7 @@
 use Rattle.std.proofs.Common.{ℕ, List, ◌++◌, ap, ◌∙◌}
 use Rattle.compound_server.specs.State.{Parting, state_of}
 use Rattle.compound_server.proofs.Telling.{created_refused, created_made, created_res, done_text}
-use Rattle.compound_server.proofs.Pages.{added_then}
+use Rattle.compound_server.specs.PageLaws.{added_then}
 use Rattle.compound_server.proofs.server.Server.tell_created.Goals as goal
 use Rattle.compound_server.proofs.server.Server.tell_created.Goals.{in-Refused, in-Made}
 

@@ -8,7 +8,7 @@ use Rattle.nfs_base.specs.declared.answer.Answer.TheVariants.{Refused}
 use Rattle.nfs_base.specs.declared.status.TheConstants.Status.{NOTSUPP}
 use Rattle.server_volume.specs.Store.{seat_of}
 use Rattle.source_core.specs.Serving.{serves}
-use Rattle.source_core.proofs.Saying.{clone_spelled, copy_refused_spelled, ran_kept, serves_said, status_refused_spelled}
+use Rattle.compound_server.specs.SayingLaws.{clone_spelled, copy_refused_spelled, ran_kept, serves_said, status_refused_spelled}
 use Rattle.source_core.proofs.serving.SourceServingCarried.serve.Goals as goal
 
 pub returns-in-Copy-clause-serves : goal.returns-in-Copy-clause-serves

@@ -1,6 +1,5 @@
--- An operation of a copy in code: what it said behind the results, and what it leaves.
+-- An operation of a copy in code: where what it said on the page is how its result is spelled, its answer is its model's.
 use Rattle.std.proofs.Common.{◌≡◌, ℕ, ◌+◌, ◌≤◌, Bool, List, ◌++◌, length, refl, sym, ap, subst, ◌∙◌, arith}
-use Rattle.compound_server.specs.Serves.{Told, served_bytes, told_of}
 use Rattle.copy_ops.specs.Forms.{copy_answer, copy_res, notify_grant}
 use Rattle.copy_ops.specs.Operations.{copy_res_status}
 use Rattle.copy_ops.specs.declared.operation.TheConstants.{OP_CLONE, OP_COPY, OP_COPY_NOTIFY, OP_OFFLOAD_CANCEL, OP_OFFLOAD_STATUS}
@@ -22,7 +21,7 @@ use Rattle.server_volume.specs.Moments.{Ran}
 use Rattle.server_volume.specs.Store.{Seat}
 use Rattle.server_volume.specs.declared.used.Used.{Used}
 use Rattle.wire_xdr.specs.Words.{word_bytes}
-use Rattle.source_core.specs.Serving.{served}
+use Rattle.compound_server.specs.Serves.{Told, served, served_bytes, told_of}
 
 -- no call was made
 pub ran_kept : {V : Type 0} (seat : V → Seat) (old new : V) (used more : List Used) → new ≡ old → more ≡ used → Ran (seat old) (seat new) used more
