@@ -134,4 +134,4 @@ decided None plan boot x =
 -- COPY between these files by a client
 abbrev pub copied : (client : ℕ) → Option Carried → CopyArgs → Ends → CopyRoom → Option Status → (boot : ℕ) → Copies → Copies × CopyAnswer
 copied client carry args ends room closed boot x =
-    decided (refusal x.source carry args closed) (plan_of client args ends room) boot x
+    decided (refusal x.source.loc carry args closed) (plan_of client args ends room) boot x

@@ -4,7 +4,7 @@ use Rattle.std.specs.Prelude.{ℕ, zero, suc, ◌==◌, Bool, true, false, Optio
 use Rattle.job_table.specs.Table.{is_running}
 use Rattle.nfs_base.specs.declared.job.JobName.{JobName}
 use Rattle.nfs_base.specs.declared.job.Stop.{Stop}
-use Rattle.nfs_base.specs.declared.job.Stop.TheVariants.{ClientGone, LeaseExpired}
+use Rattle.nfs_base.specs.declared.job.Stop.TheVariants.{LeaseExpired}
 use Rattle.nfs_base.specs.declared.limits.TheConstants.{MOST_JOBS}
 use Rattle.outbox.specs.declared.note.Note.{Note}
 use Rattle.outbox.specs.declared.note.Note.TheVariants as notes
@@ -62,12 +62,12 @@ end_from test cause (suc left) after x =
 abbrev pub end_all : (ℕ → Bool) → Stop → Copies → Copies
 end_all test cause x = end_from test cause MOST_JOBS 0 x
 
--- a client that is gone
+-- one client
 abbrev pub is_client : (client asked : ℕ) → Bool
 is_client client asked = asked == client
 
-abbrev pub leaves : (client : ℕ) → Copies → Copies
-leaves client x = end_all (is_client client) ClientGone x
+abbrev pub leaves : (client : ℕ) → Stop → Copies → Copies
+leaves client cause x = end_all (is_client client) cause x
 
 -- the clients whose lease has ended in a second
 abbrev pub expires : SessionTable → (second : ℕ) → Copies → Copies

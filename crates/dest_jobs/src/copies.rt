@@ -1,5 +1,5 @@
+use copy_privs::Peer;
 use job_book::Book;
-use nfs_base::NetLoc;
 use outbox::NoteList;
 
 /// The copies that a destination took.
@@ -10,6 +10,6 @@ pub struct Copies {
     /// What is to be told of this step.
     pub told: NoteList,
 
-    /// Where the source is found from which they are copied.
-    pub source: NetLoc,
+    /// The source from which they are copied.
+    pub source: Peer,
 }

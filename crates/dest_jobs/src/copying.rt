@@ -47,7 +47,7 @@ impl Copies {
         ensures answer { result ≡ (copied client carry.now args.now ends room closed boot self.old).1 }
         ensures given { self.new.book.table.made ≤ self.old.book.table.made + 1 }
     {
-        match refusal(&self.source, carry, args, closed) {
+        match refusal(&self.source.loc, carry, args, closed) {
             Some(answer) => answer,
             None => self.take(client, args, ends, room, boot),
         }
