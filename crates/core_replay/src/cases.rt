@@ -14,6 +14,12 @@ pub struct Cases {
     /// The lines of the last event's outcome that weren't met yet, the next one last.
     due: Vec<String>,
 
+    /// How many lines were taken.
+    lines: u64,
+
+    /// Whether this case was left before its end.
+    pub is_left: bool,
+
     /// Whether a line of this case was told already.
     pub is_told: bool,
 
@@ -32,6 +38,8 @@ impl Cases {
         Cases {
             name: String::new(alloc),
             due: Vec::new(alloc),
+            lines: 0,
+            is_left: false,
             is_told: false,
             begun: 0,
             differ: 0,
@@ -48,9 +56,29 @@ impl Cases {
         let name = format!(in alloc; "{name}")?;
         self.name = name;
         self.due = Vec::new(alloc);
+        self.is_left = false;
         self.is_told = false;
         self.begun = self.begun.saturating_add(1);
         Ok(())
+    }
+
+    /// Another line comes.
+    pub fn count_line(&mut self)
+        ensures { IsAsBefore self.old self.new }
+    {
+        self.lines = self.lines.saturating_add(1);
+    }
+
+    /// Leaves a case at this line, and answers what is to be told: what was to be told before, or else this.
+    pub fn leave(&mut self, alloc: Global, told: Option<String>) -> Mem<Option<String>>
+        ensures { IsAsBefore self.old self.new }
+    {
+        self.is_left = true;
+        if told.is_some() {
+            return Ok(told);
+        }
+        let (name, line) = (&self.name, self.lines);
+        Ok(Some(format!(in alloc; "{name}: stopped at line {line}")?))
     }
 
     /// These lines are the outcome of an event.

@@ -1,16 +1,36 @@
 //! What a core must do to be replayed.
 
+use block_file::FileInfo;
+use nfs_base::End;
+use outbox::Outbox;
 use outcome::Mem;
 use std::alloc::Global;
+use streams::Draws;
 
-/// A core that the lines of cases drive.
-pub trait Driver {
-    /// Begins a case with a new core, by the words of its first line.
-    fn begin(&mut self, alloc: Global, words: &[&str]) -> Mem<()>;
+/// A server's core that the lines of cases drive. A step that it doesn't make is answered with None.
+pub trait Driver: Drop {
+    /// A core over the new volume of a case, by the words of its first line. None where there is no such volume.
+    fn begin(alloc: Global, words: &[&str]) -> Mem<Option<Self>>;
 
-    /// Makes the step that an event's words say, and answers the lines of its outcome.
-    fn event(&mut self, alloc: Global, words: &[&str]) -> Mem<Vec<String>>;
+    /// Which end it is.
+    fn end(&self) -> End;
 
-    /// What the core holds in the end, as the line with these words is to say it.
-    fn held(&mut self, alloc: Global, words: &[&str]) -> Mem<String>;
+    /// A record comes on a connection.
+    fn take<W: Draws>(
+        &mut self,
+        alloc: Global,
+        conn: u32,
+        record_: &[u8],
+        now: u64,
+        draws: &mut W,
+    ) -> Mem<Option<Outbox>>;
+
+    /// A second comes by itself.
+    fn wait(&mut self, alloc: Global, now: u64) -> Mem<Option<Outbox>>;
+
+    /// What is told of a file, where it is there.
+    fn info(&self, file: u32) -> Option<FileInfo>;
+
+    /// 32 bytes of a file, where they can be read.
+    fn bytes(&mut self, file: u32, off: u64) -> Option<[u8; 32]>;
 }

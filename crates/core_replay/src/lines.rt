@@ -7,7 +7,19 @@ use std::alloc::Global;
 /// What a line is, by its first word.
 #[derive(Clone, Copy)]
 pub enum Kind {
+    /// It says whose cases follow.
+    Core,
+
+    /// It begins a case.
     Case,
+
+    /// It is one of a case.
+    Line(Within),
+}
+
+/// What a line is within a case.
+#[derive(Clone, Copy)]
+pub enum Within {
     Event,
     Outcome,
     Held,
@@ -16,17 +28,24 @@ pub enum Kind {
 
 /// What a line with this first word is. Words that are no others' are those of events.
 pub fn kind_of(word: &str) -> Kind {
+    match word {
+        "core" => Kind::Core,
+        "case" => Kind::Case,
+        _ => Kind::Line(place_of(word)),
+    }
+}
+
+fn place_of(word: &str) -> Within {
     if is_outcome(word) {
-        return Kind::Outcome;
+        return Within::Outcome;
     }
     if is_held(word) {
-        return Kind::Held;
+        return Within::Held;
     }
-    match word {
-        "case" => Kind::Case,
-        "end" => Kind::End,
-        _ => Kind::Event,
+    if word == "end" {
+        return Within::End;
     }
+    Within::Event
 }
 
 fn is_outcome(word: &str) -> bool {

@@ -1,45 +1,42 @@
-//! Replays recorded cases of a server's core from standard input, prints the first line of each case whose outcome is
-//! another one here, and then how many cases there were. The word says whose cases they are: `source`.
+//! Replays recorded cases of servers' cores from standard input, prints the first line of each case whose outcome is
+//! another one here, and then how many cases there were. The word says whose cases come first: `source` or `dest`.
 //!
-//! Words are parted by single spaces; bytes are hex, and `-` is none. A case begins with `case NAME FILES BLOCKS TAG`: a
-//! core over a volume just made. Then come events and, behind each, its outcome: the lines `note`, `accepted`, `used`,
-//! `undrawn` and `sent`. `file` and `peek` tell what the volume holds in the end, and `end` ends the case. Empty lines
-//! and those that begin with `#` are passed over.
+//! Words are parted by single spaces; bytes are hex, and `-` is none. A line `core source` or `core dest` says whose cases
+//! follow it. A case begins with `case NAME FILES BLOCKS TAG`: a core over a volume just made. Then come events and, behind
+//! each, its outcome: the lines `note`, `accepted`, `used`, `undrawn` and `sent`. `file` and `peek` tell what the volume
+//! holds in the end, and `end` ends the case. Empty lines and those that begin with `#` are passed over. At an event that
+//! the core doesn't make yet, as `work`, its case is left, which is printed with the number of the line.
 #![tactic(auto)]
 
 mod cases;
+mod cores;
+mod dest;
 mod driver;
 mod lines;
 mod outcomes;
+mod playing;
 mod replay;
 mod setting;
 mod source;
+mod volume;
 
+use crate::cores::{Core, Cores};
 use crate::replay::replay;
-use crate::source::SourceDriver;
 use std::env::{self, Env};
 use std::io;
 
-/// The cores whose cases can be replayed.
-enum Core {
-    Source,
-}
-
 /// The core that the first word of the command line names.
-fn core_named(rt: &(impl Env + AllocGlobal)) -> io::Result<Option<Core>> {
+fn first_core(rt: &(impl Env + AllocGlobal)) -> io::Result<Option<Core>> {
     let Some(word) = env::args(rt)?.skip(1).next() else {
         return Ok(None);
     };
-    match word.as_str() {
-        "source" => Ok(Some(Core::Source)),
-        _ => Ok(None),
-    }
+    Ok(Core::named(word.as_str()))
 }
 
 fn main(rt: HostRuntime) -> io::Result<()> {
-    match core_named(&rt)? {
-        Some(Core::Source) => replay(&rt, &mut SourceDriver::new())?,
-        None => println!(rt; "usage: source")?,
+    match first_core(&rt)? {
+        Some(core) => replay(&rt, &mut Cores::new(core))?,
+        None => println!(rt; "usage: source|dest")?,
     }
     Ok(())
 }

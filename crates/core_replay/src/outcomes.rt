@@ -1,6 +1,6 @@
 //! What a step gave, as the lines of a case.
 
-use nfs_base::{End, Seal};
+use nfs_base::{End, JobName, Seal};
 use nfs_compound::name_of;
 use outbox::{CallAnswer, CallLabel, Dropped, Label, Note, Outbox, Outgoing, To, Used, VolumeCall};
 use outcome::Mem;
@@ -36,8 +36,31 @@ fn note_line(alloc: Global, end: End, note: &Note) -> Mem<String> {
         }
         Note::Permit { cause } => Ok(format!(in alloc; "note permit {cause}")?),
         Note::Privilege { cause } => Ok(format!(in alloc; "note privilege {cause}")?),
-        _ => Ok(format!(in alloc; "note of another server")?),
+        _ => job_line(alloc, note),
     }
+}
+
+/// What is told of a job.
+fn job_line(alloc: Global, note: &Note) -> Mem<String> {
+    match note {
+        Note::Accepted {
+            job,
+            file,
+            to,
+            count,
+        } => accepted_line(alloc, *job, *file, *to, *count),
+        Note::Overlap { job } => Ok(format!(in alloc; "note overlap {job}")?),
+        Note::Stopped { job, cause } => Ok(format!(in alloc; "note stopped {job} {cause}")?),
+        _ => Ok(format!(in alloc; "note of another end")?),
+    }
+}
+
+/// A count of 0 goes to the end of the source file.
+fn accepted_line(alloc: Global, job: JobName, file: u32, to: u64, count: u64) -> Mem<String> {
+    if count == 0 {
+        return Ok(format!(in alloc; "note accepted {job} {file} {to} end")?);
+    }
+    Ok(format!(in alloc; "note accepted {job} {file} {to} {count}")?)
 }
 
 fn dropped_word(why: Dropped) -> &'static str {

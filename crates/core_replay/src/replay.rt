@@ -1,19 +1,19 @@
 //! Cases from standard input, line by line.
 
 use crate::cases::Cases;
-use crate::driver::Driver;
-use crate::lines::{Kind, is_passed_over, kind_of};
+use crate::cores::{Core, Cores};
+use crate::lines::{Kind, Within, is_passed_over, kind_of};
 use outcome::Mem;
 use row_text::{word, words};
 use std::alloc::Global;
 use std::io;
 
-/// Replays the cases of standard input by a core, and prints what is to be told of them.
-pub fn replay<D: Driver>(rt: &HostRuntime, driver: &mut D) -> io::Result<()> {
+/// Replays the cases of standard input, and prints what is to be told of them.
+pub fn replay(rt: &HostRuntime, cores: &mut Cores) -> io::Result<()> {
     let mut cases = Cases::new(rt.alloc());
     for line in rt.lines(rt.alloc()) {
         let line = line?;
-        match take(rt.alloc(), driver, &mut cases, line.as_str()) {
+        match take(rt.alloc(), cores, &mut cases, line.as_str()) {
             Ok(None) => {}
             Ok(Some(told)) => println!(rt; "{told}")?,
             Err(_) => println!(rt; "out of memory")?,
@@ -24,34 +24,65 @@ pub fn replay<D: Driver>(rt: &HostRuntime, driver: &mut D) -> io::Result<()> {
 }
 
 /// Takes a line, and answers what is to be told of it.
-fn take<D: Driver>(
-    alloc: Global,
-    driver: &mut D,
-    cases: &mut Cases,
-    line: &str,
-) -> Mem<Option<String>> {
+fn take(alloc: Global, cores: &mut Cores, cases: &mut Cases, line: &str) -> Mem<Option<String>> {
+    cases.count_line();
     if is_passed_over(line) {
         return Ok(None);
     }
     let words = words(alloc, line)?;
     let words = words.as_slice();
     match kind_of(word(words, 0)) {
-        Kind::Case => {
-            cases.begin(alloc, word(words, 1))?;
-            driver.begin(alloc, words)?;
+        Kind::Core => {
+            choose(cores, word(words, 1));
             Ok(None)
         }
-        Kind::Event => {
-            let told = ends_outcome(alloc, cases, line)?;
-            cases.expect(driver.event(alloc, words)?);
-            Ok(told)
+        Kind::Case => {
+            cases.begin(alloc, word(words, 1))?;
+            cores.begin(alloc, words)?;
+            Ok(None)
         }
-        Kind::Outcome => meets_outcome(alloc, cases, line),
-        Kind::Held => {
-            let given = driver.held(alloc, words)?;
+        Kind::Line(kind) => {
+            if cases.is_left {
+                return Ok(None);
+            }
+            follow(alloc, cores, cases, line, words, kind)
+        }
+    }
+}
+
+/// From here on cases are for the core that a word names, if it names one.
+fn choose(cores: &mut Cores, word: &str) {
+    if let Some(core) = Core::named(word) {
+        cores.now = core;
+    }
+}
+
+/// Takes a line of a case behind its first one.
+fn follow(
+    alloc: Global,
+    cores: &mut Cores,
+    cases: &mut Cases,
+    line: &str,
+    words: &[&str],
+    kind: Within,
+) -> Mem<Option<String>> {
+    match kind {
+        Within::Event => {
+            let told = ends_outcome(alloc, cases, line)?;
+            match cores.event(alloc, words)? {
+                Some(lines) => {
+                    cases.expect(lines);
+                    Ok(told)
+                }
+                None => cases.leave(alloc, told),
+            }
+        }
+        Within::Outcome => meets_outcome(alloc, cases, line),
+        Within::Held => {
+            let given = cores.held(alloc, words)?;
             cases.meet(alloc, line, given.as_str())
         }
-        Kind::End => ends_outcome(alloc, cases, line),
+        Within::End => ends_outcome(alloc, cases, line),
     }
 }
 

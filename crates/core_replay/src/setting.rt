@@ -28,6 +28,21 @@ pub fn source_place(alloc: Global) -> Mem<NetLoc>
     tcp(alloc, b"127.0.0.1.8.1")
 }
 
+/// Where the destination is found.
+pub fn dest_place(alloc: Global) -> Mem<NetLoc> {
+    tcp(alloc, b"127.0.0.1.8.2")
+}
+
+/// As whom the destination calls.
+pub fn dest_name(alloc: Global) -> Mem<Octets> {
+    Ok(Octets::from_slice(alloc, b"dest")?)
+}
+
+/// The source from which the destination copies.
+pub fn dest_source(alloc: Global) -> Mem<Peer> {
+    peer(alloc, b"source", b"127.0.0.1.8.1")
+}
+
 /// The servers that the source knows.
 pub fn source_peers(alloc: Global) -> Mem<Items<Peer>> {
     let mut peers = Items::new(alloc);

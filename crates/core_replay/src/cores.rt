@@ -1,0 +1,70 @@
+//! The cores whose cases can be replayed.
+
+use crate::playing::Playing;
+use dest_core::DestCore;
+use disk_model::MemoryDisk;
+use gss_mech::Realm;
+use outcome::Mem;
+use source_core::SourceCore;
+use std::alloc::Global;
+
+/// Which core the cases are for.
+#[derive(Clone, Copy)]
+pub enum Core {
+    Source,
+    Dest,
+}
+
+impl Core {
+    /// The core that a word names.
+    pub fn named(word: &str) -> Option<Core> {
+        match word {
+            "source" => Some(Core::Source),
+            "dest" => Some(Core::Dest),
+            _ => None,
+        }
+    }
+}
+
+/// A core of each kind, and the one that the lines drive now.
+#[derive(Drop)]
+pub struct Cores {
+    pub now: Core,
+    source: Playing<SourceCore<MemoryDisk, Realm>>,
+    dest: Playing<DestCore<MemoryDisk, Realm>>,
+}
+
+impl Cores {
+    pub fn new(now: Core) -> Cores {
+        Cores {
+            now,
+            source: Playing::new(),
+            dest: Playing::new(),
+        }
+    }
+
+    /// Begins a case with a new core, by the words of its first line.
+    pub fn begin(&mut self, alloc: Global, words: &[&str]) -> Mem<()> {
+        match self.now {
+            Core::Source => self.source.begin(alloc, words),
+            Core::Dest => self.dest.begin(alloc, words),
+        }
+    }
+
+    /// Makes the step that an event's words say, and answers the lines of its outcome. None where the core doesn't make
+    /// such a step.
+    pub fn event(&mut self, alloc: Global, words: &[&str]) -> Mem<Option<Vec<String>>> {
+        match self.now {
+            Core::Source => self.source.event(alloc, words),
+            Core::Dest => self.dest.event(alloc, words),
+        }
+    }
+
+    /// What the core holds in the end, as the line with these words is to say it.
+    pub fn held(&mut self, alloc: Global, words: &[&str]) -> Mem<String> {
+        match self.now {
+            Core::Source => self.source.held(alloc, words),
+            Core::Dest => self.dest.held(alloc, words),
+        }
+    }
+}

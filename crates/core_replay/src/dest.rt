@@ -1,0 +1,92 @@
+//! Cases of a destination.
+
+ghost use Rattle.block_file.specs.Opened.{CanBeOpened};
+ghost use Rattle.disk_model.specs.Disk.{Image, MayLeave};
+ghost use Rattle.disk_model.specs.Elapsed.{present};
+
+use crate::driver::Driver;
+use crate::setting::{dest_name, dest_place, dest_source, realm};
+use crate::volume::{formatted, new_disk};
+use block_file::FileInfo;
+use dest_core::DestCore;
+use disk_model::{Disk, MemoryDisk};
+use gss_mech::Realm;
+use nfs_base::End;
+use outbox::Outbox;
+use outcome::Mem;
+use session_server::MOST_STEPS;
+use std::alloc::Global;
+use streams::Draws;
+
+impl Driver for DestCore<MemoryDisk, Realm> {
+    fn begin(alloc: Global, words: &[&str]) -> Mem<Option<DestCore<MemoryDisk, Realm>>> {
+        new_dest(alloc, new_disk(alloc), words)
+    }
+
+    fn end(&self) -> End {
+        End::Dest
+    }
+
+    fn take<W: Draws>(
+        &mut self,
+        alloc: Global,
+        conn: u32,
+        record_: &[u8],
+        now: u64,
+        draws: &mut W,
+    ) -> Mem<Option<Outbox>> {
+        if self.calls() >= MOST_STEPS {
+            return Ok(None);
+        }
+        Ok(Some(self.on_record(alloc, conn, record_, now, draws)?))
+    }
+
+    fn wait(&mut self, alloc: Global, now: u64) -> Mem<Option<Outbox>> {
+        if self.calls() >= MOST_STEPS {
+            return Ok(None);
+        }
+        Ok(Some(self.tick(alloc, now)?))
+    }
+
+    fn info(&self, file: u32) -> Option<FileInfo> {
+        if file == 0 || file > self.files() {
+            return None;
+        }
+        Some(self.file(file))
+    }
+
+    fn bytes(&mut self, file: u32, off: u64) -> Option<[u8; 32]> {
+        if file == 0 || file > self.files() {
+            return None;
+        }
+        let mut room = [0u8; 32];
+        if self.peek(file, off, &mut room).is_err() {
+            return None;
+        }
+        Some(room)
+    }
+}
+
+/// The destination of a case, over a disk that is formatted for it.
+fn new_dest<D: Disk + Drop>(
+    alloc: Global,
+    disk: D,
+    words: &[&str],
+) -> Mem<Option<DestCore<D, Realm>>> {
+    match formatted(disk, words)? {
+        Some(disk) => open(alloc, disk),
+        None => Ok(None),
+    }
+}
+
+/// Opens the destination of a case.
+fn open<D: Disk + Drop>(alloc: Global, disk: D) -> Mem<Option<DestCore<D, Realm>>>
+    requires { D.Told → (image : Image) → MayLeave (present (D.timeline disk)) image → CanBeOpened (D.size disk) image }
+{
+    let (realm, source) = (realm(alloc)?, dest_source(alloc)?);
+    let (name, own) = (dest_name(alloc)?, dest_place(alloc)?);
+    match DestCore::open(alloc, disk, realm, source, name, own)? {
+        Ok(core) => Ok(Some(core)),
+        Err(_) => Ok(None),
+    }
+}

@@ -1,0 +1,122 @@
+//! A core in a case.
+
+use crate::driver::Driver;
+use crate::lines::{bytes_of, long};
+use crate::outcomes::lines_of;
+use crate::setting::{few_draws, given_draws};
+use outbox::Outbox;
+use outcome::Mem;
+use row_text::{number, word};
+use std::alloc::Global;
+use streams::{CountDraws, MemDraws};
+
+/// The core of a case, where it has a volume, and what the core draws from.
+#[derive(Drop)]
+pub struct Playing<D> {
+    core: Option<D>,
+    draws: CountDraws,
+
+    /// The draws of a case that has few.
+    few: Option<MemDraws>,
+}
+
+impl<D: Driver> Playing<D> {
+    pub fn new() -> Playing<D> {
+        Playing {
+            core: None,
+            draws: CountDraws::new(),
+            few: None,
+        }
+    }
+
+    /// Begins a case with a new core, by the words of its first line.
+    pub fn begin(&mut self, alloc: Global, words: &[&str]) -> Mem<()> {
+        self.few = match given_draws(word(words, 1)) {
+            Some(given) => Some(few_draws(alloc, given)?),
+            None => None,
+        };
+        self.draws = CountDraws::new();
+        self.core = D::begin(alloc, words)?;
+        Ok(())
+    }
+
+    /// Makes the step that an event's words say, and answers the lines of its outcome. None where the core doesn't make
+    /// such a step.
+    pub fn event(&mut self, alloc: Global, words: &[&str]) -> Mem<Option<Vec<String>>> {
+        match &mut self.core {
+            Some(core) => event(alloc, core, &mut self.draws, &mut self.few, words),
+            None => Ok(None),
+        }
+    }
+
+    /// What the core holds in the end, as the line with these words is to say it.
+    pub fn held(&mut self, alloc: Global, words: &[&str]) -> Mem<String> {
+        match &mut self.core {
+            Some(core) => held(alloc, core, words),
+            None => Ok(format!(in alloc; "no volume")?),
+        }
+    }
+}
+
+fn event<D: Driver>(
+    alloc: Global,
+    core: &mut D,
+    draws: &mut CountDraws,
+    few: &mut Option<MemDraws>,
+    words: &[&str],
+) -> Mem<Option<Vec<String>>> {
+    let out = match word(words, 0) {
+        "record" => comes(alloc, core, draws, few, words)?,
+        "tick" => core.wait(alloc, long(words, 1))?,
+        _ => None,
+    };
+    match out {
+        Some(out) => Ok(Some(lines_of(alloc, core.end(), &out)?)),
+        None => Ok(None),
+    }
+}
+
+/// A record comes on a connection.
+fn comes<D: Driver>(
+    alloc: Global,
+    core: &mut D,
+    draws: &mut CountDraws,
+    few: &mut Option<MemDraws>,
+    words: &[&str],
+) -> Mem<Option<Outbox>> {
+    let (conn, now) = (number(words, 1), long(words, 2));
+    let given = bytes_of(alloc, word(words, 3))?;
+    match few {
+        Some(few) => core.take(alloc, conn, given.as_slice(), now, few),
+        None => core.take(alloc, conn, given.as_slice(), now, draws),
+    }
+}
+
+fn held<D: Driver>(alloc: Global, core: &mut D, words: &[&str]) -> Mem<String> {
+    let file = number(words, 1);
+    if word(words, 0) == "file" {
+        return file_line(alloc, core, file);
+    }
+    peek_line(alloc, core, file, long(words, 2))
+}
+
+fn file_line<D: Driver>(alloc: Global, core: &D, file: u32) -> Mem<String> {
+    match core.info(file) {
+        Some(info) => {
+            let (size, change) = (info.size, info.change);
+            Ok(format!(in alloc; "file {file} {size} {change}")?)
+        }
+        None => Ok(format!(in alloc; "no file")?),
+    }
+}
+
+/// 32 bytes of a file.
+fn peek_line<D: Driver>(alloc: Global, core: &mut D, file: u32, off: u64) -> Mem<String> {
+    match core.bytes(file, off) {
+        Some(room) => {
+            let bytes = hex::encode(alloc, &room)?;
+            Ok(format!(in alloc; "peek {file} {off} {bytes}")?)
+        }
+        None => Ok(format!(in alloc; "unread")?),
+    }
+}
