@@ -32,6 +32,20 @@ abbrev pub told_change : Res → Option ℕ
 told_change (File (files.GetAttr (Done told))) = word_of told.values
 told_change _ = None
 
+-- the change attribute and the size, where they are all that was told (sections 5.8.1.4 and 5.8.1.5): the size
+abbrev pub size_word : List ℕ → Option ℕ
+size_word (p ∷ q ∷ r ∷ s ∷ t ∷ u ∷ v ∷ w ∷ a ∷ b ∷ c ∷ d ∷ e ∷ f ∷ g ∷ h ∷ []) =
+    Some (from_be_bytes w64 (a ∷ b ∷ c ∷ d ∷ e ∷ f ∷ g ∷ h ∷ []))
+size_word _ = None
+
+abbrev pub told_size : Res → Option ℕ
+told_size (File (files.GetAttr (Done told))) = size_word told.values
+told_size _ = None
+
+abbrev pub told_bytes : Res → Option (List ℕ)
+told_bytes (File (files.Read (Done read))) = Some read.bytes
+told_bytes _ = None
+
 abbrev pub told_written : Res → Option Written
 told_written (File (files.Write (Done write))) = Some (record { count = write.count; verifier = write.verifier })
 told_written _ = None

@@ -6,6 +6,7 @@ ghost use Rattle.call_results.specs.Results as spec;
 use file_ops::FileRes;
 use nfs_base::{Answer, Handle, StateId};
 use nfs_compound::Res;
+use wire_xdr::{Items, Octets};
 
 /// What an OPEN with a GETFH behind it told (RFC 8881 sections 18.16 and 18.8).
 #[derive(Drop)]
@@ -35,6 +36,24 @@ pub fn change_in(results: &[Res]) -> Option<u64>
     ensures { result ≡ spec.at 2 spec.told_change results.now }
 {
     told_change(results.get(2)?)
+}
+
+/// The size of the file, in bytes, that a PUTFH and a GETATTR of the change attribute and the size tell.
+pub fn size_in(results: &[Res]) -> Option<u64>
+    ensures { result ≡ spec.at 2 spec.told_size results.now }
+{
+    told_size(results.get(2)?)
+}
+
+/// The bytes that a PUTFH and a READ tell. It takes no memory.
+pub fn bytes_in(results: Items<Res>) -> Option<Octets>
+    ensures { result ≡ spec.at 2 spec.told_bytes results }
+{
+    let mut results = results.into_vec();
+    if results.len() <= 2 {
+        return None;
+    }
+    told_bytes(results.swap_remove(2))
 }
 
 /// What a PUTFH and a WRITE tell.
@@ -83,6 +102,35 @@ fn word_of(bytes: &[u8]) -> Option<u64>
 {
     match bytes {
         [a, b, c, d, e, f, g, h] => { Some(u64::from_be_bytes([*a, *b, *c, *d, *e, *f, *g, *h])) }
+        _ => None,
+    }
+}
+
+fn told_size(res: &Res) -> Option<u64>
+    ensures { result ≡ spec.told_size res.now }
+{
+    match res {
+        Res::File(FileRes::GetAttr(Answer::Done(told))) => size_word(told.values.as_slice()),
+        _ => None,
+    }
+}
+
+fn size_word(bytes: &[u8]) -> Option<u64>
+    ensures { result ≡ spec.size_word bytes.now }
+{
+    match bytes {
+        [_, _, _, _, _, _, _, _, a, b, c, d, e, f, g, h] => {
+            Some(u64::from_be_bytes([*a, *b, *c, *d, *e, *f, *g, *h]))
+        }
+        _ => None,
+    }
+}
+
+fn told_bytes(res: Res) -> Option<Octets>
+    ensures { result ≡ spec.told_bytes res }
+{
+    match res {
+        Res::File(FileRes::Read(Answer::Done(read))) => Some(read.bytes),
         _ => None,
     }
 }

@@ -8,4 +8,4 @@ mod copies;
 mod files;
 
 pub use copies::{Granted, accepted_in, grant_in, progress_in};
-pub use files::{Opened, Written, change_in, committed_in, open_in, written_in};
+pub use files::{Opened, Written, bytes_in, change_in, committed_in, open_in, size_in, written_in};

@@ -1,2 +1,4 @@
 pub mod Books
 pub mod Lists
+pub mod Logged
+pub mod Free

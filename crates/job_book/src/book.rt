@@ -12,8 +12,8 @@ use std::marker::Model;
 /// The jobs of a destination by name, and how many bytes were landed by those that aren't there any more.
 #[derive(Drop)]
 pub struct Book {
-    jobs: Jobs,
-    past: u128,
+    pub(crate) jobs: Jobs,
+    pub(crate) past: u128,
 }
 
 impl Model for Book {
@@ -138,7 +138,7 @@ impl Book {
     }
 }
 
-fn id_of(name: JobName) -> JobId
+pub(crate) fn id_of(name: JobName) -> JobId
     ensures { result ≡ id_of name }
 {
     JobId {
