@@ -1,0 +1,143 @@
+//! Calls under a context, made by hand.
+
+use crate::fields::{put_fields, put_opaque, word_named};
+use gss_ctx::Awaited;
+use gss_mech::{ACCEPTOR, INITIATOR, Mechanism, Realm};
+use outcome::Mem;
+use std::alloc::Global;
+use wire_xdr::{Octets, Writer};
+
+/// How many numbers a call has.
+const FIELDS: usize = 17;
+
+/// What they are called. Those before `inner` are the words from the xid through the credential, without the message type
+/// (RFC 5531 section 9); `inner` is how far the number in the body is above that of the credential; `verifier` and `code`,
+/// where they aren't 0, turn the last bit of those.
+const NAMES: [&str; FIELDS] = [
+    "xid", "rpcvers", "prog", "vers", "proc", "flavor", "length", "version", "gss", "seq", "service",
+    "bytes", "boot", "handle", "inner", "verifier", "code",
+];
+
+/// A call as it is asked for.
+#[derive(Drop)]
+pub struct Call {
+    numbers: [u32; FIELDS],
+
+    /// How many operations it has, where its body wasn't given whole.
+    ops: Option<u32>,
+    written: Writer,
+}
+
+/// A call as it is sent, and what is awaited of its reply.
+#[derive(Drop)]
+pub struct Sent {
+    pub bytes: Octets,
+    pub awaited: Awaited,
+}
+
+impl Call {
+    /// A COMPOUND without operations, as DATA in version 3 with integrity under a context.
+    pub fn under(alloc: Global, handle: u32, count: u32) -> Mem<Call> {
+        Ok(Call {
+            numbers: [
+                count, 2, 100_003, 4, 1, 6, 28, 3, 0, count, 2, 8, 1, handle, 0, 0, 0,
+            ],
+            ops: Some(0),
+            written: Writer::new(alloc)?,
+        })
+    }
+
+    /// What a word asks for: a number by its name, all of the body as `body:FIELDS`, and else one more operation.
+    pub fn ask(&mut self, alloc: Global, word: &str, round: u32) -> Mem<()> {
+        if let Some((name, rest)) = word.split_once(':') {
+            if name == "body" {
+                return self.ask_body(alloc, rest, round);
+            }
+            if self.set(name, word_named(rest)) {
+                return Ok(());
+            }
+        }
+        self.ops = self.ops.map(|ops| ops.saturating_add(1));
+        put_fields(&mut self.written, alloc, word, round)
+    }
+
+    /// A body of these fields, and an empty one without any.
+    fn ask_body(&mut self, alloc: Global, text: &str, round: u32) -> Mem<()> {
+        self.ops = None;
+        if text.is_empty() {
+            return Ok(());
+        }
+        put_fields(&mut self.written, alloc, text, round)
+    }
+
+    /// Sets a number. False: there is none of this name.
+    fn set(&mut self, name: &str, value: u32) -> bool {
+        for at in 0..FIELDS {
+            if NAMES[at] == name {
+                self.numbers[at] = value;
+                return true;
+            }
+        }
+        false
+    }
+
+    /// The header from the xid through the credential. `kind` is the message type.
+    fn header(&self, alloc: Global, kind: u32) -> Mem<Writer> {
+        let mut header = Writer::new(alloc)?;
+        header.u32(self.numbers[0])?;
+        header.u32(kind)?;
+        for word in &self.numbers[1..14] {
+            header.u32(*word)?;
+        }
+        Ok(header)
+    }
+
+    /// What stands under the seal: the number and the arguments.
+    fn sealed(&self, alloc: Global) -> Mem<Writer> {
+        let mut sealed = Writer::new(alloc)?;
+        sealed.u32(self.numbers[9].wrapping_add(self.numbers[14]))?;
+        if let Some(ops) = self.ops {
+            sealed.u32(0)?;
+            sealed.u32(2)?;
+            sealed.u32(ops)?;
+        }
+        sealed.append(self.written.as_slice())?;
+        Ok(sealed)
+    }
+
+    /// The record (RFC 2203 section 5.3), and what is awaited of the reply.
+    pub fn seal(&self, alloc: Global, key: &[u8; 32], mech: &Realm) -> Mem<Sent> {
+        let mut record_ = self.header(alloc, 0)?;
+        let code = mech.mic(key, INITIATOR, record_.as_slice());
+        record_.u32(6)?;
+        record_.opaque(&turned(code, self.numbers[15]))?;
+        let sealed = self.sealed(alloc)?;
+        put_opaque(&mut record_, sealed.as_slice())?;
+        let code = mech.mic(key, INITIATOR, sealed.as_slice());
+        record_.opaque(&turned(code, self.numbers[16]))?;
+        Ok(Sent {
+            bytes: record_.finish(),
+            awaited: self.awaited(alloc, key, mech)?,
+        })
+    }
+
+    /// What is awaited: the code of the header as a reply's, and in version 1 that of the number.
+    fn awaited(&self, alloc: Global, key: &[u8; 32], mech: &Realm) -> Mem<Awaited> {
+        let (xid, seq) = (self.numbers[0], self.numbers[9]);
+        let code = if self.numbers[7] == 1 {
+            mech.mic(key, ACCEPTOR, &seq.to_be_bytes())
+        } else {
+            mech.mic(key, ACCEPTOR, self.header(alloc, 1)?.as_slice())
+        };
+        Ok(Awaited { xid, seq, code })
+    }
+}
+
+/// A code, or one whose last bit is turned.
+fn turned(code: [u8; 32], turns: u32) -> [u8; 32] {
+    let mut code = code;
+    if turns != 0 {
+        code[31] ^= 1;
+    }
+    code
+}
