@@ -1,11 +1,13 @@
 -- A toy server's own rules: a privilege for one file, reads that are counted, and an operation that gives numbers out.
 use Rattle.std.specs.Prelude.{ℕ, ◌+◌, ◌^◌, ◌-◌, ◌==◌, ◌&&◌, ◌||◌, nat_le, min, Bool, true, false, if◌then◌else◌, Option, Some, None, List, [], ◌∷◌, length}
-use Rattle.compound_server.specs.Serves.{Served}
+use Rattle.std.proofs.Math.IntN.{pos}
+use Rattle.compound_server.specs.Serves.{Served, served}
+use Rattle.compound_server.specs.declared.client_end.ClientEnd.{ClientEnd}
 use Rattle.copy_ops.specs.declared.arg.CopyArg.{CopyArg}
 use Rattle.copy_ops.specs.declared.arg.CopyArg.TheVariants as args
-use Rattle.copy_ops.specs.declared.res.CopyRes.{CopyRes}
 use Rattle.copy_ops.specs.declared.res.CopyRes.TheVariants as results
 use Rattle.copy_ops.specs.declared.results.CopyAnswer.TheVariants as copied
+use Rattle.copy_ops.specs.declared.results.NotifyGrant.{NotifyGrant}
 use Rattle.file_ops.specs.declared.operation.TheConstants.{OP_PUTFH, OP_SEQUENCE}
 use Rattle.file_server.specs.Machine.{Going, with_extra}
 use Rattle.file_server.specs.declared.extension.Ask.{Ask}
@@ -14,9 +16,10 @@ use Rattle.file_server.specs.declared.extension.Caller.{Caller}
 use Rattle.file_server.specs.declared.extension.Gate.{Gate}
 use Rattle.file_server.specs.declared.extension.Gate.TheVariants.{Serve, Refuse, Usual}
 use Rattle.gss_ctx.specs.Table.{ContextTable}
-use Rattle.nfs_base.specs.declared.answer.Answer.TheVariants.{Refused}
+use Rattle.nfs_base.specs.declared.answer.Answer.TheVariants.{Done, Refused}
 use Rattle.nfs_base.specs.declared.cause.Cause.TheVariants as causes
 use Rattle.nfs_base.specs.declared.cause.PrivCause.TheVariants as refusals
+use Rattle.nfs_base.specs.declared.net_loc.NetLoc.TheVariants.{Name}
 use Rattle.nfs_base.specs.declared.state_id.StateId.{StateId}
 use Rattle.nfs_base.specs.declared.state_id.TheConstants.StateId.{COPY_NOTIFY}
 use Rattle.nfs_base.specs.declared.status.Status.{Status}
@@ -54,39 +57,33 @@ gated x caller carry (asks.Operation op) = (x, operation_gate carry op)
 gated x caller carry (asks.Read file id) = read_gate carry file id x
 gated x caller carry (asks.Attributes file) = (x, attributes_gate carry file)
 
--- ---- its own operation
+-- ---- its own operations
 
-abbrev pub status_of : CopyArg → Status
-status_of (args.OffloadCancel id) = OK
-status_of (args.Copy a) = NOTSUPP
-status_of (args.CopyNotify a) = NOTSUPP
-status_of (args.OffloadStatus id) = NOTSUPP
-status_of (args.Clone a) = NOTSUPP
+-- one place, by this name
+abbrev pub wide_grant : (name : List ℕ) → NotifyGrant
+wide_grant name = record {
+  lease = record { secs = pos 0; nanos = 0 };
+  id = record { seqid = 0; kind = 0; boot = 0; number = 0 };
+  sources = Name name ∷ [];
+}
 
-abbrev pub res_of : CopyArg → CopyRes
-res_of (args.Copy a) = results.Copy (copied.Refused NOTSUPP)
-res_of (args.CopyNotify a) = results.CopyNotify (Refused NOTSUPP)
-res_of (args.OffloadCancel id) = results.OffloadCancel OK
-res_of (args.OffloadStatus id) = results.OffloadStatus (Refused NOTSUPP)
-res_of (args.Clone a) = results.Clone NOTSUPP
+abbrev pub with_given : Going Toy → Going Toy
+with_given g = with_extra (record g.machine.extra { given = g.machine.extra.given + 1 }) g
 
-abbrev pub after : CopyArg → Toy → Toy
-after (args.OffloadCancel id) x = record x { given = x.given + 1 }
-after (args.Copy a) x = x
-after (args.CopyNotify a) x = x
-after (args.OffloadStatus id) x = x
-after (args.Clone a) x = x
-
-abbrev pub serves : Choice → Caller → Option ℕ → CopyArg → Going Toy → Served Toy
-serves choice caller carry op g = record { going = with_extra (after op g.machine.extra) g; res = res_of op }
+unfoldable pub serves : Choice → Caller → Option ℕ → CopyArg → Going Toy → Served Toy
+serves choice caller carry (args.Copy a) g = served g (results.Copy (copied.Refused NOTSUPP))
+serves choice caller carry (args.CopyNotify a) g = served g (results.CopyNotify (Done (wide_grant g.machine.extra.wide)))
+serves choice caller carry (args.OffloadCancel id) g = served (with_given g) (results.OffloadCancel OK)
+serves choice caller carry (args.OffloadStatus id) g = served g (results.OffloadStatus (Refused NOTSUPP))
+serves choice caller carry (args.Clone a) g = served g (results.Clone NOTSUPP)
 
 abbrev pub suits : Unit {0} → Option ℕ → CopyArg → Type 0
 suits room carry op = Unit {0}
 
 -- ---- time, and clients
 
-abbrev pub leaves : (client : ℕ) → Toy → Toy
-leaves client x = record x { ended = client }
+abbrev pub leaves : (client : ℕ) → ClientEnd → Toy → Toy
+leaves client why x = record x { ended = client; why = why }
 
 abbrev pub lapses : (second : ℕ) → Toy → Toy
 lapses second x = x

@@ -14,8 +14,8 @@ const FIELDS: usize = 17;
 /// (RFC 5531 section 9); `inner` is how far the number in the body is above that of the credential; `verifier` and `code`,
 /// where they aren't 0, turn the last bit of those.
 const NAMES: [&str; FIELDS] = [
-    "xid", "rpcvers", "prog", "vers", "proc", "flavor", "length", "version", "gss", "seq", "service",
-    "bytes", "boot", "handle", "inner", "verifier", "code",
+    "xid", "rpcvers", "prog", "vers", "proc", "flavor", "length", "version", "gss", "seq",
+    "service", "bytes", "boot", "handle", "inner", "verifier", "code",
 ];
 
 /// A call as it is asked for.

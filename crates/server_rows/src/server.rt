@@ -111,12 +111,7 @@ fn realm(alloc: Global) -> Mem<Realm> {
 }
 
 /// A new volume, opened. None where the disk has no room for it.
-fn volume<D: Disk + Drop>(
-    alloc: Global,
-    disk: D,
-    files: u32,
-    blocks: u32,
-) -> Mem<Option<Volume<D>>>
+fn volume<D: Disk + Drop>(alloc: Global, disk: D, files: u32, blocks: u32) -> Mem<Option<Volume<D>>>
     requires some_files { 1 ≤ files }
     requires few_files { files ≤ 64 }
     requires some_blocks { 1 ≤ blocks }

@@ -26,8 +26,8 @@ pub enum Awaits {
 }
 
 /// What a step gives: what went back, by its name; whether it and the call have the call's seal, where not both do;
-/// the results of a COMPOUND, and the words of the last one behind its status, or those of another result; the number
-/// of calls on the volume, where there are some; and the notes.
+/// the results of a COMPOUND, and the words of the last one behind its status, or those of another result; the length of
+/// a long record; the number of calls on the volume, where there are some; and the notes.
 pub fn told(alloc: Global, out: &Outbox, awaits: &Awaits, server: &ToyServer) -> Mem<String> {
     let mut text = String::new(alloc);
     match out.sent.as_slice() {
@@ -35,6 +35,7 @@ pub fn told(alloc: Global, out: &Outbox, awaits: &Awaits, server: &ToyServer) ->
         [sent] => put_sent(alloc, &mut text, out, sent, awaits, server)?,
         _ => text.push_str("several")?,
     }
+    put_length(&mut text, out.sent.as_slice())?;
     let calls = out.used.as_slice().len();
     if calls > 0 {
         write!(text, "; {calls} calls")?;
@@ -46,6 +47,17 @@ pub fn told(alloc: Global, out: &Outbox, awaits: &Awaits, server: &ToyServer) ->
         text.push_str("; undrawn")?;
     }
     Ok(text)
+}
+
+/// How long a record is that has more bytes than the data of any READ.
+fn put_length(text: &mut String, sent: &[Outgoing]) -> Mem<()> {
+    if let [sent] = sent {
+        let len = sent.bytes.len();
+        if len > 65_536 {
+            write!(text, "; {len} bytes")?;
+        }
+    }
+    Ok(())
 }
 
 fn put_sent(

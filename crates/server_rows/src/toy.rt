@@ -1,10 +1,15 @@
 //! A toy server's own rules, for tables: a privilege for one file, reads that are counted, and an operation.
 
-ghost use Rattle.std.specs.Prelude.{◌≡◌, ◌+◌, ◌-◌, ◌^◌, ◌<◌, ◌≤◌};
-ghost use Rattle.server_rows.specs.Toy.{after, attributes_gate, judged, operation_gate, permits, read_gate, status_of};
+ghost use Rattle.std.specs.Prelude.{◌≡◌, ◌+◌, ◌++◌, ◌≤◌, length};
+ghost use Rattle.copy_ops.specs.Forms.{notify_grant};
+ghost use Rattle.copy_ops.specs.declared.operation.TheConstants.{OP_COPY_NOTIFY};
+ghost use Rattle.file_server.specs.Answering.{Says};
+ghost use Rattle.nfs_base.specs.declared.status.TheConstants.Status.{OK};
+ghost use Rattle.wire_xdr.specs.Words.{word_bytes};
+ghost use Rattle.server_rows.specs.Toy.{attributes_gate, given, judged, operation_gate, permits, read_gate, wide_grant};
 
-use compound_server::Serving;
-use copy_ops::CopyArg;
+use compound_server::{ClientEnd, Serving};
+use copy_ops::{CopyArg, OP_CLONE, OP_COPY, OP_OFFLOAD_CANCEL, OP_OFFLOAD_STATUS};
 use disk_model::Disk;
 use file_ops::{OP_PUTFH, OP_SEQUENCE};
 use file_server::{Ask, Caller, Extension, Files, Gate, Progress};
@@ -16,23 +21,30 @@ use outcome::Mem;
 use session_server::{Extending, Judgement};
 use std::alloc::Global;
 
+/// How many bytes the name of the place has that COPY_NOTIFY tells, so that its result has as many as one may have.
+const WIDE: usize = 348;
+
 /// What a toy server has of its own. A context that carries a file's number may read that file alone, by a stateid of
-/// kind 2 with a number that was given out; OFFLOAD_CANCEL gives one out.
+/// kind 2 with a number that was given out. OFFLOAD_CANCEL gives one out, and COPY_NOTIFY has a long result.
 #[derive(Drop)]
 pub struct Toy {
     pub mech: Realm,
 
+    /// The name that COPY_NOTIFY tells.
+    wide: [u8; WIDE],
+
     /// How many READs were permitted.
-    pub reads: u32,
+    reads: u32,
 
     /// How many numbers were given out.
-    pub given: u32,
+    given: u32,
 
-    /// The client that ended last.
-    pub ended: u64,
+    /// The client that ended last, and why.
+    ended: u64,
+    why: ClientEnd,
 
     /// Whether a READ was refused in this step.
-    pub refused: bool,
+    refused: bool,
 }
 
 impl Toy {
@@ -42,9 +54,11 @@ impl Toy {
     {
         Toy {
             mech,
+            wide: [7; WIDE],
             reads: 0,
             given: 0,
             ended: 0,
+            why: ClientEnd::Gone,
             refused: false,
         }
     }
@@ -52,7 +66,11 @@ impl Toy {
     /// How many READs it permitted, how many numbers it gave out, and the client that ended last.
     pub fn text(&self, alloc: Global) -> Mem<String> {
         let (reads, given, ended) = (self.reads, self.given, self.ended % (1 << 32));
-        Ok(format!(in alloc; "reads {reads} given {given} ended {ended}")?)
+        let why = match self.why {
+            ClientEnd::Lapsed => "lapsed",
+            ClientEnd::Gone => "gone",
+        };
+        Ok(format!(in alloc; "reads {reads} given {given} ended {ended} {why}")?)
     }
 }
 
@@ -139,6 +157,7 @@ impl Serving<u32> for Toy {
         Ok(())
     }
 
+    #[tactic(auto, unfolding(crate::specs::Toy::serves))]
     fn serve<D: Disk>(
         files: &mut Files<D, Self>,
         caller: &Caller,
@@ -147,12 +166,21 @@ impl Serving<u32> for Toy {
         room: (),
         p: &mut Progress,
     ) -> Status {
-        let status = files.extra.serve(&op);
-        p.refuse(op.number(), status)
+        match op {
+            CopyArg::Copy(_) => p.refuse(OP_COPY, Status::NOTSUPP),
+            CopyArg::CopyNotify(_) => say_wide(p, &files.extra.wide),
+            CopyArg::OffloadCancel(_) => {
+                files.extra.given += 1;
+                p.refuse(OP_OFFLOAD_CANCEL, Status::OK)
+            }
+            CopyArg::OffloadStatus(_) => p.refuse(OP_OFFLOAD_STATUS, Status::NOTSUPP),
+            CopyArg::Clone(_) => p.refuse(OP_CLONE, Status::NOTSUPP),
+        }
     }
 
-    fn leave(&mut self, client: u64) {
+    fn leave(&mut self, client: u64, why: ClientEnd) {
         self.ended = client;
+        self.why = why;
     }
 
     fn lapse(&mut self, second: u64) {}
@@ -163,30 +191,28 @@ impl Serving<u32> for Toy {
 
     ghost by_gate = { gates_give_none };
 
-    ghost by_leaving = { λ client x. none_given x };
+    ghost by_leaving = { λ client why x. none_given x };
 
     ghost by_lapsing = { λ second x. none_given x };
 }
 
-impl Toy {
-    /// With what status an operation of a copy is answered: OFFLOAD_CANCEL alone is served, and gives a number out.
-    fn serve(&mut self, op: &CopyArg) -> Status
-        requires { self.old.given < 2 ^ 32 - 1 }
-        ensures status { result ≡ status_of op.now }
-        ensures after { self.new ≡ after op.now self.old }
-        ensures given { self.new.given ≤ self.old.given + 1 }
-    {
-        match op {
-            CopyArg::OffloadCancel(_) => {
-                self.given += 1;
-                Status::OK
-            }
-            CopyArg::Copy(_) => Status::NOTSUPP,
-            CopyArg::CopyNotify(_) => Status::NOTSUPP,
-            CopyArg::OffloadStatus(_) => Status::NOTSUPP,
-            CopyArg::Clone(_) => Status::NOTSUPP,
-        }
-    }
+/// What stands before that name in the result of COPY_NOTIFY (RFC 7862 section 15.3.2): the operation's number, status 0,
+/// a lease and a stateid of zeros, and one place, by name.
+const HEAD: [u8; 44] = [
+    0, 0, 0, 61, 0, 0, 0, 0, 0, 0, 0, 0, 0, 0, 0, 0, 0, 0, 0, 0, 0, 0, 0, 0, 0, 0, 0, 0, 0, 0, 0,
+    0, 0, 0, 0, 0, 0, 0, 0, 1, 0, 0, 0, 1,
+];
+
+/// COPY_NOTIFY is done.
+fn say_wide(p: &mut Progress, wide: &[u8; WIDE]) -> Status
+    requires { length p.old.page.bytes + 399 ≤ p.old.page.room }
+    ensures says { Says p.old (word_bytes OP_COPY_NOTIFY ++ (word_bytes 0 ++ notify_grant.spell (wide_grant wide.now))) p.new }
+    ensures len { length p.new.page.bytes ≤ length p.old.page.bytes + 399 }
+    ensures status { result ≡ OK }
+{
+    p.page.append(&HEAD);
+    p.page.opaque(wide);
+    Status::OK
 }
 
 impl Extending<u32> for Toy {
