@@ -18,6 +18,19 @@ const NAMES: [&str; FIELDS] = [
     "service", "bytes", "boot", "handle", "inner", "verifier", "code",
 ];
 
+/// Where some of them stand.
+const XID: usize = 0;
+
+const VERSION: usize = 7;
+
+const SEQ: usize = 9;
+
+const INNER: usize = 14;
+
+const VERIFIER: usize = 15;
+
+const CODE: usize = 16;
+
 /// A call as it is asked for.
 #[derive(Drop)]
 pub struct Call {
@@ -57,7 +70,9 @@ impl Call {
                 return Ok(());
             }
         }
-        self.ops = self.ops.map(|ops| ops.saturating_add(1));
+        if let Some(ops) = self.ops {
+            self.ops = Some(ops.saturating_add(1));
+        }
         put_fields(&mut self.written, alloc, word, round)
     }
 
@@ -84,9 +99,9 @@ impl Call {
     /// The header from the xid through the credential. `kind` is the message type.
     fn header(&self, alloc: Global, kind: u32) -> Mem<Writer> {
         let mut header = Writer::new(alloc)?;
-        header.u32(self.numbers[0])?;
+        header.u32(self.numbers[XID])?;
         header.u32(kind)?;
-        for word in &self.numbers[1..14] {
+        for word in &self.numbers[1..INNER] {
             header.u32(*word)?;
         }
         Ok(header)
@@ -95,7 +110,7 @@ impl Call {
     /// What stands under the seal: the number and the arguments.
     fn sealed(&self, alloc: Global) -> Mem<Writer> {
         let mut sealed = Writer::new(alloc)?;
-        sealed.u32(self.numbers[9].wrapping_add(self.numbers[14]))?;
+        sealed.u32(self.numbers[SEQ].wrapping_add(self.numbers[INNER]))?;
         if let Some(ops) = self.ops {
             sealed.u32(0)?;
             sealed.u32(2)?;
@@ -110,11 +125,11 @@ impl Call {
         let mut record_ = self.header(alloc, 0)?;
         let code = mech.mic(key, INITIATOR, record_.as_slice());
         record_.u32(6)?;
-        record_.opaque(&turned(code, self.numbers[15]))?;
+        record_.opaque(&turned(code, self.numbers[VERIFIER]))?;
         let sealed = self.sealed(alloc)?;
         put_opaque(&mut record_, sealed.as_slice())?;
         let code = mech.mic(key, INITIATOR, sealed.as_slice());
-        record_.opaque(&turned(code, self.numbers[16]))?;
+        record_.opaque(&turned(code, self.numbers[CODE]))?;
         Ok(Sent {
             bytes: record_.finish(),
             awaited: self.awaited(alloc, key, mech)?,
@@ -123,8 +138,8 @@ impl Call {
 
     /// What is awaited: the code of the header as a reply's, and in version 1 that of the number.
     fn awaited(&self, alloc: Global, key: &[u8; 32], mech: &Realm) -> Mem<Awaited> {
-        let (xid, seq) = (self.numbers[0], self.numbers[9]);
-        let code = if self.numbers[7] == 1 {
+        let (xid, seq) = (self.numbers[XID], self.numbers[SEQ]);
+        let code = if self.numbers[VERSION] == 1 {
             mech.mic(key, ACCEPTOR, &seq.to_be_bytes())
         } else {
             mech.mic(key, ACCEPTOR, self.header(alloc, 1)?.as_slice())
