@@ -1,15 +1,12 @@
-ghost use Rattle.std.specs.Prelude.{◌≡◌, ◌≤◌, IfOk};
+ghost use Rattle.std.specs.Prelude.{◌≡◌, ◌≤◌};
 ghost use Rattle.outcome.specs.Causes.{Rose};
 ghost use Rattle.disk_model.specs.Elapsed.{untold};
 ghost use Rattle.disk_model.specs.MemoryDisk.{size_of, fuse_of};
-ghost use Rattle.block_file.specs.Opened.{IsFresh};
 
-use block_file::Volume;
-use disk_model::{Block, CrashDisk, Disk, Io, MemoryDisk};
+use disk_model::{Block, Counts, CrashDisk, Disk, Io, MemoryDisk};
 use std::alloc::Global;
-use std::test::Fail;
 
-/// A disk in memory that tells nothing of what it holds, so that a test may open whatever that is.
+/// A disk in memory that tells nothing of what it holds, so that whatever that is may be opened.
 #[derive(Drop)]
 pub struct BlindDisk {
     inner: MemoryDisk,
@@ -18,9 +15,7 @@ pub struct BlindDisk {
 
 impl BlindDisk {
     /// A disk of this many blocks of zeros, of which the calls with these numbers fail.
-    pub fn new(alloc: Global, blocks: u64, failing: Vec<u64>) -> BlindDisk
-        ensures { ⟦<BlindDisk as Disk>⟧.size result ≡ blocks }
-    {
+    pub fn new(alloc: Global, blocks: u64, failing: Vec<u64>) -> BlindDisk {
         BlindDisk {
             inner: MemoryDisk::new(alloc, blocks, failing),
             faults: 0,
@@ -30,6 +25,16 @@ impl BlindDisk {
     /// How many calls failed.
     pub fn faults(&self) -> u64 {
         self.faults
+    }
+
+    /// How many calls of each kind it was given.
+    pub fn counts(&self) -> Counts {
+        self.inner.counts()
+    }
+
+    /// How many calls failed since memory was refused.
+    pub fn starved(&self) -> u64 {
+        self.inner.starved()
     }
 }
 
@@ -91,23 +96,5 @@ impl CrashDisk for BlindDisk {
 
     fn crash(&mut self, pick: u8) {
         self.inner.crash(pick);
-    }
-}
-
-/// A new volume of one file of two blocks. To make it takes 9 calls of the disk.
-pub fn formatted(alloc: Global, failing: Vec<u64>) -> Result<BlindDisk, Fail> {
-    match Volume::format(BlindDisk::new(alloc, 11, failing), 1, 2, 7)? {
-        Ok(disk) => Ok(disk),
-        Err(_refused) => Err(Fail::new("the disk wasn't formatted")),
-    }
-}
-
-/// Opens a volume that must be there.
-pub fn opened(alloc: Global, disk: BlindDisk) -> Result<Volume<BlindDisk>, Fail>
-    ensures { IfOk result (λ opened. IsFresh opened.volume) }
-{
-    match Volume::open(alloc, disk)? {
-        Ok(volume) => Ok(volume),
-        Err(_refused) => Err(Fail::new("the volume wasn't opened")),
     }
 }

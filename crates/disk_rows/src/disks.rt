@@ -1,121 +1,140 @@
-use disk_model::{Block, Counts, CrashDisk, Disk, FileDisk, Fuse, Io, MemoryDisk};
-use std::fs::OpenOptions;
-use std::process::Abort;
-use std::test::Fail;
-use std::{env, fs};
+//! Calls of a disk.
 
-const FIRST: Block = [1; 4096];
+use crate::blind_disk::BlindDisk;
+use crate::told::{next, tell, tell_rows};
+use disk_model::{Block, CrashDisk, Disk, Io};
+use outcome::Mem;
+use row_text::{number, word};
+use std::alloc::Global;
+use std::fmt::Write;
 
-const SECOND: Block = [2; 4096];
+/// `disk BLOCKS FAILING..`: a disk of so many blocks, of which the calls with these numbers fail.
+pub fn new_disk(alloc: Global, words: &[&str]) -> Mem<BlindDisk> {
+    let mut failing = Vec::new(alloc);
+    for at in 2..words.len() {
+        failing.push(u64::from(number(words, at)))?;
+    }
+    Ok(BlindDisk::new(alloc, u64::from(number(words, 1)), failing))
+}
 
-// A block of one byte up to its middle, and of another from there on.
+/// The calls of any disk: `blocks`; `put AT FRONT BACK`, a block of one byte up to its middle and another from there on;
+/// `patch AT PLACE BYTE..`, which writes a block again with these bytes at a place; `sync`; `get AT`; `fuse CALLS`;
+/// `stopped`; and `crash PICK`.
+pub fn on_any<D: CrashDisk>(disk: &mut D, words: &[&str], text: &mut String) -> Mem<()> {
+    let first = number(words, 1);
+    match word(words, 0) {
+        "blocks" => blocks(disk, text),
+        "put" => put(disk, first, halves(byte(words, 2), byte(words, 3)), text),
+        "patch" => patch(disk, first, words, text),
+        "sync" => told(text, disk.sync()),
+        "get" => get(disk, first, text),
+        "fuse" => {
+            disk.fuse(u64::from(first));
+            Ok(())
+        }
+        "stopped" => stopped(disk, text),
+        "crash" => {
+            disk.crash(byte(words, 1));
+            Ok(())
+        }
+        _ => tell(text, "no such call"),
+    }
+}
+
+/// Tells a call that failed.
+pub fn told(text: &mut String, answer: Io) -> Mem<()> {
+    match answer {
+        Io::Done => Ok(()),
+        Io::Failed => tell(text, "failed"),
+    }
+}
+
+/// The byte that a word is.
+fn byte(words: &[&str], at: usize) -> u8 {
+    word(words, at).parse::<u8>().unwrap_or(u8::MAX)
+}
+
 fn halves(front: u8, back: u8) -> Block {
     let mut block = [back; 4096];
     block[..2048].fill(front);
     block
 }
 
-fn check_block<D: Disk>(rt: &impl Abort, disk: &mut D, at: u64, expected: &Block) {
-    let mut block = [0xee; 4096];
-    assert!(rt; at < disk.blocks());
-    assert_eq!(rt; disk.read(at, &mut block), Io::Done);
-    assert!(rt; block == *expected, "block {at} begins {}", block[0]);
-}
-
-// Writes, syncs and writes again, the machine stopping after so many calls, and crashes.
-fn write_twice<D: CrashDisk>(rt: &impl Abort, disk: &mut D, calls: u64, pick: u8) {
-    assert_eq!(rt; disk.blocks(), 2);
-    disk.fuse(calls);
-    assert_eq!(rt; disk.write(1, &FIRST), Io::Done);
-    assert_eq!(rt; disk.sync(), Io::Done);
-    assert_eq!(rt; disk.write(1, &SECOND), Io::Done);
-    assert_eq!(rt; disk.stopped(), calls < 3);
-    check_block(rt, disk, 1, &SECOND);
-    disk.crash(pick);
-    assert!(rt; !disk.stopped());
-}
-
-#[test]
-fn a_crash_leaves_what_the_pick_says(rt: HostRuntime) {
-    let table = [
-        // The fuse lets so many calls pass; the block under picks 0 to 3.
-        (0, [(0, 0), (0, 0), (0, 0), (0, 0)]),
-        (1, [(0, 0), (1, 1), (0xa5, 0xa5), (1, 0)]),
-        (2, [(1, 1), (1, 1), (1, 1), (1, 1)]),
-        (3, [(1, 1), (2, 2), (0xa5, 0xa5), (2, 1)]),
-    ];
-    for (calls, images) in table {
-        for (pick, (front, back)) in (0u8..4).zip(images) {
-            let mut disk = MemoryDisk::new(rt.alloc(), 2, Vec::new(rt.alloc()));
-            write_twice(&rt, &mut disk, calls, pick);
-            check_block(&rt, &mut disk, 0, &[0; 4096]);
-            check_block(&rt, &mut disk, 1, &halves(front, back));
-            // What the crash left is safe: it is left by the next crash too.
-            disk.crash(2);
-            check_block(&rt, &mut disk, 1, &halves(front, back));
-        }
-    }
-}
-
-#[test]
-fn planned_calls_fail(rt: HostRuntime) -> Result<(), Fail> {
-    let mut disk = MemoryDisk::new(rt.alloc(), 2, vec![in rt.alloc(); 2, 4, 5]?);
-    let mut block = SECOND;
-    assert_eq!(rt; disk.write(0, &FIRST), Io::Done);
-    assert_eq!(rt; disk.write(1, &FIRST), Io::Failed);
-    check_block(&rt, &mut disk, 0, &FIRST);
-    assert_eq!(rt; disk.read(0, &mut block), Io::Failed);
-    assert_eq!(rt; disk.sync(), Io::Failed);
-    let counts = Counts {
-        reads: 2,
-        writes: 2,
-        syncs: 1,
-    };
-    assert_eq!(rt; disk.counts(), counts);
-    assert_eq!(rt; disk.starved(), 0);
-    // The sync failed, so the block that was written is open.
-    disk.crash(0);
-    check_block(&rt, &mut disk, 0, &[0; 4096]);
-    check_block(&rt, &mut disk, 1, &[0; 4096]);
+fn blocks<D: Disk>(disk: &D, text: &mut String) -> Mem<()> {
+    next(text)?;
+    write!(text, "{} blocks", disk.blocks())?;
     Ok(())
 }
 
-#[test]
-fn a_fuse_counts_calls(rt: HostRuntime) {
-    assert_eq!(rt; Fuse::Unset.burn(), Fuse::Unset);
-    assert_eq!(rt; Fuse::Unset.set(1).burn(), Fuse::Burning(0));
-    assert_eq!(rt; Fuse::Burning(0).burn().burn().set(7), Fuse::Out);
-    assert!(rt; Fuse::Out.is_out() && !Fuse::Burning(0).is_out());
+fn stopped<D: CrashDisk>(disk: &D, text: &mut String) -> Mem<()> {
+    tell(text, if disk.stopped() { "stopped" } else { "runs" })
 }
 
-#[test]
-fn a_file_keeps_its_blocks(rt: HostRuntime) -> Result<(), Fail> {
-    let path = env::temp_dir(&rt)?.join(rt.alloc(), "nfscopy-file-disk-test")?;
-    let file = OpenOptions::new()
-        .read(true)
-        .write(true)
-        .create(true)
-        .truncate(true)
-        .open(&rt, &path)?;
-    file.set_len(3 * 4096 + 5)?;
-    let len = file.metadata()?.len();
-    let mut disk = FileDisk::new(file, len);
-    assert_eq!(rt; disk.blocks(), 3);
-    disk.fuse(2);
-    assert_eq!(rt; disk.write(1, &FIRST), Io::Done);
-    assert_eq!(rt; disk.sync(), Io::Done);
-    assert!(rt; !disk.stopped());
-    assert_eq!(rt; disk.write(2, &SECOND), Io::Done);
-    assert!(rt; disk.stopped());
-    disk.crash(0);
-    assert!(rt; !disk.stopped());
-    check_block(&rt, &mut disk, 0, &[0; 4096]);
-    check_block(&rt, &mut disk, 1, &FIRST);
-    check_block(&rt, &mut disk, 2, &SECOND);
-    let bytes = fs::read(&rt, &path)?;
-    assert_eq!(rt; bytes.len(), 3 * 4096 + 5);
-    assert_eq!(rt; &bytes[4096..8192], FIRST.as_slice());
-    assert_eq!(rt; &bytes[8192..12288], SECOND.as_slice());
-    fs::remove_file(&rt, &path)?;
+fn put<D: Disk>(disk: &mut D, at: u32, block: Block, text: &mut String) -> Mem<()> {
+    if u64::from(at) >= disk.blocks() {
+        return tell(text, "no block");
+    }
+    told(text, disk.write(u64::from(at), &block))
+}
+
+fn get<D: Disk>(disk: &mut D, at: u32, text: &mut String) -> Mem<()> {
+    match block_at(disk, at) {
+        Some(block) => tell_rows(text, &block),
+        None => tell(text, "unread"),
+    }
+}
+
+/// A block, where it is read.
+fn block_at<D: Disk>(disk: &mut D, at: u32) -> Option<Block> {
+    if u64::from(at) >= disk.blocks() {
+        return None;
+    }
+    let mut block = [0xee; 4096];
+    match disk.read(u64::from(at), &mut block) {
+        Io::Done => Some(block),
+        Io::Failed => None,
+    }
+}
+
+fn patch<D: Disk>(disk: &mut D, at: u32, words: &[&str], text: &mut String) -> Mem<()> {
+    match block_at(disk, at) {
+        Some(block) => put(disk, at, patched(block, words), text),
+        None => tell(text, "unread"),
+    }
+}
+
+/// A block with the bytes of the words from the fourth on, at the place that the third one names.
+fn patched(mut block: Block, words: &[&str]) -> Block {
+    let place = number(words, 2) as usize;
+    for at in 3..words.len() {
+        if let Some(found) = block.get_mut(place.saturating_add(at - 3)) {
+            *found = byte(words, at);
+        }
+    }
+    block
+}
+
+/// The calls of a disk in memory besides these: `counts`, of its reads, writes and syncs and of those that wanted memory,
+/// and `faults`.
+pub fn on_disk(disk: &mut BlindDisk, words: &[&str], text: &mut String) -> Mem<()> {
+    match word(words, 0) {
+        "counts" => counts(disk, text),
+        "faults" => faults(disk, text),
+        _ => on_any(disk, words, text),
+    }
+}
+
+fn counts(disk: &BlindDisk, text: &mut String) -> Mem<()> {
+    next(text)?;
+    let counts = disk.counts();
+    let starved = disk.starved();
+    write!(text, "{} {} {}", counts.reads, counts.writes, counts.syncs)?;
+    write!(text, " {starved}")?;
+    Ok(())
+}
+
+fn faults(disk: &BlindDisk, text: &mut String) -> Mem<()> {
+    next(text)?;
+    write!(text, "{} faults", disk.faults())?;
     Ok(())
 }
