@@ -13,17 +13,22 @@ pub struct CutLink {
     pub most: usize,
 }
 
-// A link that gives these bytes, and whose calls with these numbers fail.
+// A link that gives these bytes, and whose call with the one number fails to read, with the other one to write.
 pub fn cut_link(
     alloc: Global,
     bytes: Vec<u8>,
     most: usize,
-    read_fails: u64,
-    write_fails: u64,
+    (read_fails, write_fails): (u64, u64),
 ) -> Mem<CutLink> {
+    let source = MemSource::new(bytes, vec![in alloc; read_fails]?);
+    joined(alloc, source, write_fails, most)
+}
+
+fn joined(alloc: Global, source: MemSource, write_fails: u64, most: usize) -> Mem<CutLink> {
+    let failing = vec![in alloc; write_fails]?;
     Ok(CutLink {
-        source: MemSource::new(bytes, vec![in alloc; read_fails]?),
-        sink: MemSink::new(alloc, vec![in alloc; write_fails]?),
+        source,
+        sink: MemSink::new(alloc, failing),
         most,
     })
 }

@@ -1,40 +1,45 @@
 //! Draws: by count, and from memory.
 
+use crate::told::tell_hex;
 use outcome::Mem;
 use std::alloc::Global;
 use std::fmt::Write;
 use streams::{CountDraws, Drawn, Draws, MemDraws};
 
 /// So many draws, in hex, as a generic caller makes them.
-fn drawn<W: Draws>(alloc: Global, draws: &mut W, times: u32) -> Mem<String> {
-    let mut text = String::new(alloc);
+fn drawn<W: Draws>(draws: &mut W, times: u32, text: &mut String) -> Mem<()> {
     for _ in 0..times {
-        match draws.draw() {
-            Drawn::Got(bytes) => {
-                for byte in bytes {
-                    write!(text, "{byte:02x}")?;
-                }
-            }
-            Drawn::Failed => write!(text, "failed")?,
-        }
-        write!(text, "; ")?;
+        tell_drawn(draws.draw(), text)?;
     }
-    Ok(text)
+    Ok(())
+}
+
+fn tell_drawn(drawn: Drawn, text: &mut String) -> Mem<()> {
+    match drawn {
+        Drawn::Got(bytes) => tell_hex(text, &bytes)?,
+        Drawn::Failed => text.push_str("failed")?,
+    }
+    text.push_str("; ")?;
+    Ok(())
 }
 
 /// The digests of a counter.
-pub fn digests(alloc: Global, times: u32) -> Mem<String> {
+pub fn digests(times: u32, text: &mut String) -> Mem<()> {
     let mut draws = CountDraws::new();
-    let mut text = drawn(alloc, &mut draws, times)?;
+    drawn(&mut draws, times, text)?;
     write!(text, "count {}", draws.count())?;
-    Ok(text)
+    Ok(())
 }
 
 /// Draws from two that lie ready, ones and twos, where the call with a number fails.
-pub fn in_memory(alloc: Global, fails: u32, times: u32) -> Mem<String> {
+pub fn in_memory(alloc: Global, fails: u32, times: u32, text: &mut String) -> Mem<()> {
     let ready = vec![in alloc; [1; 32], [2; 32]]?;
-    let mut draws = MemDraws::new(ready, vec![in alloc; u64::from(fails)]?);
-    let mut text = drawn(alloc, &mut draws, times)?;
+    let failing = vec![in alloc; u64::from(fails)]?;
+    tell_draws(MemDraws::new(ready, failing), times, text)
+}
+
+fn tell_draws(mut draws: MemDraws, times: u32, text: &mut String) -> Mem<()> {
+    drawn(&mut draws, times, text)?;
     write!(text, "calls {} left {}", draws.calls(), draws.left().len())?;
-    Ok(text)
+    Ok(())
 }

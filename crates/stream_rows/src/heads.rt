@@ -1,76 +1,93 @@
 //! Heads of messages.
 
+use crate::told::Fronts;
 use outcome::Mem;
 use rpc_msg::{CallHead, ReplyHead, RpcFault, read_call, read_gss_cred, read_reply};
 use std::alloc::Global;
 use std::fmt::Write;
 use wire_xdr::BadXdr;
 
-fn fault_text(alloc: Global, fault: Option<RpcFault>) -> Mem<String> {
-    Ok(match fault {
-        None => format!(in alloc; "read")?,
-        Some(RpcFault::BadXdr { at }) => format!(in alloc; "refused {at}")?,
-        Some(RpcFault::OtherKind { found }) => format!(in alloc; "other {found}")?,
-    })
+fn tell_fault(fault: Option<RpcFault>, text: &mut String) -> Mem<()> {
+    match fault {
+        None => text.push_str("read")?,
+        Some(RpcFault::BadXdr { at }) => write!(text, "refused {at}")?,
+        Some(RpcFault::OtherKind { found }) => write!(text, "other {found}")?,
+    }
+    Ok(())
 }
 
 /// How each front is read as a call and as a reply: each pair of answers that is another one than the one before, with
 /// the number of bytes at which it begins.
-pub fn fronts(alloc: Global, bytes: &[u8]) -> Mem<String> {
-    let mut text = String::new(alloc);
-    let mut last = String::new(alloc);
+pub fn fronts(alloc: Global, bytes: &[u8], text: &mut String) -> Mem<()> {
+    let mut fronts = Fronts::new(alloc);
     for len in 0..=bytes.len() {
-        let call = fault_text(alloc, read_call(alloc, &bytes[..len])?.err())?;
-        let reply = fault_text(alloc, read_reply(alloc, &bytes[..len])?.err())?;
-        let told = format!(in alloc; "{call}, {reply}")?;
-        if told.as_str() != last.as_str() {
-            write!(text, "{len}: {told}; ")?;
-            last = told;
-        }
+        let told = told_front(alloc, &bytes[..len])?;
+        fronts.tell(text, len, told)?;
     }
-    Ok(text)
+    Ok(())
+}
+
+fn told_front(alloc: Global, bytes: &[u8]) -> Mem<String> {
+    let mut told = String::new(alloc);
+    tell_fault(call_fault(alloc, bytes)?, &mut told)?;
+    told.push_str(", ")?;
+    tell_fault(reply_fault(alloc, bytes)?, &mut told)?;
+    Ok(told)
+}
+
+fn call_fault(alloc: Global, bytes: &[u8]) -> Mem<Option<RpcFault>> {
+    Ok(read_call(alloc, bytes)?.err())
+}
+
+fn reply_fault(alloc: Global, bytes: &[u8]) -> Mem<Option<RpcFault>> {
+    Ok(read_reply(alloc, bytes)?.err())
 }
 
 /// The head of a call and where its body begins.
-pub fn call(alloc: Global, bytes: &[u8]) -> Mem<String> {
-    let (head, body) = match read_call(alloc, bytes)? {
-        Ok(told) => told,
-        Err(fault) => return fault_text(alloc, Some(fault)),
-    };
-    let CallHead {
-        xid,
-        rpcvers,
-        prog,
-        vers,
-        proc,
-        cred,
-        verf,
-    } = head;
-    let flavors = format!(in alloc; "{} {}", cred.flavor, verf.flavor)?;
-    Ok(format!(in alloc; "{xid} {rpcvers} {prog} {vers} {proc} {flavors} body {body}")?)
+pub fn call(alloc: Global, bytes: &[u8], text: &mut String) -> Mem<()> {
+    match read_call(alloc, bytes)? {
+        Ok((head, body)) => tell_call(&head, body, text),
+        Err(fault) => tell_fault(Some(fault), text),
+    }
+}
+
+fn tell_call(head: &CallHead, body: usize, text: &mut String) -> Mem<()> {
+    write!(text, "{} {} {}", head.xid, head.rpcvers, head.prog)?;
+    write!(text, " {} {}", head.vers, head.proc)?;
+    write!(
+        text,
+        " {} {} body {body}",
+        head.cred.flavor, head.verf.flavor
+    )?;
+    Ok(())
 }
 
 /// The head of a reply and where its body begins.
-pub fn reply(alloc: Global, bytes: &[u8]) -> Mem<String> {
-    let (head, body) = match read_reply(alloc, bytes)? {
-        Ok(told) => told,
-        Err(fault) => return fault_text(alloc, Some(fault)),
-    };
-    Ok(match head {
+pub fn reply(alloc: Global, bytes: &[u8], text: &mut String) -> Mem<()> {
+    match read_reply(alloc, bytes)? {
+        Ok((head, body)) => tell_reply(&head, body, text),
+        Err(fault) => tell_fault(Some(fault), text),
+    }
+}
+
+fn tell_reply(head: &ReplyHead, body: usize, text: &mut String) -> Mem<()> {
+    match head {
         ReplyHead::Accepted { xid, verf, stat } => {
-            format!(in alloc; "{xid} {} {stat:?} body {body}", verf.flavor)?
+            write!(text, "{xid} {} {stat:?} body {body}", verf.flavor)?;
         }
-        ReplyHead::Denied { xid, why } => format!(in alloc; "{xid} {why:?} body {body}")?,
-    })
+        ReplyHead::Denied { xid, why } => write!(text, "{xid} {why:?} body {body}")?,
+    }
+    Ok(())
 }
 
 /// A credential of RPCSEC_GSS, which is all of the bytes.
-pub fn cred(alloc: Global, bytes: &[u8]) -> Mem<String> {
+pub fn cred(alloc: Global, bytes: &[u8], text: &mut String) -> Mem<()> {
     match read_gss_cred(alloc, bytes)? {
         Ok(cred) => {
             let words = (cred.version, cred.gss_proc, cred.seq_num, cred.service);
-            Ok(format!(in alloc; "{words:?} {}", cred.handle.len())?)
+            write!(text, "{words:?} {}", cred.handle.len())?;
         }
-        Err(BadXdr { at }) => Ok(format!(in alloc; "refused {at}")?),
+        Err(BadXdr { at }) => write!(text, "refused {at}")?,
     }
+    Ok(())
 }

@@ -11,6 +11,7 @@ mod pump;
 mod records;
 mod sinks;
 mod sources;
+mod told;
 mod watched;
 
 use outcome::Mem;
@@ -23,35 +24,52 @@ struct StreamRows;
 
 impl Rows for StreamRows {
     fn answer(&mut self, alloc: Global, call: &str) -> Mem<String> {
-        let words = words(alloc, call)?;
-        let (first, second) = (number(&words, 1), number(&words, 2));
-        match word(&words, 0) {
-            "takes" => sources::takes(alloc, first, second, &words),
-            "reads" => sources::reads(alloc, first, &words),
-            "interrupted" => sources::interrupted(alloc, first, second),
-            "whole" => sources::whole(alloc, &words),
-            "sink" => sinks::sink(alloc, first, &words),
-            "writer" => sinks::writer(alloc, &words),
-            "digests" => draws::digests(alloc, first),
-            "draws" => draws::in_memory(alloc, first, second),
-            "feed" => records::feed(alloc, first, &bytes(alloc, &words, 2)?),
-            "mark" => records::mark_of(alloc, first),
-            "pump" => pump::pump(alloc, &words),
-            "watch" => watched::watch(alloc, &words),
-            kind => read(alloc, kind, &bytes(alloc, &words, 1)?),
-        }
+        let mut text = String::new(alloc);
+        tell(alloc, call, &mut text)?;
+        Ok(text)
     }
 }
 
-/// What bytes are read as.
-fn read(alloc: Global, kind: &str, bytes: &[u8]) -> Mem<String> {
+/// Tells the answer to a call.
+fn tell(alloc: Global, call: &str, text: &mut String) -> Mem<()> {
+    let words = words(alloc, call)?;
+    let (first, second) = (number(&words, 1), number(&words, 2));
+    match word(&words, 0) {
+        "takes" => sources::takes(alloc, &words, text),
+        "reads" => sources::reads(&words, text),
+        "interrupted" => sources::interrupted(first, second, text),
+        "whole" => sources::whole(alloc, &words, text),
+        "sink" => sinks::sink(alloc, &words, text),
+        "writer" => sinks::writer(&words, text),
+        "digests" => draws::digests(first, text),
+        "draws" => draws::in_memory(alloc, first, second, text),
+        "mark" => records::mark_of(first, text),
+        "pump" => pump::pump(alloc, &words, text),
+        "watch" => watched::watch(alloc, &words, text),
+        "feed" => fed(alloc, first, &words, text),
+        kind => read(alloc, kind, &words, text),
+    }
+}
+
+/// `feed SIZE BYTES`.
+fn fed(alloc: Global, size: u32, words: &[&str], text: &mut String) -> Mem<()> {
+    let bytes = bytes(alloc, words, 2)?;
+    records::feed(alloc, size, &bytes, text)
+}
+
+/// What bytes are read as, `KIND BYTES`.
+fn read(alloc: Global, kind: &str, words: &[&str], text: &mut String) -> Mem<()> {
+    let bytes = bytes(alloc, words, 1)?;
     match kind {
-        "cuts" => records::cuts(alloc, bytes),
-        "fronts" => heads::fronts(alloc, bytes),
-        "call" => heads::call(alloc, bytes),
-        "reply" => heads::reply(alloc, bytes),
-        "cred" => heads::cred(alloc, bytes),
-        _ => Ok(format!(in alloc; "no such call")?),
+        "cuts" => records::cuts(alloc, &bytes, text),
+        "fronts" => heads::fronts(alloc, &bytes, text),
+        "call" => heads::call(alloc, &bytes, text),
+        "reply" => heads::reply(alloc, &bytes, text),
+        "cred" => heads::cred(alloc, &bytes, text),
+        _ => {
+            text.push_str("no such call")?;
+            Ok(())
+        }
     }
 }
 

@@ -3,11 +3,12 @@
 ghost use Rattle.std.specs.Prelude.{⊤};
 
 use crate::cut_link::cut_link;
-use crate::records::record_text;
+use crate::told::tell_record;
 use outcome::Mem;
 use row_text::{bytes, number, word};
 use rpc_msg::{Handler, MemSink, RecordFeed, pump_records};
 use std::alloc::Global;
+use std::fmt::Write;
 use wire_xdr::Octets;
 
 /// Answers each record with one byte, and an empty one with nothing.
@@ -27,23 +28,28 @@ impl Handler for Nine {
 
 /// `pump MOST BUDGET LEFT READ PUT BYTES`, where the calls with the numbers READ and PUT fail and a budget that is no
 /// number is the greatest: how it ended, how many records are left, and what was put.
-pub fn pump(alloc: Global, words: &[&str]) -> Mem<String> {
+pub fn pump(alloc: Global, words: &[&str], text: &mut String) -> Mem<()> {
+    let mut sink = MemSink::new(alloc, vec![in alloc; u64::from(number(words, 5))]?);
+    tell_pumped(alloc, words, &mut sink, text)?;
+    tell_record(text, sink.bytes())
+}
+
+fn tell_pumped(alloc: Global, words: &[&str], sink: &mut MemSink, text: &mut String) -> Mem<()> {
     let most = number(words, 1) as usize;
     let reads = u64::from(number(words, 4));
-    let mut source = cut_link(alloc, bytes(alloc, words, 6)?, most, reads, 0)?;
-    let mut sink = MemSink::new(alloc, vec![in alloc; u64::from(number(words, 5))]?);
+    let mut source = cut_link(alloc, bytes(alloc, words, 6)?, most, (reads, 0))?;
     let mut feed = RecordFeed::new(alloc)?;
     let budget = word(words, 2).parse::<u64>().unwrap_or(u64::MAX);
     let mut left = u64::from(number(words, 3));
     let pumped = pump_records(
         alloc,
         &mut source,
-        &mut sink,
+        sink,
         &mut feed,
         &mut Nine,
         budget,
         &mut left,
     )?;
-    let put = record_text(alloc, sink.bytes())?;
-    Ok(format!(in alloc; "{pumped:?} left {left} put {put}")?)
+    write!(text, "{pumped:?} left {left} put ")?;
+    Ok(())
 }

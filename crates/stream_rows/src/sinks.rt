@@ -1,6 +1,7 @@
 //! Sinks in memory, and writers as sinks.
 
 use outcome::Mem;
+use row_text::number;
 use std::alloc::Global;
 use std::fmt::Write;
 use std::io::Cursor;
@@ -8,40 +9,52 @@ use streams::{MemSink, Sink, Writing, put_all};
 
 /// The puts of the words from a place on, as a generic caller makes them: a word that begins with `+` is put to its
 /// end, and one that begins with `-` once.
-fn puts<K: Sink>(alloc: Global, sink: &mut K, words: &[&str], from: usize) -> Mem<String> {
-    let mut text = String::new(alloc);
+fn puts<K: Sink>(sink: &mut K, words: &[&str], from: usize, text: &mut String) -> Mem<()> {
     for word in words.iter().skip(from) {
         match word.strip_prefix('+') {
-            Some(piece) => match put_all(sink, piece.as_bytes()) {
-                Ok(()) => write!(text, "all; ")?,
-                Err(_) => write!(text, "fault; ")?,
-            },
-            None => {
-                let piece = word.strip_prefix('-').unwrap_or("");
-                write!(text, "{:?}; ", sink.put(piece.as_bytes()))?;
-            }
+            Some(piece) => put_whole(sink, piece.as_bytes(), text)?,
+            None => put_once(sink, word.strip_prefix('-').unwrap_or("").as_bytes(), text)?,
         }
     }
-    Ok(text)
+    Ok(())
+}
+
+fn put_whole<K: Sink>(sink: &mut K, piece: &[u8], text: &mut String) -> Mem<()> {
+    match put_all(sink, piece) {
+        Ok(()) => text.push_str("all; ")?,
+        Err(_) => text.push_str("fault; ")?,
+    }
+    Ok(())
+}
+
+fn put_once<K: Sink>(sink: &mut K, piece: &[u8], text: &mut String) -> Mem<()> {
+    let put = sink.put(piece);
+    write!(text, "{put:?}; ")?;
+    Ok(())
 }
 
 /// `sink FAILS PUT..`: the puts, the bytes that came in, the number of calls, and how often memory was wanted.
-pub fn sink(alloc: Global, fails: u32, words: &[&str]) -> Mem<String> {
-    let mut sink = MemSink::new(alloc, vec![in alloc; u64::from(fails)]?);
-    let mut text = puts(alloc, &mut sink, words, 2)?;
-    for byte in sink.bytes() {
-        write!(text, "{}", char::from(*byte))?;
-    }
+pub fn sink(alloc: Global, words: &[&str], text: &mut String) -> Mem<()> {
+    let mut sink = MemSink::new(alloc, vec![in alloc; u64::from(number(words, 1))]?);
+    puts(&mut sink, words, 2, text)?;
+    tell_letters(sink.bytes(), text)?;
     write!(text, " calls {} starved {}", sink.calls(), sink.starved())?;
-    Ok(text)
+    Ok(())
+}
+
+fn tell_letters(bytes: &[u8], text: &mut String) -> Mem<()> {
+    for byte in bytes {
+        text.push(char::from(*byte))?;
+    }
+    Ok(())
 }
 
 /// `writer PUT..`: a writer with room for five bytes as a sink, its faults, and how far it came.
-pub fn writer(alloc: Global, words: &[&str]) -> Mem<String> {
+pub fn writer(words: &[&str], text: &mut String) -> Mem<()> {
     let mut room = [0u8; 5];
     let mut sink = Writing::new(Cursor::new(room.as_mut_slice()));
-    let mut text = puts(alloc, &mut sink, words, 1)?;
+    puts(&mut sink, words, 1, text)?;
     let faults = sink.faults();
     write!(text, "faults {faults} at {}", sink.into_inner().position())?;
-    Ok(text)
+    Ok(())
 }

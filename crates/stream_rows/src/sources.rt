@@ -8,43 +8,56 @@ use std::io::{self, ErrorKind, Read};
 use streams::{MemSource, Reading, Source, Take, Whole, read_whole};
 
 /// So many takes with a room of four bytes, as a generic caller makes them.
-fn taken<S: Source>(alloc: Global, source: &mut S, times: u32) -> Mem<String> {
-    let mut text = String::new(alloc);
+fn taken<S: Source>(source: &mut S, times: u32, text: &mut String) -> Mem<()> {
     for _ in 0..times {
         let mut room = [0; 4];
-        match source.take(&mut room) {
-            Take::Took(count) => {
-                write!(text, "took")?;
-                for byte in room.iter().take(count) {
-                    write!(text, " {byte}")?;
-                }
-            }
-            Take::End => write!(text, "end")?,
-            Take::Failed => write!(text, "failed")?,
-        }
-        write!(text, "; ")?;
+        let take = source.take(&mut room);
+        tell_take(take, &room, text)?;
     }
-    Ok(text)
+    Ok(())
+}
+
+fn tell_take(take: Take, room: &[u8; 4], text: &mut String) -> Mem<()> {
+    match take {
+        Take::Took(count) => tell_bytes(room, count, text)?,
+        Take::End => text.push_str("end")?,
+        Take::Failed => text.push_str("failed")?,
+    }
+    text.push_str("; ")?;
+    Ok(())
+}
+
+fn tell_bytes(room: &[u8; 4], count: usize, text: &mut String) -> Mem<()> {
+    text.push_str("took")?;
+    for byte in room.iter().take(count) {
+        write!(text, " {byte}")?;
+    }
+    Ok(())
+}
+
+/// A source of these bytes, of which the call with a number fails.
+fn source(alloc: Global, bytes: Vec<u8>, fails: u32) -> Mem<MemSource> {
+    Ok(MemSource::new(bytes, vec![in alloc; u64::from(fails)]?))
 }
 
 /// `takes FAILS TIMES BYTES`: the takes, how many bytes are left and how many calls there were, and what a take
 /// without room answers.
-pub fn takes(alloc: Global, fails: u32, times: u32, words: &[&str]) -> Mem<String> {
-    let mut source = MemSource::new(bytes(alloc, words, 3)?, vec![in alloc; u64::from(fails)]?);
-    let mut text = taken(alloc, &mut source, times)?;
+pub fn takes(alloc: Global, words: &[&str], text: &mut String) -> Mem<()> {
+    let mut source = source(alloc, bytes(alloc, words, 3)?, number(words, 1))?;
+    taken(&mut source, number(words, 2), text)?;
     let (left, calls) = (source.bytes().len(), source.calls());
     let none = source.take(&mut []);
     write!(text, "left {left} calls {calls} {none:?}")?;
-    Ok(text)
+    Ok(())
 }
 
 /// `reads TIMES FIRST SECOND`: a reader of two pieces as a source, and its faults.
-pub fn reads(alloc: Global, times: u32, words: &[&str]) -> Mem<String> {
+pub fn reads(words: &[&str], text: &mut String) -> Mem<()> {
     let (first, second) = (word(words, 2).as_bytes(), word(words, 3).as_bytes());
     let mut source = Reading::new(first.chain(second));
-    let mut text = taken(alloc, &mut source, times)?;
+    taken(&mut source, number(words, 1), text)?;
     write!(text, "faults {}", source.faults())?;
-    Ok(text)
+    Ok(())
 }
 
 /// A reader that is interrupted so many times, and then is at its end.
@@ -64,27 +77,37 @@ impl Read for Stutters {
 }
 
 /// So many takes from a reader that is interrupted so many times, its faults, and the interruptions left.
-pub fn interrupted(alloc: Global, interruptions: u32, times: u32) -> Mem<String> {
+pub fn interrupted(interruptions: u32, times: u32, text: &mut String) -> Mem<()> {
     let mut source = Reading::new(Stutters {
         times: interruptions,
     });
-    let mut text = taken(alloc, &mut source, times)?;
+    taken(&mut source, times, text)?;
     let faults = source.faults();
     write!(text, "faults {faults} left {}", source.into_inner().times)?;
-    Ok(text)
+    Ok(())
 }
 
 /// `whole LIMIT FAILS BYTES`: how a whole text is read.
-pub fn whole(alloc: Global, words: &[&str]) -> Mem<String> {
-    let limit = number(words, 1) as usize;
-    let fails = u64::from(number(words, 2));
-    let text = bytes(alloc, words, 3)?;
-    let copy = text.clone()?;
-    let mut source = MemSource::new(text, vec![in alloc; fails]?);
-    match read_whole(alloc, &mut source, limit)? {
-        Whole::Text(read) if read.as_slice() == copy.as_slice() => Ok(format!(in alloc; "text")?),
-        Whole::Text(_) => Ok(format!(in alloc; "another text")?),
-        Whole::TooMuch => Ok(format!(in alloc; "too much")?),
-        Whole::Failed => Ok(format!(in alloc; "failed")?),
+pub fn whole(alloc: Global, words: &[&str], text: &mut String) -> Mem<()> {
+    let wanted = bytes(alloc, words, 3)?;
+    let whole = read(alloc, words)?;
+    text.push_str(whole_word(&whole, &wanted))?;
+    Ok(())
+}
+
+fn read(alloc: Global, words: &[&str]) -> Mem<Whole> {
+    let mut source = source(alloc, bytes(alloc, words, 3)?, number(words, 2))?;
+    read_whole(alloc, &mut source, number(words, 1) as usize)
+}
+
+fn whole_word(whole: &Whole, wanted: &[u8]) -> &'static str {
+    match whole {
+        Whole::Text(read) => text_word(read.as_slice() == wanted),
+        Whole::TooMuch => "too much",
+        Whole::Failed => "failed",
     }
+}
+
+fn text_word(same: bool) -> &'static str {
+    if same { "text" } else { "another text" }
 }
