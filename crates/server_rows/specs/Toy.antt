@@ -22,7 +22,6 @@ use Rattle.nfs_base.specs.declared.cause.PrivCause.TheVariants as refusals
 use Rattle.nfs_base.specs.declared.net_loc.NetLoc.TheVariants.{Name}
 use Rattle.nfs_base.specs.declared.state_id.StateId.{StateId}
 use Rattle.nfs_base.specs.declared.state_id.TheConstants.StateId.{COPY_NOTIFY}
-use Rattle.nfs_base.specs.declared.status.Status.{Status}
 use Rattle.nfs_base.specs.declared.status.TheConstants.Status.{OK, ACCESS, NOTSUPP}
 use Rattle.outbox.specs.declared.note.Note.{Note}
 use Rattle.outbox.specs.declared.note.Note.TheVariants as notes

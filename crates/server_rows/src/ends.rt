@@ -39,13 +39,10 @@ pub struct Ends {
 
 impl Ends {
     /// `server FILES BLOCKS CALL`: a server over a new volume, whose disk fails from that call on. Nobody has called yet.
-    pub fn new(alloc: Global, words: &[&str]) -> Mem<Option<Ends>> {
+    pub fn new(alloc: Global, words: &[&str]) -> Mem<Ends> {
         let fails = word(words, 3).parse::<u64>().unwrap_or(u64::MAX);
-        let Some(server) = ToyServer::new(alloc, number(words, 1), number(words, 2), fails)? else {
-            return Ok(None);
-        };
-        Ok(Some(Ends {
-            server,
+        Ok(Ends {
+            server: ToyServer::new(alloc, number(words, 1), number(words, 2), fails)?,
             count: 0,
             second: 0,
             session: 1,
@@ -53,7 +50,7 @@ impl Ends {
             last: Octets::from_vec(Vec::new(alloc)),
             awaits: Awaits::Record,
             out: None,
-        }))
+        })
     }
 
     /// The answer to a line. What a record gave is kept until it is told, so that a line that is tried once more sends none

@@ -38,7 +38,7 @@ impl ServerRows {
         let words = words(alloc, line)?;
         let words = words.as_slice();
         if word(words, 0) == "server" {
-            self.ends = Ends::new(alloc, words)?;
+            self.ends = Some(Ends::new(alloc, words)?);
         }
         match &mut self.ends {
             Some(ends) => ends.told(alloc, words, round),

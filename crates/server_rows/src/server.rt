@@ -16,7 +16,7 @@ use gss_ctx::Contexts;
 use gss_mech::Realm;
 use nfs_base::End;
 use outbox::Outbox;
-use outcome::Mem;
+use outcome::{Mem, NoMemory};
 use sess_slots::Sessions;
 use session_server::{Host, MOST_STEPS};
 use state_ids::Opens;
@@ -37,19 +37,15 @@ pub struct ToyServer {
 
 impl ToyServer {
     /// A server over a new volume of so many files of so many blocks, whose disk fails from its call of this number on.
-    /// None where there is no such volume.
-    pub fn new(alloc: Global, files: u32, blocks: u32, fails: u64) -> Mem<Option<ToyServer>> {
+    pub fn new(alloc: Global, files: u32, blocks: u32, fails: u64) -> Mem<ToyServer> {
         let disk = MemoryDisk::new(alloc, 40_000, failing(alloc, fails)?);
-        let Some(volume) = volume(alloc, disk, files.clamp(1, 64), blocks.clamp(1, 256))? else {
-            return Ok(None);
-        };
         let files = Files {
-            volume,
+            volume: volume(alloc, disk, files.clamp(1, 64), blocks.clamp(1, 256))?,
             opens: Opens::new(alloc, 1)?,
             extra: Toy::new(realm(alloc)?),
         };
         let sessions = Sessions::new(alloc, 1)?;
-        Ok(Some(ToyServer {
+        Ok(ToyServer {
             draws: draws(alloc, 0)?,
             host: Host {
                 contexts: Contexts::new(alloc, End::Source, 1)?,
@@ -57,7 +53,7 @@ impl ToyServer {
                 second: 0,
                 steps: 0,
             },
-        }))
+        })
     }
 
     /// A record comes on connection 5: one step. None where the server makes no more steps.
@@ -110,8 +106,8 @@ fn realm(alloc: Global) -> Mem<Realm> {
     Realm::new(alloc, &[user, dest])
 }
 
-/// A new volume, opened. None where the disk has no room for it.
-fn volume<D: Disk + Drop>(alloc: Global, disk: D, files: u32, blocks: u32) -> Mem<Option<Volume<D>>>
+/// A new volume, opened. A disk in memory with this much room fails so early only where it may not grow.
+fn volume<D: Disk + Drop>(alloc: Global, disk: D, files: u32, blocks: u32) -> Mem<Volume<D>>
     requires some_files { 1 ≤ files }
     requires few_files { files ≤ 64 }
     requires some_blocks { 1 ≤ blocks }
@@ -119,14 +115,17 @@ fn volume<D: Disk + Drop>(alloc: Global, disk: D, files: u32, blocks: u32) -> Me
 {
     match Volume::format(disk, files, blocks, 7)? {
         Ok(disk) => open(alloc, disk),
-        Err(_) => Ok(None),
+        Err(_) => Err(NoMemory),
     }
 }
 
-fn open<D: Disk + Drop>(alloc: Global, disk: D) -> Mem<Option<Volume<D>>>
+fn open<D: Disk + Drop>(alloc: Global, disk: D) -> Mem<Volume<D>>
     requires { D.Told → (image : Image) → MayLeave (present (D.timeline disk)) image → CanBeOpened (D.size disk) image }
 {
-    Ok(Volume::open(alloc, disk)?.ok())
+    match Volume::open(alloc, disk)? {
+        Ok(volume) => Ok(volume),
+        Err(_) => Err(NoMemory),
+    }
 }
 
 /// The numbers of the calls of the disk that fail.
