@@ -1,12 +1,17 @@
 //! A recorded callback of the destination, and the client's reply to it.
 
-use crate::told::{add_where, bytes_at, part};
+ghost use Rattle.std.specs.Prelude.{IfOk};
+ghost use Rattle.rpc_msg.specs.Heads.{call};
+
+use crate::told::{bytes_at, part, tell_where};
 use gss_ctx::{Admit, Contexts};
 use gss_mech::{Mechanism, Realm};
-use nfs_base::End;
+use nfs_base::{End, Seal};
+use outcome::Mem;
 use rpc_msg::read_call;
 use std::alloc::Global;
-use two_ends::{Wrong, realm};
+use std::fmt::Write;
+use two_ends::{Call, Wrong, realm};
 
 /// The key of the client's context at the destination, by the tokens of INIT and its reply.
 fn key_at_dest(mech: &Realm, call: &[u8], reply: &[u8]) -> Result<[u8; 32], Wrong> {
@@ -38,17 +43,50 @@ fn add(
     }
 }
 
+/// The client's contexts for callbacks: of `source`, and of `dest` with this key.
+fn contexts(alloc: Global, mech: &Realm, key: &[u8; 32]) -> Result<Contexts<u8>, Wrong> {
+    let mut contexts = Contexts::new(alloc, End::Client, 0)?;
+    add(alloc, &mut contexts, mech, (1, b"source", &[0; 32]))?;
+    add(alloc, &mut contexts, mech, (2, b"dest", key))?;
+    Ok(contexts)
+}
+
 /// `callback INIT REPLY CALL REPLY`: the destination's callback under context 2 of the client, whose key is that of the
 /// first exchange, and the reply to it by the call that seals at once.
-pub fn callback(alloc: Global, words: &[&str]) -> Result<String, Wrong> {
+pub fn callback(alloc: Global, words: &[&str], text: &mut String) -> Result<(), Wrong> {
     let mech = realm(alloc)?;
-    let (init, made) = (bytes_at(alloc, words, 1)?, bytes_at(alloc, words, 2)?);
-    let key = key_at_dest(&mech, &init, &made)?;
-    let mut contexts = Contexts::new(alloc, End::Client, 0)?;
-    add(alloc, &mut contexts, &mech, (1, b"source", &[0; 32]))?;
-    add(alloc, &mut contexts, &mech, (2, b"dest", &key))?;
+    let key = key_of(alloc, &mech, words)?;
+    let mut contexts = contexts(alloc, &mech, &key)?;
     let (sent, answered) = (bytes_at(alloc, words, 3)?, bytes_at(alloc, words, 4)?);
-    answer(alloc, &mech, &mut contexts, &sent, &answered)
+    answer(alloc, &mech, &mut contexts, (&sent, &answered), text)
+}
+
+fn key_of(alloc: Global, mech: &Realm, words: &[&str]) -> Result<[u8; 32], Wrong> {
+    let (init, made) = (bytes_at(alloc, words, 1)?, bytes_at(alloc, words, 2)?);
+    key_at_dest(mech, &init, &made)
+}
+
+/// The call that a record is, where it is admitted.
+fn admitted(
+    alloc: Global,
+    mech: &Realm,
+    contexts: &mut Contexts<u8>,
+    sent: &[u8],
+) -> Result<Call, Wrong>
+    ensures { IfOk result (λ told. call.Fits told.head) }
+{
+    let Ok((head, body)) = read_call(alloc, sent)? else {
+        return Err(Wrong::Lacks("a call"));
+    };
+    match contexts.admit(alloc, &head, sent, body, 0, mech)? {
+        Admit::Admitted { number, seq, args } => Ok(Call {
+            head,
+            number,
+            seq,
+            args,
+        }),
+        _ => Err(Wrong::Lacks("an admission")),
+    }
 }
 
 /// The seal of the callback, and whether its arguments and the reply are those of the records.
@@ -56,26 +94,40 @@ fn answer(
     alloc: Global,
     mech: &Realm,
     contexts: &mut Contexts<u8>,
-    sent: &[u8],
+    (sent, answered): (&[u8], &[u8]),
+    text: &mut String,
+) -> Result<(), Wrong> {
+    let told = admitted(alloc, mech, contexts, sent)?;
+    if contexts.context(told.number).is_none() {
+        return Err(Wrong::Lacks("a context"));
+    }
+    tell_seal(contexts.seal(told.number, told.seq), text)?;
+    let same = told.args.as_slice() == part(sent, 108, 228)?;
+    tell_where(same, text, "its arguments; ")?;
+    let same = is_reply(alloc, mech, contexts, &told, answered)?;
+    Ok(tell_where(same, text, "the reply")?)
+}
+
+fn tell_seal(seal: Seal, text: &mut String) -> Mem<()> {
+    write!(text, "{:?} {} ", seal.owner, seal.boot)?;
+    write!(text, "{} {}; ", seal.number, seal.seq)?;
+    Ok(())
+}
+
+/// Whether what the client seals, where the result is that of a reply, is that reply.
+fn is_reply(
+    alloc: Global,
+    mech: &Realm,
+    contexts: &Contexts<u8>,
+    told: &Call,
     answered: &[u8],
-) -> Result<String, Wrong> {
-    let Ok((head, body)) = read_call(alloc, sent)? else {
-        return Err(Wrong::Lacks("a call"));
-    };
-    let admit = contexts.admit(alloc, &head, sent, body, 0, mech)?;
-    let Admit::Admitted { number, seq, args } = admit else {
-        return Err(Wrong::Lacks("an admission"));
-    };
+) -> Result<bool, Wrong>
+    requires { call.Fits told.now.head }
+{
     let given = part(answered, 64, 124)?;
-    if given.len() > 60 || contexts.context(number).is_none() {
+    if given.len() > 60 || contexts.context(told.number).is_none() {
         return Err(Wrong::Lacks("a short result of a context"));
     }
-    let seal = contexts.seal(number, seq);
-    let (owner, boot) = (seal.owner, seal.boot);
-    let mut text = format!(in alloc; "{owner:?} {boot} {} {}; ", seal.number, seal.seq)?;
-    let same = args.as_slice() == part(sent, 108, 228)?;
-    add_where(same, &mut text, "its arguments; ")?;
-    let sealed = contexts.seal_reply(alloc, number, seq, &head, given, mech)?;
-    add_where(sealed.as_slice() == answered, &mut text, "the reply")?;
-    Ok(text)
+    let sealed = contexts.seal_reply(alloc, told.number, told.seq, &told.head, given, mech)?;
+    Ok(sealed.as_slice() == answered)
 }

@@ -1,85 +1,93 @@
 //! The mechanism by itself.
 
-use crate::told::{Answers, add_where, bytes_at, hex_of, turned};
-use gss_mech::{ACCEPTOR, INITIATOR, Mechanism, Realm, hmac_sha256};
+use crate::told::{Places, bytes_at, tell, tell_hex, tell_where, turned};
+use gss_mech::{ACCEPTOR, Accepted, INITIATOR, Mechanism, Realm, hmac_sha256};
 use outcome::Mem;
 use row_text::word;
 use std::alloc::Global;
 use wire_xdr::Octets;
 
 /// `hmac KEY TEXT`: the code.
-pub fn hmac(alloc: Global, words: &[&str]) -> Mem<String> {
-    let (key, text) = (bytes_at(alloc, words, 1)?, bytes_at(alloc, words, 2)?);
+pub fn hmac(alloc: Global, words: &[&str], text: &mut String) -> Mem<()> {
+    let (key, bytes) = (bytes_at(alloc, words, 1)?, bytes_at(alloc, words, 2)?);
     if key.len() > 64 {
-        return Ok(format!(in alloc; "a long key")?);
+        return tell(text, "a long key");
     }
-    hex_of(alloc, &hmac_sha256(&key, &text))
+    tell_hex(text, &hmac_sha256(&key, &bytes))
 }
 
 /// A realm of `user` alone, whose key repeats the byte 1.
 fn realm_of_user(alloc: Global) -> Mem<Realm> {
-    Realm::new(alloc, &[(Octets::from_slice(alloc, b"user")?, [1; 32])])
+    let user = Octets::from_slice(alloc, b"user")?;
+    Realm::new(alloc, &[(user, [1; 32])])
 }
 
 /// `ends owned` and `ends borrowed`: what both ends of a context come to, of any mechanism.
-pub fn ends(alloc: Global, words: &[&str]) -> Mem<String> {
+pub fn ends(alloc: Global, words: &[&str], text: &mut String) -> Mem<()> {
     let realm = realm_of_user(alloc)?;
     match word(words, 1) {
-        "owned" => both_ends(alloc, realm),
-        _ => both_ends(alloc, &realm),
+        "owned" => both_ends(alloc, realm, text),
+        _ => both_ends(alloc, &realm, text),
     }
 }
 
 /// Makes a context of `user` as both of its ends do, and tells each thing that is as it is to be.
-fn both_ends<M: Mechanism>(alloc: Global, mech: M) -> Mem<String> {
-    let Some(token) = mech.start(alloc, b"user", &[7; 32])? else {
-        return Ok(format!(in alloc; "no principal")?);
+fn both_ends<M: Mechanism>(alloc: Global, mech: M, text: &mut String) -> Mem<()> {
+    match mech.start(alloc, b"user", &[7; 32])? {
+        Some(token) => accepted(alloc, &mech, token.as_slice(), text),
+        None => tell(text, "no principal"),
+    }
+}
+
+fn accepted<M: Mechanism>(alloc: Global, mech: &M, token: &[u8], text: &mut String) -> Mem<()> {
+    let Some(taken) = mech.accept(alloc, token, &[8; 32])? else {
+        return tell(text, "no token");
     };
-    let Some(taken) = mech.accept(alloc, token.as_slice(), &[8; 32])? else {
-        return Ok(format!(in alloc; "no token")?);
-    };
-    let mut text = String::new(alloc);
+    tell_taken(mech, &taken, text)?;
+    let none = mech.start(alloc, b"dest", &[7; 32])?.is_none();
+    tell_where(none, text, "none of another principal; ")?;
+    apart(mech, &taken.key, text)
+}
+
+fn tell_taken<M: Mechanism>(mech: &M, taken: &Accepted, text: &mut String) -> Mem<()> {
     let same = taken.principal.as_slice() == b"user".as_slice();
-    add_where(same, &mut text, "its principal; ")?;
+    tell_where(same, text, "its principal; ")?;
     let back = taken.token.as_slice();
     let same = mech.finish(b"user", &[7; 32], back) == Some(taken.key);
-    add_where(same, &mut text, "one key; ")?;
+    tell_where(same, text, "one key; ")?;
     let none = mech.finish(b"user", &[9; 32], back).is_none();
-    add_where(none, &mut text, "none by another nonce; ")?;
-    let none = mech.start(alloc, b"dest", &[7; 32])?.is_none();
-    add_where(none, &mut text, "none of another principal; ")?;
-    apart(&mech, &taken.key, &mut text)?;
-    Ok(text)
+    tell_where(none, text, "none by another nonce; ")
 }
 
 /// That codes of the two sides differ, and keys of two kinds.
 fn apart<M: Mechanism>(mech: &M, key: &[u8; 32], text: &mut String) -> Mem<()> {
     let two = mech.mic(key, INITIATOR, b"text") != mech.mic(key, ACCEPTOR, b"text");
-    add_where(two, text, "two sides; ")?;
+    tell_where(two, text, "two sides; ")?;
     let two = mech.derive(key, 4, &[0; 8]) != mech.derive(key, 5, &[0; 8]);
-    add_where(two, text, "two kinds; ")
+    tell_where(two, text, "two kinds; ")
 }
 
 /// `tokens TOKEN`: whether a token is taken with each of its bytes changed, and with one byte behind its end; at the last
 /// place, whether it is taken as it stands.
-pub fn tokens(alloc: Global, words: &[&str]) -> Mem<String> {
+pub fn tokens(alloc: Global, words: &[&str], text: &mut String) -> Mem<()> {
     let realm = realm_of_user(alloc)?;
-    let mut token = bytes_at(alloc, words, 1)?;
-    let len = token.len();
-    let mut answers = Answers::new(alloc);
-    for at in 0..len {
-        let token = turned(alloc, &token, at, 1)?;
-        answers.add(at, taken(alloc, &realm, &token)?)?;
+    let token = bytes_at(alloc, words, 1)?;
+    let mut places = Places::new(alloc);
+    for at in 0..=token.len() {
+        let answer = taken(alloc, &realm, turned(alloc, &token, at, 1)?)?;
+        places.tell(text, at, answer)?;
     }
-    answers.add(len, taken(alloc, &realm, &token)?)?;
-    token.push(0)?;
-    answers.add(token.len(), taken(alloc, &realm, &token)?)?;
-    Ok(answers.into_text())
+    let len = token.len().saturating_add(1);
+    places.tell(text, len, taken(alloc, &realm, longer(token)?)?)
 }
 
-fn taken(alloc: Global, realm: &Realm, token: &[u8]) -> Mem<String> {
-    match realm.accept(alloc, token, &[0; 32])? {
-        Some(_) => Ok(format!(in alloc; "taken")?),
-        None => Ok(format!(in alloc; "refused")?),
-    }
+fn longer(mut token: Vec<u8>) -> Mem<Vec<u8>> {
+    token.push(0)?;
+    Ok(token)
+}
+
+fn taken(alloc: Global, realm: &Realm, token: Vec<u8>) -> Mem<String> {
+    let is_taken = realm.accept(alloc, &token, &[0; 32])?.is_some();
+    let answer = if is_taken { "taken" } else { "refused" };
+    Ok(String::from_str(alloc, answer)?)
 }

@@ -6,12 +6,30 @@ use std::alloc::Global;
 use std::fmt::Write;
 use two_ends::Wrong;
 
-/// Bytes in hex where they are few, and else how many there are.
-pub fn hex_of(alloc: Global, bytes: &[u8]) -> Mem<String> {
+/// Tells bytes in hex where they are few, and else how many there are.
+pub fn tell_hex(text: &mut String, bytes: &[u8]) -> Mem<()> {
     if bytes.len() > 400 {
-        return Ok(format!(in alloc; "{} bytes", bytes.len())?);
+        write!(text, "{} bytes", bytes.len())?;
+        return Ok(());
     }
-    Ok(hex::encode(alloc, bytes)?)
+    for byte in bytes {
+        write!(text, "{byte:02x}")?;
+    }
+    Ok(())
+}
+
+/// Tells a text.
+pub fn tell(text: &mut String, what: &str) -> Mem<()> {
+    text.push_str(what)?;
+    Ok(())
+}
+
+/// Tells a text where something holds.
+pub fn tell_where(holds: bool, text: &mut String, what: &str) -> Mem<()> {
+    if holds {
+        text.push_str(what)?;
+    }
+    Ok(())
 }
 
 /// The bytes of the word at a place.
@@ -19,41 +37,27 @@ pub fn bytes_at(alloc: Global, words: &[&str], at: usize) -> Mem<Vec<u8>> {
     bytes(alloc, &[word(words, at)], 0)
 }
 
-/// Answers of one call at many places: each that is another one than the one before, with its place.
+/// The answers of one call at many places, of which each is told that is another one than the one before.
 #[derive(Drop)]
-pub struct Answers {
-    text: String,
+pub struct Places {
     last: String,
 }
 
-impl Answers {
-    pub fn new(alloc: Global) -> Answers {
-        Answers {
-            text: String::new(alloc),
+impl Places {
+    pub fn new(alloc: Global) -> Places {
+        Places {
             last: String::new(alloc),
         }
     }
 
-    /// Adds the answer at a place.
-    pub fn add(&mut self, at: usize, answer: String) -> Mem<()> {
+    /// Tells the answer at a place.
+    pub fn tell(&mut self, text: &mut String, at: usize, answer: String) -> Mem<()> {
         if answer.as_str() != self.last.as_str() {
-            write!(self.text, "{at}: {answer}; ")?;
+            write!(text, "{at}: {answer}; ")?;
             self.last = answer;
         }
         Ok(())
     }
-
-    pub fn into_text(self) -> String {
-        self.text
-    }
-}
-
-/// Adds a text where something holds.
-pub fn add_where(holds: bool, text: &mut String, what: &str) -> Mem<()> {
-    if holds {
-        text.push_str(what)?;
-    }
-    Ok(())
 }
 
 /// The bytes between two places.
