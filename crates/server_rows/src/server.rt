@@ -1,6 +1,6 @@
 //! The server.
 
-ghost use Rattle.std.specs.Prelude.{◌≤◌, ◌≡◌, IfOk};
+ghost use Rattle.std.specs.Prelude.{◌≡◌, ◌≤◌, IfOk};
 ghost use Rattle.block_file.specs.Opened.{CanBeOpened};
 ghost use Rattle.disk_model.specs.Disk.{Image, MayLeave};
 ghost use Rattle.disk_model.specs.Elapsed.{present};
@@ -39,17 +39,17 @@ impl ToyServer {
     /// A server over a new volume of so many files of so many blocks, whose disk fails from its call of this number on.
     pub fn new(alloc: Global, files: u32, blocks: u32, fails: u64) -> Mem<ToyServer> {
         let disk = MemoryDisk::new(alloc, 40_000, failing(alloc, fails)?);
-        let files = Files {
-            volume: volume(alloc, disk, files.clamp(1, 64), blocks.clamp(1, 256))?,
-            opens: Opens::new(alloc, 1)?,
-            extra: Toy::new(realm(alloc)?),
-        };
-        let sessions = Sessions::new(alloc, 1)?;
+        let volume = volume(alloc, disk, files.clamp(1, 64), blocks.clamp(1, 256))?;
+        let files = toy_files(alloc, volume)?;
+        let draws = draws(alloc, 0)?;
         Ok(ToyServer {
-            draws: draws(alloc, 0)?,
+            draws,
             host: Host {
                 contexts: Contexts::new(alloc, End::Source, 1)?,
-                server: Server { files, sessions },
+                server: Server {
+                    files,
+                    sessions: Sessions::new(alloc, 1)?,
+                },
                 second: 0,
                 steps: 0,
             },
@@ -104,6 +104,19 @@ fn realm(alloc: Global) -> Mem<Realm> {
     let user = (Octets::from_slice(alloc, b"user")?, [1; 32]);
     let dest = (Octets::from_slice(alloc, b"dest")?, [2; 32]);
     Realm::new(alloc, &[user, dest])
+}
+
+/// The files of a new volume, of which nothing is open.
+fn toy_files(alloc: Global, volume: Volume<MemoryDisk>) -> Mem<Files<MemoryDisk, Toy>>
+    ensures { IfOk result (λ files. (given files.extra ≡ 0) × (files.opens.made ≡ 0)) }
+{
+    let opens = Opens::new(alloc, 1)?;
+    let extra = Toy::new(realm(alloc)?);
+    Ok(Files {
+        volume,
+        opens,
+        extra,
+    })
 }
 
 /// A new volume, opened. A disk in memory with this much room fails so early only where it may not grow.
