@@ -4,6 +4,7 @@ use Rattle.std.specs.Prelude.{option_map}
 use Rattle.std.proofs.lemmas.Bool.{and_parts}
 use Rattle.session_client.specs.Pending.{Asking}
 use Rattle.mount.specs.Falling.{is_used, stays_for, tidied}
+use Rattle.mount.specs.Places.{xid_awaited}
 use Rattle.mount.specs.State.{Mounted, awaited_at, pending_at, pending_in, root_name}
 use Rattle.mount.specs.declared.state.Aim.{Aim}
 use Rattle.mount.specs.declared.state.Context as held
@@ -12,7 +13,7 @@ use Rattle.mount.specs.declared.state.Pending.TheVariants.{Under}
 use Rattle.mount.specs.declared.state.Standing.{Standing}
 use Rattle.wire_model.specs.Spelling.{Context}
 use Rattle.wire_model.specs.Wire.{Awaited}
-use Rattle.caller_laws.specs.Good.{Identity, IsFace, IsFairCall, IsGood, IsNumbered, xid_awaited}
+use Rattle.caller_laws.specs.Good.{Identity, IsFace, IsFairCall, IsGood, IsNumbered}
 use Rattle.caller_laws.specs.Lawful.{GoesOn}
 use Rattle.caller_laws.specs.View.{Above, Face, awaited_in, caller_of, face, face_of, handle_named, has_in, is_same}
 use Rattle.caller_laws.proofs.Faces.{face_new, face_other, face_stays, face_was, has_more, has_was, kept_face, same_are}

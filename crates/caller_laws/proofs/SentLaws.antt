@@ -4,6 +4,7 @@ use Rattle.std.specs.Prelude.{◌≢◌, Contains, option_map, slice_index}
 use Rattle.std.proofs.lemmas.Bool.{cases_eq}
 use Rattle.nfs_base.specs.declared.seal.Seal.{Seal}
 use Rattle.session_client.specs.Pending.{Beginning}
+use Rattle.mount.specs.Places.{xid_awaited}
 use Rattle.mount.specs.State.{Mounted, awaited_at, child_name, kept_in, pending_at, root_name}
 use Rattle.mount.specs.declared.machine.Sent as out
 use Rattle.mount.specs.declared.state.Pending.{Pending}
@@ -17,7 +18,7 @@ use Rattle.wire_model.specs.Wire.{Awaited, Call, Sends, Sent, Slotted}
 use Rattle.wire_spelling.specs.Calls.{xid_in}
 use Rattle.wire_spelling.specs.Slots.{is_simple, ops_of, slot_of}
 use Rattle.wire_spelling.specs.Spelling.{spelling}
-use Rattle.caller_laws.specs.Good.{Identity, IsFair, IsGood, IsNumbered, IsOwnToken, xid_awaited}
+use Rattle.caller_laws.specs.Good.{Identity, IsFair, IsGood, IsNumbered, IsOwnToken}
 use Rattle.caller_laws.specs.Duties.{IsOwnCall, SendsOwnCalls}
 use Rattle.caller_laws.specs.Joining.{Keeps}
 use Rattle.caller_laws.specs.Lawful.{GoesOn}

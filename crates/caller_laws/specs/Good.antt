@@ -12,6 +12,7 @@ use Rattle.session_client.specs.declared.asked.Asked.{Asked}
 use Rattle.session_client.specs.declared.asked.Asked.TheVariants as asks
 use Rattle.session_client.specs.declared.setup.Setup.TheVariants as setups
 use Rattle.mount.specs.Falling.{stays_for}
+use Rattle.mount.specs.Places.{xid_awaited}
 use Rattle.mount.specs.State.{Mounted, child_name, kept_in, pending_at, root_name}
 use Rattle.mount.specs.declared.state.Aim.{Aim}
 use Rattle.mount.specs.declared.state.Aim.TheVariants as aims
@@ -59,10 +60,6 @@ FitsAim (aims.Child child) _ = ⊥
 FitsAim _ _ = Unit {0}
 
 -- ---- what is awaited
-
-abbrev pub xid_awaited : Pending → ℕ
-xid_awaited (Init init) = init.xid
-xid_awaited (Under context aim call) = call.awaited.xid
 
 -- a call by an xid that no later call has, and that named no context yet
 pub record IsNumbered (m : Mounted) (xid : ℕ) : Type 0 where

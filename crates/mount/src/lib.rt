@@ -11,6 +11,7 @@
 mod calling;
 mod contexts;
 mod falling;
+mod finding;
 mod laws;
 mod machine;
 mod places;
