@@ -9,3 +9,4 @@ pub mod Shrunk
 pub mod Spoken
 pub mod StepLaws
 pub mod TakeMoves
+pub mod TokenLemmas

@@ -31,7 +31,6 @@ use Rattle.session_client.specs.Slots.{after_new}
 use Rattle.session_client.specs.declared.asked.Asked.{Asked}
 use Rattle.session_client.specs.declared.asked.Asked.TheVariants as asks
 use Rattle.session_client.specs.declared.sealing.SealedCall.{SealedCall}
-use Rattle.session_client.specs.declared.setup.Setup.{Setup}
 use Rattle.session_client.specs.declared.setup.Setup.TheVariants as setups
 use Rattle.mount.specs.Falling.{stays_for}
 use Rattle.mount.specs.Sending as sends
@@ -53,7 +52,7 @@ use Rattle.mount.specs.declared.state.Standing.{Standing}
 use Rattle.mount.specs.declared.state.Standing.TheVariants.{Down, Rooted}
 use Rattle.wire_model.specs.CallerLaws as laws
 use Rattle.wire_model.specs.Spelling.{Context, SlotName}
-use Rattle.wire_model.specs.Wire.{Awaited, Call, Purpose, Sent, Slotted, Begins}
+use Rattle.wire_model.specs.Wire.{Awaited, Call, Purpose, Slotted, Begins}
 use Rattle.wire_spelling.specs.Calls.{xid_in}
 use Rattle.wire_spelling.specs.Slots.{first_slot, ops_of, slot_of}
 use Rattle.wire_spelling.specs.Spelling.{spelling}

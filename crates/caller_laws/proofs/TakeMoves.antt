@@ -8,7 +8,6 @@ use Rattle.gss_ctx.specs.Replies.{begun_of}
 use Rattle.gss_ctx.specs.declared.begin.Begun.{Begun}
 use Rattle.gss_ctx.specs.declared.begin.Begun.TheVariants as begins
 use Rattle.gss_ctx.specs.declared.numbers.TheConstants.{CHILD_KEY}
-use Rattle.nfs_base.specs.declared.seal.End.{End}
 use Rattle.nfs_base.specs.declared.seal.Seal.{Seal}
 use Rattle.nfs_base.specs.declared.status.Status.{Status}
 use Rattle.nfs_compound.specs.declared.reply.Reply.{Reply}

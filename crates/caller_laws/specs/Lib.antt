@@ -4,3 +4,4 @@ pub mod Good
 pub mod Lawful
 pub mod Duties
 pub mod Joining
+pub mod Tokens
