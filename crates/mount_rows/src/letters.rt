@@ -1,0 +1,39 @@
+//! Records that were sent or made, by the place that they belong to.
+
+use crate::answers::Bytes;
+use outcome::Mem;
+use std::alloc::Global;
+
+#[derive(Drop)]
+struct Letter {
+    place: u32,
+    bytes: Bytes,
+}
+
+/// Records by their places, the newest last.
+#[derive(Drop)]
+pub struct Letters {
+    items: Vec<Letter>,
+}
+
+impl Letters {
+    pub fn new(alloc: Global) -> Letters {
+        Letters {
+            items: Vec::new(alloc),
+        }
+    }
+
+    /// A record of a place more.
+    pub fn add(&mut self, place: u32, bytes: Bytes) -> Mem<()> {
+        self.items.push(Letter { place, bytes })?;
+        Ok(())
+    }
+
+    /// The newest record of a place, and no bytes where there is none.
+    pub fn last(&self, place: u32) -> &[u8] {
+        match self.items.iter().rev().find(|letter| letter.place == place) {
+            Some(letter) => letter.bytes.as_slice(),
+            None => &[],
+        }
+    }
+}

@@ -1,0 +1,186 @@
+//! A caller's mount before a server whose results are written by hand.
+
+ghost use Rattle.std.specs.Prelude.{◌≡◌, ◌<◌, IfOk, None};
+ghost use Rattle.mount.specs.State.{awaited_at, IsChild};
+ghost use Rattle.mount.specs.declared.state.TheConstants.{PLACES};
+
+use mount::{Ending, Heard, Mount, PLACES, SendAt, Sent, Under};
+use nfs_base::End;
+use outcome::{Mem, Planned};
+use session_calls::SlotCall;
+use session_client::Setup;
+use std::alloc::Global;
+use streams::CountDraws;
+use two_ends::{Server, Wrong, drawn};
+
+/// The principal of every call.
+const PRINCIPAL: &[u8] = b"user";
+
+/// A caller's mount and the server that it calls.
+#[derive(Drop)]
+pub struct Scene {
+    pub server: Server,
+    pub mount: Mount,
+    pub xid: u32,
+    draws: CountDraws,
+    plan: Planned,
+}
+
+impl Scene {
+    /// Nothing is set up. The caller's draw with this number fails.
+    pub fn new(alloc: Global, failing: u32) -> Result<Scene, Wrong> {
+        Ok(Scene {
+            server: Server::new(alloc)?,
+            mount: Mount::new(alloc, End::Source, true),
+            xid: 0,
+            draws: CountDraws::new(),
+            plan: planned(alloc, failing)?,
+        })
+    }
+
+    fn nonce(&mut self) -> Result<[u8; 32], Wrong> {
+        if self.plan.fails() {
+            return Err(Wrong::Lacks("a draw"));
+        }
+        drawn(&mut self.draws)
+    }
+
+    /// A call goes out at a place, by the next xid.
+    fn numbered(&mut self, place: u32) -> Result<SendAt, Wrong>
+        ensures at { IfOk result (λ at. at.place ≡ place) }
+        ensures place { IfOk result (λ at. place < PLACES) }
+        ensures xid { IfOk result (λ at. self.new.mount.calls < at.xid) }
+        ensures mount { self.new.mount ≡ self.old.mount }
+    {
+        let xid = self.xid.wrapping_add(1);
+        if place >= PLACES || self.mount.calls() >= xid {
+            return Err(Wrong::Lacks("a place"));
+        }
+        self.xid = xid;
+        Ok(SendAt { place, xid, now: 0 })
+    }
+
+    /// A call goes out where nothing is awaited.
+    fn ready(&mut self, place: u32) -> Result<SendAt, Wrong>
+        ensures at { IfOk result (λ at. at.place ≡ place) }
+        ensures place { IfOk result (λ at. place < PLACES) }
+        ensures xid { IfOk result (λ at. self.new.mount.calls < at.xid) }
+        ensures free { IfOk result (λ at. awaited_at self.new.mount place ≡ None) }
+    {
+        if place >= PLACES || self.mount.awaits(place) {
+            return Err(Wrong::Lacks("a free place"));
+        }
+        self.numbered(place)
+    }
+
+    /// INIT goes out at a place, with a new nonce.
+    pub fn begin(&mut self, alloc: Global, place: u32) -> Result<Sent, Wrong> {
+        let nonce = self.nonce()?;
+        let at = self.ready(place)?;
+        if self.mount.is_setting_up() {
+            return Err(Wrong::Lacks("no other setup"));
+        }
+        let Setup::Down = self.mount.setup() else {
+            return Err(Wrong::Lacks("a setup that is down"));
+        };
+        let mech = &self.server.mech;
+        let sent = self.mount.begin(alloc, at, PRINCIPAL, &nonce, mech)?;
+        out(sent)
+    }
+
+    /// The INIT that is kept goes out anew.
+    pub fn begin_anew(&mut self, alloc: Global, place: u32) -> Result<Sent, Wrong> {
+        let at = self.ready(place)?;
+        if self.mount.is_setting_up() {
+            return Err(Wrong::Lacks("no other setup"));
+        }
+        let sent = self.mount.begin_anew(alloc, at)?;
+        out(sent)
+    }
+
+    /// The next step of the setup goes out at a place.
+    pub fn step(&mut self, alloc: Global, place: u32) -> Result<Sent, Wrong> {
+        let at = self.ready(place)?;
+        if self.mount.is_setting_up() {
+            return Err(Wrong::Lacks("no other setup"));
+        }
+        let mech = &self.server.mech;
+        let sent = self.mount.step(alloc, at, PRINCIPAL, None, mech)?;
+        out(sent)
+    }
+
+    /// RECLAIM_COMPLETE goes out in the slot of a place.
+    pub fn reclaim(&mut self, alloc: Global, place: u32) -> Result<Sent, Wrong> {
+        let at = self.ready(place)?;
+        if !self.mount.has_numbers(place) {
+            return Err(Wrong::Lacks("a number of the slot"));
+        }
+        let sent = self.mount.reclaim(alloc, at, &self.server.mech)?;
+        out(sent)
+    }
+
+    /// RECLAIM_COMPLETE goes out in the slot of a place, as what the machine above asks there.
+    pub fn call(&mut self, alloc: Global, place: u32, under: Under) -> Result<Sent, Wrong>
+        requires { IsChild under }
+    {
+        let at = self.ready(place)?;
+        if !self.mount.has_numbers(place) {
+            return Err(Wrong::Lacks("a number of the slot"));
+        }
+        let call = SlotCall::ReclaimComplete;
+        let mech = &self.server.mech;
+        let sent = self.mount.send(alloc, at, under, call, mech)?;
+        out(sent)
+    }
+
+    /// CREATE of a child goes out at a place.
+    pub fn create(&mut self, alloc: Global, place: u32, child: u32) -> Result<Sent, Wrong> {
+        if child >= PLACES {
+            return Err(Wrong::Lacks("a child"));
+        }
+        let at = self.ready(place)?;
+        let mech = &self.server.mech;
+        let sent = self
+            .mount
+            .create(alloc, at, child, b"name", b"privilege", mech)?;
+        out(sent)
+    }
+
+    /// What ends something goes out at a place.
+    pub fn end(&mut self, alloc: Global, place: u32, ending: Ending) -> Result<Sent, Wrong> {
+        let at = self.ready(place)?;
+        let sent = self.mount.end(alloc, at, ending, &self.server.mech)?;
+        out(sent)
+    }
+
+    /// What is awaited at a place goes out again.
+    pub fn again(&mut self, alloc: Global, place: u32) -> Result<Sent, Wrong> {
+        let at = self.numbered(place)?;
+        let sent = self.mount.send_again(alloc, at, &self.server.mech)?;
+        out(sent)
+    }
+
+    /// A record is taken at a place.
+    pub fn take(&mut self, alloc: Global, place: u32, record_: &[u8]) -> Result<Heard, Wrong> {
+        if place >= PLACES {
+            return Err(Wrong::Lacks("a place"));
+        }
+        let mech = &self.server.mech;
+        Ok(self.mount.take(alloc, place, PRINCIPAL, record_, mech)?)
+    }
+}
+
+/// The call with this number fails.
+fn planned(alloc: Global, failing: u32) -> Mem<Planned> {
+    let mut plan = Vec::new(alloc);
+    plan.push(u64::from(failing))?;
+    Ok(Planned::new(plan))
+}
+
+/// What went out.
+fn out(sent: Option<Sent>) -> Result<Sent, Wrong> {
+    match sent {
+        Some(sent) => Ok(sent),
+        None => Err(Wrong::Lacks("a call")),
+    }
+}
