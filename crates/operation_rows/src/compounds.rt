@@ -1,59 +1,72 @@
 //! COMPOUND and CB_COMPOUND, and their replies.
 
+ghost use Rattle.std.specs.Prelude.{◌≡◌};
+ghost use Rattle.nfs_compound.specs.Compounds.{CbCompoundFits, CompoundFits};
+ghost use Rattle.nfs_compound.specs.Callbacks.{cb_reply};
+ghost use Rattle.nfs_compound.specs.Results.{reply};
+ghost use Rattle.nfs_compound.specs.declared.tail.Tail.TheVariants.{Whole};
+
+use crate::readings::{tell, tell_bad};
 use file_ops::{Claim, FileArg, OpenArgs, OpenHow};
 use nfs_compound::*;
 use outcome::Mem;
 use std::alloc::Global;
 use std::fmt::Write;
-use wire_xdr::BadXdr;
 
-fn tail_text(alloc: Global, tail: Tail) -> Mem<String> {
-    Ok(match tail {
-        Tail::Whole => format!(in alloc; "whole")?,
-        Tail::Unreadable { place, op, at } => format!(in alloc; "unreadable {place} {op} {at}")?,
-        Tail::Unsupported { place, op } => format!(in alloc; "unsupported {place} {op}")?,
-        Tail::Illegal { place, op } => format!(in alloc; "illegal {place} {op}")?,
-    })
+fn tell_tail(tail: Tail, text: &mut String) -> Mem<()> {
+    match tail {
+        Tail::Whole => text.push_str("whole")?,
+        Tail::Unreadable { place, op, at } => write!(text, "unreadable {place} {op} {at}")?,
+        Tail::Unsupported { place, op } => write!(text, "unsupported {place} {op}")?,
+        Tail::Illegal { place, op } => write!(text, "illegal {place} {op}")?,
+    }
+    Ok(())
 }
 
-/// `again`, where what was written are the bytes that were read.
-fn again(bytes: &[u8], written: &[u8]) -> &'static str {
-    if bytes == written { " again" } else { "" }
+/// Tells `again`, where what was written are the bytes that were read.
+fn tell_again(bytes: &[u8], written: &[u8], text: &mut String) -> Mem<()> {
+    tell(text, if bytes == written { " again" } else { "" })
 }
 
 /// How many operations were read and what stands behind them; a whole one is written again.
-pub fn compound(alloc: Global, bytes: &[u8]) -> Mem<String> {
+pub fn compound(alloc: Global, bytes: &[u8], text: &mut String) -> Mem<()> {
     let compound = match read_compound(alloc, bytes)? {
         Ok(compound) => compound,
-        Err(BadXdr { at }) => return Ok(format!(in alloc; "refused {at}")?),
+        Err(bad) => return tell_bad(bad, text),
     };
-    let count = compound.ops.len();
+    write!(text, "{} ", compound.ops.len())?;
     match compound.tail {
-        Tail::Whole => {
-            let written = write_compound(alloc, &compound)?;
-            let again = again(bytes, written.as_slice());
-            Ok(format!(in alloc; "{count} whole{again}")?)
-        }
-        tail => {
-            let tail = tail_text(alloc, tail)?;
-            Ok(format!(in alloc; "{count} {tail}")?)
-        }
+        Tail::Whole => compound_again(alloc, &compound, bytes, text),
+        tail => tell_tail(tail, text),
     }
 }
 
+fn compound_again(alloc: Global, compound: &Compound, bytes: &[u8], text: &mut String) -> Mem<()>
+    requires whole { compound.now.tail ≡ Whole }
+    requires fits { CompoundFits compound.now }
+{
+    tell(text, "whole")?;
+    let written = write_compound(alloc, compound)?;
+    tell_again(bytes, written.as_slice(), text)
+}
+
 /// The owners and the names of a compound's OPENs, moved out of it, by their lengths.
-pub fn owners(alloc: Global, bytes: &[u8]) -> Mem<String> {
-    let mut text = format!(in alloc; "owners")?;
-    let Ok(compound) = read_compound(alloc, bytes)? else {
-        return Ok(text);
-    };
-    for op in compound.ops.into_vec() {
+pub fn owners(alloc: Global, bytes: &[u8], text: &mut String) -> Mem<()> {
+    tell(text, "owners")?;
+    match read_compound(alloc, bytes)? {
+        Ok(compound) => tell_owners(compound.ops.into_vec(), text),
+        Err(_) => Ok(()),
+    }
+}
+
+fn tell_owners(ops: Vec<Op>, text: &mut String) -> Mem<()> {
+    for op in ops {
         match op {
-            Op::File(FileArg::Open(args)) => tell_open(args, &mut text)?,
+            Op::File(FileArg::Open(args)) => tell_open(args, text)?,
             _other => {}
         }
     }
-    Ok(text)
+    Ok(())
 }
 
 /// The lengths of an OPEN's owner and of the name that it claims.
@@ -67,56 +80,80 @@ fn tell_open(args: OpenArgs, text: &mut String) -> Mem<()> {
         how,
     } = args;
     write!(text, " {}", owner.into_vec().len())?;
+    tell_claim(how, text)
+}
+
+fn tell_claim(how: OpenHow, text: &mut String) -> Mem<()> {
     if let OpenHow::NoCreate(Claim::Null(name)) = how {
         write!(text, " {}", name.into_vec().len())?;
     }
     Ok(())
 }
 
-/// The same of a CB_COMPOUND.
-pub fn cb_compound(alloc: Global, bytes: &[u8]) -> Mem<String> {
+/// The same as of a compound of a CB_COMPOUND.
+pub fn cb_compound(alloc: Global, bytes: &[u8], text: &mut String) -> Mem<()> {
     let compound = match read_cb_compound(alloc, bytes)? {
         Ok(compound) => compound,
-        Err(BadXdr { at }) => return Ok(format!(in alloc; "refused {at}")?),
+        Err(bad) => return tell_bad(bad, text),
     };
-    let count = compound.ops.len();
+    write!(text, "{} ", compound.ops.len())?;
     match compound.tail {
-        Tail::Whole => {
-            let written = write_cb_compound(alloc, &compound)?;
-            let again = again(bytes, written.as_slice());
-            Ok(format!(in alloc; "{count} whole{again}")?)
-        }
-        tail => {
-            let tail = tail_text(alloc, tail)?;
-            Ok(format!(in alloc; "{count} {tail}")?)
-        }
+        Tail::Whole => cb_compound_again(alloc, &compound, bytes, text),
+        tail => tell_tail(tail, text),
     }
+}
+
+fn cb_compound_again(
+    alloc: Global,
+    compound: &CbCompound,
+    bytes: &[u8],
+    text: &mut String,
+) -> Mem<()>
+    requires whole { compound.now.tail ≡ Whole }
+    requires fits { CbCompoundFits compound.now }
+{
+    tell(text, "whole")?;
+    let written = write_cb_compound(alloc, compound)?;
+    tell_again(bytes, written.as_slice(), text)
 }
 
 /// The status of a reply, and its results by number and status; it is written again.
-pub fn reply(alloc: Global, bytes: &[u8]) -> Mem<String> {
-    let reply = match read_reply_body(alloc, bytes)? {
-        Ok(reply) => reply,
-        Err(BadXdr { at }) => return Ok(format!(in alloc; "refused {at}")?),
-    };
-    let mut text = format!(in alloc; "{}", reply.status.number)?;
+pub fn a_reply(alloc: Global, bytes: &[u8], text: &mut String) -> Mem<()> {
+    match read_reply_body(alloc, bytes)? {
+        Ok(value) => reply_again(alloc, &value, bytes, text),
+        Err(bad) => tell_bad(bad, text),
+    }
+}
+
+fn reply_again(alloc: Global, value: &Reply, bytes: &[u8], text: &mut String) -> Mem<()>
+    requires { reply.Fits value.now }
+{
+    write!(text, "{}", value.status.number)?;
+    tell_results(value, text)?;
+    let written = write_reply_body(alloc, value)?;
+    tell_again(bytes, written.as_slice(), text)
+}
+
+/// Tells the results of a reply by number and status.
+pub fn tell_results(reply: &Reply, text: &mut String) -> Mem<()> {
     for res in reply.results.as_slice() {
         write!(text, " {}:{}", res.number(), res.status().number)?;
     }
-    let written = write_reply_body(alloc, &reply)?;
-    let again = again(bytes, written.as_slice());
-    write!(text, "{again}")?;
-    Ok(text)
+    Ok(())
 }
 
 /// The status of a callback's reply and the number of its results.
-pub fn cb_reply(alloc: Global, bytes: &[u8]) -> Mem<String> {
-    let reply = match read_cb_reply(alloc, bytes)? {
-        Ok(reply) => reply,
-        Err(BadXdr { at }) => return Ok(format!(in alloc; "refused {at}")?),
-    };
-    let written = write_cb_reply(alloc, &reply)?;
-    let again = again(bytes, written.as_slice());
-    let (status, count) = (reply.status.number, reply.results.len());
-    Ok(format!(in alloc; "{status} {count}{again}")?)
+pub fn a_cb_reply(alloc: Global, bytes: &[u8], text: &mut String) -> Mem<()> {
+    match read_cb_reply(alloc, bytes)? {
+        Ok(value) => cb_reply_again(alloc, &value, bytes, text),
+        Err(bad) => tell_bad(bad, text),
+    }
+}
+
+fn cb_reply_again(alloc: Global, value: &CbReply, bytes: &[u8], text: &mut String) -> Mem<()>
+    requires { cb_reply.Fits value.now }
+{
+    write!(text, "{} {}", value.status.number, value.results.len())?;
+    let written = write_cb_reply(alloc, value)?;
+    tell_again(bytes, written.as_slice(), text)
 }

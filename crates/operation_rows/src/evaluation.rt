@@ -2,6 +2,8 @@
 
 ghost use Rattle.std.specs.Prelude.{false};
 
+use crate::compounds::tell_results;
+use crate::readings::tell;
 use file_ops::{FileArg, FileRes};
 use nfs_base::{StateId, Status};
 use nfs_compound::*;
@@ -11,12 +13,20 @@ use std::fmt::Write;
 
 /// Answers 0 until one call, and ACCESS to that one. It counts its calls in the current stateid too, and keeps
 /// the last number that it was told to stand behind.
-#[derive(Debug, Drop)]
+#[derive(Drop)]
 struct Counts {
     calls: u32,
     failing: u32,
     next: Option<u32>,
     lost: bool,
+}
+
+impl Counts {
+    fn tell(&self, text: &mut String) -> Mem<()> {
+        let next = self.next.unwrap_or(0);
+        write!(text, "calls {} lost {} next {next}", self.calls, self.lost)?;
+        Ok(())
+    }
 }
 
 impl Actor for Counts {
@@ -53,22 +63,22 @@ impl Actor for Counts {
 
 /// A compound evaluated by an actor that fails at one call, `walk FAILING BYTES`: the number of calls, whether one
 /// lost what was held, the number behind the last operation, the status, and the results by number and status.
-pub fn evaluated(alloc: Global, failing: u32, bytes: &[u8]) -> Mem<String> {
-    let Ok(compound) = read_compound(alloc, bytes)? else {
-        return Ok(format!(in alloc; "no compound")?);
-    };
+pub fn evaluated(alloc: Global, failing: u32, bytes: &[u8], text: &mut String) -> Mem<()> {
+    match read_compound(alloc, bytes)? {
+        Ok(compound) => walked(alloc, &compound, failing, text),
+        Err(_) => tell(text, "no compound"),
+    }
+}
+
+fn walked(alloc: Global, compound: &Compound, failing: u32, text: &mut String) -> Mem<()> {
     let mut actor = Counts {
         calls: 0,
         failing,
         next: None,
         lost: false,
     };
-    let reply = walk(alloc, &compound, &mut actor)?;
-    let (calls, lost, next) = (actor.calls, actor.lost, actor.next.unwrap_or(0));
-    let status = reply.status.number;
-    let mut text = format!(in alloc; "calls {calls} lost {lost} next {next} status {status}:")?;
-    for res in reply.results.as_slice() {
-        write!(text, " {}:{}", res.number(), res.status().number)?;
-    }
-    Ok(text)
+    let reply = walk(alloc, compound, &mut actor)?;
+    actor.tell(text)?;
+    write!(text, " status {}:", reply.status.number)?;
+    tell_results(&reply, text)
 }

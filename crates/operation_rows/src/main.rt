@@ -17,7 +17,7 @@ mod shows;
 mod types;
 
 use outcome::Mem;
-use row_text::{Rows, bytes, number, word, words};
+use row_text::{Rows, bytes, compare, number, word, words};
 use std::alloc::Global;
 use std::io;
 
@@ -26,61 +26,59 @@ struct OperationRows;
 
 impl Rows for OperationRows {
     fn answer(&mut self, alloc: Global, call: &str) -> Mem<String> {
-        let words = words(alloc, call)?;
-        let number = number(&words, 1);
-        match word(&words, 0) {
-            "fronts" => copies::fronts(alloc, &words),
-            "turned" => copies::turned(alloc, &words),
-            "show" => shows::shown(alloc, &words),
-            "name" => files::name(alloc, number),
-            "most" => shows::most(alloc, number),
-            kind => read(alloc, kind, number, &words),
+        let mut text = String::new(alloc);
+        tell(alloc, call, &mut text)?;
+        Ok(text)
+    }
+}
+
+/// Tells the answer to a call.
+fn tell(alloc: Global, call: &str, text: &mut String) -> Mem<()> {
+    let words = words(alloc, call)?;
+    match word(&words, 0) {
+        "fronts" => copies::fronts(alloc, &words, text),
+        "turned" => copies::turned(alloc, &words, text),
+        "show" => shows::shown(alloc, &words, text),
+        "name" => files::name(number(&words, 1), text),
+        "most" => shows::most(alloc, number(&words, 1), text),
+        "args" | "res" | "file_args" | "file_res" | "walk" | "cut" => {
+            by_number(alloc, &words, text)
         }
+        _ => whole(alloc, &words, text),
     }
 }
 
-/// The answer to `KIND NUMBER BYTES` or `KIND BYTES`.
-fn read(alloc: Global, kind: &str, number: u32, words: &[&str]) -> Mem<String> {
-    let at = match kind {
-        "args" | "res" | "file_args" | "file_res" | "walk" | "cut" => 2,
-        _ => 1,
-    };
-    let bytes = bytes(alloc, words, at)?;
-    match at {
-        2 => by_number(alloc, kind, number, &bytes),
-        _ => whole(alloc, kind, &bytes),
+/// What bytes are to an operation of a number, `KIND NUMBER BYTES`.
+fn by_number(alloc: Global, words: &[&str], text: &mut String) -> Mem<()> {
+    let (number, bytes) = (number(words, 1), bytes(alloc, words, 2)?);
+    match word(words, 0) {
+        "args" => copies::args(alloc, number, &bytes, text),
+        "res" => copies::res(alloc, number, &bytes, text),
+        "file_args" => files::args(alloc, number, &bytes, text),
+        "file_res" => files::res(alloc, number, &bytes, text),
+        "walk" => evaluation::evaluated(alloc, number, &bytes, text),
+        _ => shows::cut(alloc, number, &bytes, text),
     }
 }
 
-/// What bytes are to an operation of this number.
-fn by_number(alloc: Global, kind: &str, number: u32, bytes: &[u8]) -> Mem<String> {
-    match kind {
-        "args" => copies::args(alloc, number, bytes),
-        "res" => copies::res(alloc, number, bytes),
-        "file_args" => files::args(alloc, number, bytes),
-        "file_res" => files::res(alloc, number, bytes),
-        "walk" => evaluation::evaluated(alloc, number, bytes),
-        _ => shows::cut(alloc, number, bytes),
-    }
-}
-
-/// What bytes are that name their kind themselves.
-fn whole(alloc: Global, kind: &str, bytes: &[u8]) -> Mem<String> {
-    match kind {
-        "offload" => copies::offload(alloc, bytes),
-        "cb_seq" => files::cb_seq(alloc, bytes),
-        "cb_seq_res" => files::cb_seq_res(alloc, bytes),
-        "compound" => compounds::compound(alloc, bytes),
-        "owners" => compounds::owners(alloc, bytes),
-        "cb_compound" => compounds::cb_compound(alloc, bytes),
-        "reply" => compounds::reply(alloc, bytes),
-        "cb_reply" => compounds::cb_reply(alloc, bytes),
-        _ => types::told(alloc, kind, bytes),
+/// What bytes are that name their kind themselves, `KIND BYTES`.
+fn whole(alloc: Global, words: &[&str], text: &mut String) -> Mem<()> {
+    let bytes = bytes(alloc, words, 1)?;
+    match word(words, 0) {
+        "offload" => copies::offload(alloc, &bytes, text),
+        "cb_seq" => files::called_back(alloc, &bytes, text),
+        "cb_seq_res" => files::answered_back(alloc, &bytes, text),
+        "compound" => compounds::compound(alloc, &bytes, text),
+        "owners" => compounds::owners(alloc, &bytes, text),
+        "cb_compound" => compounds::cb_compound(alloc, &bytes, text),
+        "reply" => compounds::a_reply(alloc, &bytes, text),
+        "cb_reply" => compounds::a_cb_reply(alloc, &bytes, text),
+        kind => types::told(alloc, kind, &bytes, text),
     }
 }
 
 fn main(rt: HostRuntime) -> io::Result<()> {
-    row_text::compare(&rt, &mut OperationRows)?;
+    compare(&rt, &mut OperationRows)?;
     notes::print(&rt)?;
     made::print(&rt)
 }

@@ -1,5 +1,6 @@
 //! What is shown of streams of records.
 
+use crate::readings::tell;
 use outcome::Mem;
 use row_text::{bytes, number};
 use rpc_msg::{RECORD_LIMIT, mark};
@@ -36,59 +37,85 @@ impl Source for Halves<'_> {
 }
 
 /// How showing ended, and the lines, each behind a `|`.
-fn told(alloc: Global, shown: Shown, lines: &[u8]) -> Mem<String> {
-    let mut text = format!(in alloc; "{shown:?} ")?;
+fn tell_shown(shown: Shown, lines: &[u8], text: &mut String) -> Mem<()> {
+    write!(text, "{shown:?} ")?;
     for byte in lines {
-        let letter = if *byte == b'\n' {
-            '|'
-        } else {
-            char::from(*byte)
-        };
-        text.push(letter)?;
+        text.push(letter(*byte))?;
     }
-    Ok(text)
+    Ok(())
+}
+
+fn letter(byte: u8) -> char {
+    if byte == b'\n' { '|' } else { char::from(byte) }
+}
+
+/// A source of bytes, of which the call with this number fails; 0 is that of no call.
+fn source(alloc: Global, bytes: Vec<u8>, fails: u32) -> Mem<MemSource> {
+    Ok(MemSource::new(bytes, vec![in alloc; u64::from(fails)]?))
+}
+
+fn sink(alloc: Global, fails: u32) -> Mem<MemSink> {
+    Ok(MemSink::new(alloc, vec![in alloc; u64::from(fails)]?))
 }
 
 /// What is shown where the calls with these numbers fail, `show READ PUT BYTES`; 0 is that of no call.
-pub fn shown(alloc: Global, words: &[&str]) -> Mem<String> {
-    let bytes = bytes(alloc, words, 3)?;
-    let mut input = MemSource::new(bytes, vec![in alloc; u64::from(number(words, 1))]?);
-    let mut output = MemSink::new(alloc, vec![in alloc; u64::from(number(words, 2))]?);
+pub fn shown(alloc: Global, words: &[&str], text: &mut String) -> Mem<()> {
+    let mut input = source(alloc, bytes(alloc, words, 3)?, number(words, 1))?;
+    let mut output = sink(alloc, number(words, 2))?;
     let answer = do_show(alloc, &mut input, &mut output)?;
-    told(alloc, answer, output.bytes())
+    tell_shown(answer, output.bytes(), text)
 }
 
 /// What is shown of bytes that come in two pieces, `cut AT BYTES`.
-pub fn cut(alloc: Global, at: u32, bytes: &[u8]) -> Mem<String> {
+pub fn cut(alloc: Global, at: u32, bytes: &[u8], text: &mut String) -> Mem<()> {
     let mut input = Halves {
         bytes,
         at: 0,
         cut: at as usize,
     };
-    let mut output = MemSink::new(alloc, Vec::new(alloc));
+    let mut output = sink(alloc, 0)?;
     let answer = do_show(alloc, &mut input, &mut output)?;
-    told(alloc, answer, output.bytes())
+    tell_shown(answer, output.bytes(), text)
 }
+
+/// Records of the greatest length that are 73,732 bytes each with their marks.
+const RECORDS: u32 = 227;
 
 /// What is shown behind 227 records of the greatest length and 40,052 bytes, which are 16,777,216, where so many
 /// more stand behind them.
-pub fn most(alloc: Global, more: u32) -> Mem<String> {
-    let mut bytes = Vec::new(alloc);
-    let mut lines = String::new(alloc);
-    let zeros = vec![in alloc; 0; RECORD_LIMIT as usize]?;
-    for number in 1..=227 {
-        bytes.extend_from_slice(&mark(RECORD_LIMIT))?;
-        bytes.extend_from_slice(zeros.as_slice())?;
-        write!(lines, "record {number} 73728\ncall 0 0 0 0 0\n")?;
+pub fn most(alloc: Global, more: u32, text: &mut String) -> Mem<()> {
+    let mut input = source(alloc, long_stream(alloc, more)?, 0)?;
+    let mut output = sink(alloc, 0)?;
+    let answer = do_show(alloc, &mut input, &mut output)?;
+    let lines = long_lines(alloc)?;
+    match output.bytes().strip_prefix(lines.as_bytes()) {
+        Some(rest) => tell_shown(answer, rest, text),
+        None => tell(text, "other lines"),
     }
-    for _ in 0..40_052 + u64::from(more) {
+}
+
+fn long_stream(alloc: Global, more: u32) -> Mem<Vec<u8>> {
+    let mut bytes = Vec::new(alloc);
+    for _ in 0..RECORDS {
+        bytes.extend_from_slice(&mark(RECORD_LIMIT))?;
+        push_zeros(&mut bytes, u64::from(RECORD_LIMIT))?;
+    }
+    push_zeros(&mut bytes, 40_052 + u64::from(more))?;
+    Ok(bytes)
+}
+
+fn push_zeros(bytes: &mut Vec<u8>, count: u64) -> Mem<()> {
+    for _ in 0..count {
         bytes.push(0)?;
     }
-    let mut input = MemSource::new(bytes, Vec::new(alloc));
-    let mut output = MemSink::new(alloc, Vec::new(alloc));
-    let answer = do_show(alloc, &mut input, &mut output)?;
-    match output.bytes().strip_prefix(lines.as_bytes()) {
-        Some(rest) => told(alloc, answer, rest),
-        None => Ok(format!(in alloc; "other lines")?),
+    Ok(())
+}
+
+/// The lines of those records.
+fn long_lines(alloc: Global) -> Mem<String> {
+    let mut lines = String::new(alloc);
+    for number in 1..=RECORDS {
+        write!(lines, "record {number} 73728\ncall 0 0 0 0 0\n")?;
     }
+    Ok(lines)
 }
