@@ -1,11 +1,8 @@
 //! The cores whose cases can be replayed.
 
+use crate::driver::Driver;
 use crate::playing::Playing;
-use dest_core::DestCore;
-use disk_model::MemoryDisk;
-use gss_mech::Realm;
 use outcome::Mem;
-use source_core::SourceCore;
 use std::alloc::Global;
 
 /// Which core the cases are for.
@@ -26,16 +23,16 @@ impl Core {
     }
 }
 
-/// A core of each kind, and the one that the lines drive now.
+/// A source and a destination, and which of them the lines drive now.
 #[derive(Drop)]
-pub struct Cores {
+pub struct Cores<S, D> {
     pub now: Core,
-    source: Playing<SourceCore<MemoryDisk, Realm>>,
-    dest: Playing<DestCore<MemoryDisk, Realm>>,
+    source: Playing<S>,
+    dest: Playing<D>,
 }
 
-impl Cores {
-    pub fn new(now: Core) -> Cores {
+impl<S: Driver, D: Driver> Cores<S, D> {
+    pub fn new(now: Core) -> Cores<S, D> {
         Cores {
             now,
             source: Playing::new(),

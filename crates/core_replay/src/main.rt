@@ -22,6 +22,10 @@ mod volume;
 
 use crate::cores::{Core, Cores};
 use crate::replay::replay;
+use dest_core::DestCore;
+use disk_model::MemoryDisk;
+use gss_mech::Realm;
+use source_core::SourceCore;
 use std::env::{self, Env};
 use std::io;
 
@@ -33,9 +37,17 @@ fn first_core(rt: &(impl Env + AllocGlobal)) -> io::Result<Option<Core>> {
     Ok(Core::named(word.as_str()))
 }
 
+/// Replays cases of both cores, those of this one first.
+fn replay_from(rt: &HostRuntime, core: Core) -> io::Result<()> {
+    let mut cores: Cores<SourceCore<MemoryDisk, Realm>, DestCore<MemoryDisk, Realm>> = Cores::new(
+        core,
+    );
+    replay(rt, &mut cores)
+}
+
 fn main(rt: HostRuntime) -> io::Result<()> {
     match first_core(&rt)? {
-        Some(core) => replay(&rt, &mut Cores::new(core))?,
+        Some(core) => replay_from(&rt, core)?,
         None => println!(rt; "usage: source|dest")?,
     }
     Ok(())

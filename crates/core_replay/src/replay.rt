@@ -2,6 +2,7 @@
 
 use crate::cases::Cases;
 use crate::cores::{Core, Cores};
+use crate::driver::Driver;
 use crate::lines::{Kind, Within, is_passed_over, kind_of};
 use outcome::Mem;
 use row_text::{word, words};
@@ -9,7 +10,7 @@ use std::alloc::Global;
 use std::io;
 
 /// Replays the cases of standard input, and prints what is to be told of them.
-pub fn replay(rt: &HostRuntime, cores: &mut Cores) -> io::Result<()> {
+pub fn replay<S: Driver, D: Driver>(rt: &HostRuntime, cores: &mut Cores<S, D>) -> io::Result<()> {
     let mut cases = Cases::new(rt.alloc());
     for line in rt.lines(rt.alloc()) {
         let line = line?;
@@ -24,7 +25,12 @@ pub fn replay(rt: &HostRuntime, cores: &mut Cores) -> io::Result<()> {
 }
 
 /// Takes a line, and answers what is to be told of it.
-fn take(alloc: Global, cores: &mut Cores, cases: &mut Cases, line: &str) -> Mem<Option<String>> {
+fn take<S: Driver, D: Driver>(
+    alloc: Global,
+    cores: &mut Cores<S, D>,
+    cases: &mut Cases,
+    line: &str,
+) -> Mem<Option<String>> {
     cases.count_line();
     if is_passed_over(line) {
         return Ok(None);
@@ -51,16 +57,16 @@ fn take(alloc: Global, cores: &mut Cores, cases: &mut Cases, line: &str) -> Mem<
 }
 
 /// From here on cases are for the core that a word names, if it names one.
-fn choose(cores: &mut Cores, word: &str) {
+fn choose<S: Driver, D: Driver>(cores: &mut Cores<S, D>, word: &str) {
     if let Some(core) = Core::named(word) {
         cores.now = core;
     }
 }
 
 /// Takes a line of a case behind its first one.
-fn follow(
+fn follow<S: Driver, D: Driver>(
     alloc: Global,
-    cores: &mut Cores,
+    cores: &mut Cores<S, D>,
     cases: &mut Cases,
     line: &str,
     words: &[&str],
@@ -69,13 +75,7 @@ fn follow(
     match kind {
         Within::Event => {
             let told = ends_outcome(alloc, cases, line)?;
-            match cores.event(alloc, words)? {
-                Some(lines) => {
-                    cases.expect(lines);
-                    Ok(told)
-                }
-                None => cases.leave(alloc, told),
-            }
+            follow_event(alloc, cases, cores.event(alloc, words)?, told)
         }
         Within::Outcome => meets_outcome(alloc, cases, line),
         Within::Held => {
@@ -83,6 +83,22 @@ fn follow(
             cases.meet(alloc, line, given.as_str())
         }
         Within::End => ends_outcome(alloc, cases, line),
+    }
+}
+
+/// What is due behind an event is its outcome, where the core made it.
+fn follow_event(
+    alloc: Global,
+    cases: &mut Cases,
+    outcome: Option<Vec<String>>,
+    told: Option<String>,
+) -> Mem<Option<String>> {
+    match outcome {
+        Some(lines) => {
+            cases.expect(lines);
+            Ok(told)
+        }
+        None => cases.leave(alloc, told),
     }
 }
 
