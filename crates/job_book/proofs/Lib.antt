@@ -1,4 +1,5 @@
+pub mod Back
 pub mod Books
+pub mod Free
 pub mod Lists
 pub mod Logged
-pub mod Free

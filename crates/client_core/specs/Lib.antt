@@ -1,0 +1,3 @@
+pub mod Serving
+pub mod State
+pub mod Steps
