@@ -1,5 +1,4 @@
-pub mod Back
 pub mod Books
-pub mod Free
 pub mod Lists
 pub mod Logged
+pub mod Free

@@ -9,10 +9,8 @@
 
 mod acceptance;
 mod book;
-mod laws;
 mod working;
 
 pub use acceptance::Acceptance;
 pub use book::Book;
 pub use job_table::{Chunk, JobLog, JobStatus, Landing, Plan};
-pub use laws::claims_go_back;

@@ -1,5 +1,4 @@
 pub mod ContextLemmas
-pub mod CopyLemmas
 pub mod ListLemmas
 pub mod OnceLemmas
 pub mod PlaceLemmas

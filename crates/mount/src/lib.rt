@@ -10,7 +10,6 @@
 
 mod calling;
 mod contexts;
-mod copying;
 mod falling;
 mod finding;
 mod laws;

@@ -1,4 +1,3 @@
 pub mod Laws
-pub mod Plan
 pub mod Queue
 pub mod Steps

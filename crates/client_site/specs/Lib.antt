@@ -1,4 +1,0 @@
-pub mod Falling
-pub mod Sending
-pub mod Sites
-pub mod Taking

@@ -1,8 +1,0 @@
-use Rattle.std.proofs.Common.{arith}
-use Rattle.std.specs.Prelude.{None}
-use Rattle.mount.proofs.CopyLemmas.{copy_one}
-use Rattle.mount.proofs.copying.copy_places.Goals as goal
-
-pub loop-place-preserved : goal.loop-place-preserved
-loop-place-preserved c =
-    copy_one c.loop-place.place c.args.places.now c.args.copies.now c.loop-place.copies None _ (omega arith) (omega arith) c.loop-place.invariant (c.in_ok-copies.ensures tt)
