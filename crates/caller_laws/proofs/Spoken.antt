@@ -192,7 +192,7 @@ module _ (mic : Mic) (side : Side) (xid : ℕ) (o : IsOpen mic side xid) where
   pub says_asked : AreRead → (place : ℕ) (asked : Asked) → IsAsked place asked → IsBytes (asked_call mic side xid asked).bytes
       → SaysAsked xid asked (asked_call mic side xid asked).bytes
   says_asked written place (asks.Compound c) ours are_bytes = says_compound written place c ours are_bytes
-  says_asked written place (asks.Create args) short are_bytes = says_create args short
+  says_asked written place (asks.Create args) short are_bytes = says_create args (omega (arith, short))
   says_asked written place asks.Destroy any are_bytes = says_destroy
 
 -- ---- INIT

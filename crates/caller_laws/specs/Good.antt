@@ -7,6 +7,7 @@ use Rattle.nfs_compound.specs.Ops.{op_is_cut}
 use Rattle.nfs_compound.specs.VolumeCalls.{volume_calls}
 use Rattle.nfs_compound.specs.declared.compound.Compound.{Compound}
 use Rattle.session_calls.specs.Calls.{IsSendable}
+use Rattle.session_calls.specs.declared.compound.TheConstants.{LONGEST_CALL}
 use Rattle.session_client.specs.Pending.{Asking, Beginning}
 use Rattle.session_client.specs.declared.asked.Asked.{Asked}
 use Rattle.session_client.specs.declared.asked.Asked.TheVariants as asks
@@ -50,7 +51,7 @@ pub record IsOurs (place : ℕ) (c : Compound) : Type 0 where
 
 abbrev pub IsAsked : ℕ → Asked → Type 0
 IsAsked place (asks.Compound c) = IsOurs place c
-IsAsked place (asks.Create args) = length args < 4294967292
+IsAsked place (asks.Create args) = length args < LONGEST_CALL
 IsAsked place asks.Destroy = Unit {0}
 
 -- nothing but a CREATE is for a child

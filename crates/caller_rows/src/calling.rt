@@ -121,7 +121,7 @@ impl Calling {
         requires { IsSendable compound }
     {
         let (call, reply) = records;
-        let asked = Asked::Compound(compound);
+        let asked = Asked::Compound(compound).share(alloc)?;
         let Some(sealed) = asked.seal(alloc, &mut self.caller, xid, &self.mech)? else {
             return Err(Wrong::Lacks("a number"));
         };

@@ -1,9 +1,10 @@
-ghost use Rattle.std.specs.Prelude.{◌≡◌, ◌≤◌, ◌++◌, length, IfOk};
+ghost use Rattle.std.specs.Prelude.{◌≡◌, ◌+◌, ◌≤◌, ◌++◌, length, IfOk};
 ghost use Rattle.wire_xdr.specs.All.{value_of};
 ghost use Rattle.wire_xdr.specs.Words.{opaque_bytes};
 ghost use Rattle.rpc_msg.specs.Heads.{call};
 ghost use Rattle.gss_ctx.specs.Forms.{init_token, init_result};
 ghost use Rattle.gss_ctx.specs.Init.{init_head, init_message};
+ghost use Rattle.gss_ctx.specs.declared.caller.TheConstants.{CALL_ROOM};
 ghost use Rattle.gss_ctx.specs.Replies.{begun_of, begun_with};
 
 use crate::caller::call_head;
@@ -97,9 +98,11 @@ pub fn read_init_result(alloc: Global, body: &[u8]) -> Mem<Option<InitResult>>
 }
 
 /// The call INIT to program 100003, version 4, with a token of at most 4,096 bytes.
+#[tactic(auto, using(crate::proofs::CredLemmas::init_short))]
 pub fn init_call(alloc: Global, xid: u32, token: &[u8]) -> Mem<Octets>
     requires { length token.now ≤ TOKEN_LIMIT }
-    ensures { IfOk result (λ message. message ≡ init_message xid token.now) }
+    ensures message { IfOk result (λ message. message ≡ init_message xid token.now) }
+    ensures len { IfOk result (λ message. length message ≤ length token.now + CALL_ROOM) }
 {
     let head = call_head(alloc, xid, PROC_NULL, RPCSEC_GSS_INIT)?;
     let mut writer = Writer::new(alloc)?;

@@ -1,6 +1,8 @@
-ghost use Rattle.std.specs.Prelude.{◌≡◌, ◌<◌, ◌≤◌, ◌^◌, length, IfOk, OnErr, IsSome, Some, None};
+ghost use Rattle.std.specs.Prelude.{◌≡◌, ◌+◌, ◌<◌, ◌≤◌, ◌^◌, length, IfOk, IfSome, OnErr, IsSome, Some, None};
 ghost use Rattle.rpc_msg.specs.Heads.{call};
 ghost use Rattle.rpc_msg.specs.GssCred.{gss_cred};
+ghost use Rattle.rpc_msg.specs.declared.numbers.TheConstants.{AUTH_LIMIT};
+ghost use Rattle.gss_ctx.specs.declared.caller.TheConstants.{CALL_ROOM};
 ghost use Rattle.gss_ctx.specs.Seals.{cred_of};
 ghost use Rattle.gss_ctx.specs.Calls.{Side, seal_of, call_cred, with_cred, verified, sealed_call, Seals, cred_auth};
 ghost use Rattle.gss_ctx.specs.Init.{asked_head, asked_cred};
@@ -21,6 +23,10 @@ use rpc_msg::{
 use std::alloc::Global;
 use std::marker::Model;
 use wire_xdr::{Octets, Writer, Xdr};
+
+/// How many bytes a sealed call has beside its arguments, at most: its head with a credential and a verifier, and the
+/// seal.
+pub const CALL_ROOM: u32 = 528;
 
 /// The initiating side of one context.
 #[derive(Drop)]
@@ -122,6 +128,22 @@ impl Caller {
         }
     }
 
+    /// The same side once more, for a step that may be given up: only one of the two is to go on, since both give the
+    /// same next number.
+    pub fn copy(&self) -> Caller
+        ensures { result ≡ self.now }
+    {
+        let owner = self.owner;
+        let handle = self.handle;
+        let key = self.key;
+        Caller {
+            owner,
+            handle,
+            key,
+            next: self.next,
+        }
+    }
+
     /// The seal of a sequence number under this context, which is that of the contexts that made it.
     pub fn seal(&self, seq: u32) -> Seal
         ensures { result ≡ seal_of self.now seq }
@@ -151,6 +173,7 @@ impl Caller {
         requires args { length args.now < 4294967292 }
         ensures sealed { self.old.next < 2 ^ 31 → IfOk result (λ told. Seals M.mic_of self.old head.now args.now (cred_of head.now) self.new told) }
         ensures none { 2 ^ 31 ≤ self.old.next → IfOk result (λ told. (told ≡ None) × (self.new ≡ self.old)) }
+        ensures len { IfOk result (λ told. IfSome told (λ sealed. length sealed.bytes ≤ length args.now + CALL_ROOM)) }
         ensures err { OnErr result (self.new ≡ self.old) }
     {
         let seq = self.next;
@@ -177,7 +200,7 @@ impl Caller {
             verf: Auth::none(alloc),
         };
         let code = reply_code(alloc, &self.key, &sent, seq, mech)?;
-        let bytes = sealed_call(alloc, &self.key, sent, seq, args, mech)?;
+        let bytes = short_call(alloc, &self.key, sent, seq, args, mech)?;
         self.next = seq + 1;
         Ok(Some(Sealed {
             bytes,
@@ -252,4 +275,22 @@ pub(crate) fn sealed_call<M: Mechanism>(
     let mut writer = Writer::new(alloc)?;
     verified.put(&mut writer)?;
     seal_message(alloc, writer.as_slice(), key, INITIATOR, seq, args, mech)
+}
+
+/// The same, with a short credential.
+fn short_call<M: Mechanism>(
+    alloc: Global,
+    key: &[u8; 32],
+    head: CallHead,
+    seq: u32,
+    args: &[u8],
+    mech: &M,
+) -> Mem<Octets>
+    requires head { call.Fits head }
+    requires cred { length head.cred.body ≤ AUTH_LIMIT }
+    requires args { length args.now < 4294967292 }
+    ensures message { IfOk result (λ message. message ≡ sealed_call M.mic_of key.now head seq args.now) }
+    ensures len { IfOk result (λ message. length message ≤ length args.now + CALL_ROOM) }
+{
+    sealed_call(alloc, key, head, seq, args, mech)
 }

@@ -26,7 +26,7 @@ pub use admit::{Admit, Verdict, Why};
 pub use begin::{
     Begun, InitResult, init_call, init_reply, read_init, read_init_result, write_init_result,
 };
-pub use caller::{Awaited, Caller, Checked, Sealed, call_head};
+pub use caller::{Awaited, CALL_ROOM, Caller, Checked, Sealed, call_head};
 pub use context::{Context, Entry};
 pub use contexts::{Contexts, handle_of, is_live, named_by};
 pub use create::{

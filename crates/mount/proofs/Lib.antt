@@ -1,4 +1,5 @@
 pub mod ContextLemmas
+pub mod CopyLemmas
 pub mod ListLemmas
 pub mod OnceLemmas
 pub mod PlaceLemmas

@@ -1,9 +1,10 @@
 -- What a caller sends, and what then awaits its answer (RFC 5531 section 9, RFC 2203 section 5, RFC 8881 section 2.10.6).
 -- Each of these gives what goes out and the mount afterwards; where nothing goes out, the mount is as it was.
-use Rattle.std.specs.Prelude.{ℕ, ◌==◌, List, slice_index, Option, Some, None, option_map}
+use Rattle.std.specs.Prelude.{ℕ, ◌==◌, ◌≤◌, List, length, slice_index, Option, Some, None, IfSome, option_map}
 use Rattle.nfs_base.specs.Changed.{changed}
 use Rattle.gss_ctx.specs.Init.{init_message}
 use Rattle.gss_ctx.specs.Seals.{Mic}
+use Rattle.rpc_msg.specs.declared.records.TheConstants.{RECORD_LIMIT}
 use Rattle.session_calls.specs.Calls.{slot_compound, sole_compound}
 use Rattle.session_calls.specs.declared.slot_call.SlotCall.{SlotCall}
 use Rattle.session_calls.specs.declared.sole_call.BackChannel.{BackChannel}
@@ -34,6 +35,10 @@ use Rattle.mount.specs.declared.state.Pending.TheVariants as pendings
 use Rattle.mount.specs.declared.state.Standing.{Standing}
 use Rattle.mount.specs.declared.state.Standing.TheVariants.{Down, Rooted}
 use Rattle.mount.specs.State.{Mounted, awaited_at, awaiting_at, child_name, context_of, kept_in, root_name}
+
+-- what goes out is no longer than a record may be (RFC 5531 section 11)
+abbrev pub FitsRecord : Option Sent → Type 0
+FitsRecord told = IfSome told (λ sent. length sent.bytes ≤ RECORD_LIMIT)
 
 -- ---- INIT
 

@@ -1,6 +1,6 @@
 -- A caller's mount of one server (RFC 8881 section 2.10, RFC 2203 section 5.2): how far the server is set up, the
 -- contexts that the caller has there, and what is awaited at each of its places.
-use Rattle.std.specs.Prelude.{ℕ, ◌==◌, ◌<◌, Bool, true, false, List, [], find, replicate, slice_index, slice_index_or, slice_set, Option, Some, None}
+use Rattle.std.specs.Prelude.{ℕ, ◌==◌, ◌<◌, Bool, true, false, nat_lt, List, [], find, replicate, slice_index, slice_index_or, slice_set, Option, Some, None}
 use Rattle.std.specs.List.{list_any}
 use Rattle.nfs_base.specs.declared.seal.End.{End}
 use Rattle.session_client.specs.Pending.{Beginning}
@@ -129,3 +129,7 @@ IsChild (unders.Child child) = child < PLACES
 abbrev pub HasNumbers : Standing → ℕ → Type 0
 HasNumbers (Down kept) slot = Unit {0}
 HasNumbers (Rooted root) slot = slice_index root.numbers slot < 4294967295
+
+abbrev pub has_numbers : Standing → ℕ → Bool
+has_numbers (Down kept) slot = true
+has_numbers (Rooted root) slot = nat_lt (slice_index root.numbers slot) 4294967295

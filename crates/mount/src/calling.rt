@@ -2,11 +2,12 @@
 
 ghost use Rattle.std.specs.Prelude.{◌≡◌, ◌<◌, ◌≤◌, ◌-◌, ◌^◌, length, slice_index, None, Some, IfOk, IfSome, OnErr};
 ghost use Rattle.nfs_base.specs.declared.limits.TheConstants.{NAME_LIMIT, PRIVILEGE_LIMIT};
+ghost use Rattle.rpc_msg.specs.declared.records.TheConstants.{RECORD_LIMIT};
 ghost use Rattle.session_calls.specs.Calls.{SlotCallFits, SoleCallFits};
 ghost use Rattle.session_calls.specs.declared.slot_call.SlotCall.TheVariants.{ReclaimComplete};
 ghost use Rattle.session_client.specs.Asked.{AskedFits};
 ghost use Rattle.session_client.specs.Slots.{after_new};
-ghost use Rattle.mount.specs.Sending.{call_awaits, sent_by, slotted, slot_asked_in, session_in, numbered, numbered_in, name_under, child_asked, ending_call, ending_sole, ended_in, out_anew, contexts_anew, pending_anew, sent_again};
+ghost use Rattle.mount.specs.Sending.{FitsRecord, call_awaits, sent_by, slotted, slot_asked_in, session_in, numbered, numbered_in, name_under, child_asked, ending_call, ending_sole, ended_in, out_anew, contexts_anew, pending_anew, sent_again};
 ghost use Rattle.mount.specs.State.{awaited_at, root_name, IsChild, HasNumbers};
 ghost use Rattle.mount.specs.declared.state.Aim.TheVariants as aims;
 ghost use Rattle.mount.specs.declared.state.TheConstants.{PLACES};
@@ -19,6 +20,7 @@ use outcome::Mem;
 use session_calls::{SlotCall, SlotUse, SoleCall};
 use session_client::{Asked, PendingCall, SealedCall, Setup};
 use std::alloc::Global;
+use std::sync::Arc;
 
 /// Under which context a call goes out.
 #[derive(Clone, Copy)]
@@ -57,6 +59,7 @@ impl Mount {
     ) -> Mem<Option<Sent>>
         requires place { at.place < PLACES }
         requires fits { IfSome asked (λ a. AskedFits a) }
+        ensures fits { IfOk result FitsRecord }
         ensures sent { IfOk result (λ told. told ≡ (sent_by M.mic_of at context aim asked self.old).0) }
         ensures after { IfOk result (λ told. self.new ≡ (sent_by M.mic_of at context aim asked self.old).1) }
         ensures standing { self.new.standing ≡ self.old.standing }
@@ -68,6 +71,7 @@ impl Mount {
         let Some(asked) = asked else {
             return Ok(None);
         };
+        let asked = asked.share(alloc)?;
         let call = seal_by(alloc, &mut self.contexts, context, at.xid, &asked, mech)?;
         Ok(self.await_call(at, context, aim, asked, call))
     }
@@ -78,13 +82,15 @@ impl Mount {
         at: SendAt,
         context: u32,
         aim: Aim,
-        asked: Asked,
+        asked: Arc<Asked>,
         call: Option<SealedCall>,
     ) -> Option<Sent>
         requires place { at.place < PLACES }
-        requires fits { AskedFits asked }
-        ensures sent { result ≡ (call_awaits at context aim asked call self.old).0 }
-        ensures after { self.new ≡ (call_awaits at context aim asked call self.old).1 }
+        requires asked { AskedFits asked.value }
+        requires call { IfSome call (λ c. length c.bytes ≤ RECORD_LIMIT) }
+        ensures fits { FitsRecord result }
+        ensures sent { result ≡ (call_awaits at context aim asked.value call self.old).0 }
+        ensures after { self.new ≡ (call_awaits at context aim asked.value call self.old).1 }
         ensures standing { self.new.standing ≡ self.old.standing }
     {
         let Some(call) = call else {
@@ -119,6 +125,7 @@ impl Mount {
         requires free { awaited_at self.old at.place ≡ None }
         requires left { HasNumbers self.old.standing at.place }
         requires call { SlotCallFits call }
+        ensures fits { IfOk result FitsRecord }
         ensures sent { IfOk result (λ told. told ≡ (slotted M.mic_of at (name_under under self.old) aims.Slot call self.old).0) }
         ensures after { IfOk result (λ told. self.new ≡ (slotted M.mic_of at (name_under under self.old) aims.Slot call self.old).1) }
         ensures err { OnErr result (self.new ≡ self.old) }
@@ -138,6 +145,7 @@ impl Mount {
         requires xid { self.old.calls < at.xid }
         requires free { awaited_at self.old at.place ≡ None }
         requires left { HasNumbers self.old.standing at.place }
+        ensures fits { IfOk result FitsRecord }
         ensures sent { IfOk result (λ told. told ≡ (slotted M.mic_of at (root_name self.old.standing) aims.Setup ReclaimComplete self.old).0) }
         ensures after { IfOk result (λ told. self.new ≡ (slotted M.mic_of at (root_name self.old.standing) aims.Setup ReclaimComplete self.old).1) }
         ensures err { OnErr result (self.new ≡ self.old) }
@@ -165,6 +173,7 @@ impl Mount {
         requires place { at.place < PLACES }
         requires left { HasNumbers self.old.standing at.place }
         requires call { SlotCallFits call }
+        ensures fits { IfOk result FitsRecord }
         ensures sent { IfOk result (λ told. told ≡ (slotted M.mic_of at context aim call self.old).0) }
         ensures after { IfOk result (λ told. self.new ≡ (slotted M.mic_of at context aim call self.old).1) }
         ensures err { OnErr result (self.new ≡ self.old) }
@@ -179,6 +188,7 @@ impl Mount {
         requires slot { slot < PLACES }
         requires left { HasNumbers self.old.standing slot }
         ensures sent { result ≡ (numbered slot sent self.old).0 }
+        ensures same { result ≡ sent }
         ensures after { self.new ≡ (numbered slot sent self.old).1 }
     {
         let Some(sent) = sent else {
@@ -204,6 +214,7 @@ impl Mount {
         requires free { awaited_at self.old at.place ≡ None }
         requires name { length name.now ≤ NAME_LIMIT }
         requires privilege { length privilege.now ≤ PRIVILEGE_LIMIT }
+        ensures fits { IfOk result FitsRecord }
         ensures sent { IfOk result (λ told. told ≡ (child_asked M.mic_of at child name.now privilege.now self.old).0) }
         ensures after { IfOk result (λ told. self.new ≡ (child_asked M.mic_of at child name.now privilege.now self.old).1) }
         ensures err { OnErr result (self.new ≡ self.old) }
@@ -224,6 +235,7 @@ impl Mount {
         requires place { at.place < PLACES }
         requires xid { self.old.calls < at.xid }
         requires free { awaited_at self.old at.place ≡ None }
+        ensures fits { IfOk result FitsRecord }
         ensures sent { IfOk result (λ told. told ≡ (ended_in M.mic_of at ending self.old.standing self.old).0) }
         ensures after { IfOk result (λ told. self.new ≡ (ended_in M.mic_of at ending self.old.standing self.old).1) }
         ensures err { OnErr result (self.new ≡ self.old) }
@@ -247,6 +259,7 @@ impl Mount {
     ) -> Mem<Option<Sent>>
         requires place { at.place < PLACES }
         requires xid { self.old.calls < at.xid }
+        ensures fits { IfOk result FitsRecord }
         ensures sent { IfOk result (λ told. told ≡ (sent_again M.mic_of at self.old).0) }
         ensures after { IfOk result (λ told. self.new ≡ (sent_again M.mic_of at self.old).1) }
         ensures err { OnErr result (self.new ≡ self.old) }
@@ -358,6 +371,7 @@ fn send_anew<M: Mechanism>(
     xid: u32,
     mech: &M,
 ) -> Mem<Option<Sent>>
+    ensures fits { IfOk result FitsRecord }
     ensures sent { IfOk result (λ told. told ≡ out_anew M.mic_of xid contexts.old.items pending.old) }
     ensures contexts { IfOk result (λ told. contexts.new.items ≡ contexts_anew M.mic_of xid contexts.old.items pending.old) }
     ensures pending { IfOk result (λ told. pending.new ≡ pending_anew M.mic_of xid contexts.old.items pending.old) }

@@ -1,7 +1,8 @@
 //! The contexts that a caller has at a server.
 
-ghost use Rattle.std.specs.Prelude.{◌≡◌, ◌==◌, IfOk, OnErr, None, filter, find, position, option_copied};
+ghost use Rattle.std.specs.Prelude.{◌≡◌, ◌≤◌, ◌==◌, IfOk, IfSome, OnErr, None, filter, find, length, position, option_copied};
 ghost use Rattle.std.specs.List.{list_any};
+ghost use Rattle.rpc_msg.specs.declared.records.TheConstants.{RECORD_LIMIT};
 ghost use Rattle.session_client.specs.Asked.{AskedFits};
 ghost use Rattle.mount.specs.Falling.{awaits_under, is_used};
 ghost use Rattle.mount.specs.Sending.{sealed_by};
@@ -41,6 +42,7 @@ pub(crate) fn seal_by<M: Mechanism>(
     ensures told { IfOk result (λ told. told ≡ (sealed_by M.mic_of name xid asked.now contexts.old.items).0) }
     ensures after { IfOk result (λ told. contexts.new.items ≡ (sealed_by M.mic_of name xid asked.now contexts.old.items).1) }
     ensures none { IfOk result (λ told. told ≡ None → contexts.new.items ≡ contexts.old.items) }
+    ensures fits { IfOk result (λ told. IfSome told (λ call. length call.bytes ≤ RECORD_LIMIT)) }
     ensures err { OnErr result (contexts.new.items ≡ contexts.old.items) }
 {
     let Some(at) = place_of(contexts.as_slice(), name) else {

@@ -10,6 +10,7 @@
 
 mod calling;
 mod contexts;
+mod copying;
 mod falling;
 mod finding;
 mod laws;

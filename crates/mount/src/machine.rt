@@ -1,10 +1,11 @@
 //! A mount, and how far it is.
 
 ghost use Rattle.std.specs.Prelude.{◌≡◌, ◌<◌, false, true, None, is_some, option_map};
-ghost use Rattle.mount.specs.State.{fresh, setup_in, kept_in, awaited_at, is_setting_up, child_name, root_context, HasNumbers};
+ghost use Rattle.mount.specs.State.{fresh, setup_in, kept_in, awaited_at, is_setting_up, child_name, root_context, has_numbers, HasNumbers};
 ghost use Rattle.mount.specs.declared.state.TheConstants.{PLACES};
 
 use crate::contexts::{context_of, root_name};
+use crate::copying::none_awaited;
 use crate::places::{at, sets_up};
 use crate::state::{Awaiting, Context, PLACES, Standing};
 use nfs_base::{End, Seal};
@@ -64,10 +65,7 @@ impl Mount {
             contexts: Vec::new(alloc),
             standing: Standing::Down { kept: None },
             children: [None; PLACES as usize],
-            places: [
-                None, None, None, None, None, None, None, None, None, None, None, None, None, None,
-                None, None,
-            ],
+            places: none_awaited(),
         }
     }
 
@@ -128,7 +126,8 @@ impl Mount {
     /// Whether a slot has a number left for a new call.
     pub fn has_numbers(&self, slot: u32) -> bool
         requires { slot < PLACES }
-        ensures { result ≡ true → HasNumbers self.now.standing slot }
+        ensures is { result ≡ has_numbers self.now.standing slot }
+        ensures left { result ≡ true → HasNumbers self.now.standing slot }
     {
         match &self.standing {
             Standing::Down { .. } => true,

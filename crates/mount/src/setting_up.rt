@@ -2,10 +2,11 @@
 
 ghost use Rattle.std.specs.Prelude.{◌≡◌, ◌<◌, ◌≤◌, length, false, None, Some, IfOk, IfSome, OnErr, option_copied};
 ghost use Rattle.gss_ctx.specs.Init.{init_message};
+ghost use Rattle.rpc_msg.specs.declared.records.TheConstants.{RECORD_LIMIT};
 ghost use Rattle.session_client.specs.Asked.{AskedFits};
 ghost use Rattle.nfs_base.specs.declared.limits.TheConstants.{NAME_LIMIT};
 ghost use Rattle.session_client.specs.declared.setup.Setup.TheVariants as setups;
-ghost use Rattle.mount.specs.Sending.{begun, begun_anew, init_awaits, step_asked, stepped_in};
+ghost use Rattle.mount.specs.Sending.{FitsRecord, begun, begun_anew, init_awaits, step_asked, stepped_in};
 ghost use Rattle.mount.specs.State.{awaited_at, is_setting_up, kept_in, setup_in};
 ghost use Rattle.mount.specs.declared.state.Standing.TheVariants.{Down};
 ghost use Rattle.mount.specs.declared.state.TheConstants.{PLACES};
@@ -34,6 +35,7 @@ impl Mount {
         requires free { awaited_at self.old at.place ≡ None }
         requires down { setup_in self.old.standing ≡ setups.Down }
         requires alone { is_setting_up self.old ≡ false }
+        ensures fits { IfOk result FitsRecord }
         ensures begun { IfOk result (λ told. told ≡ (begun at nonce.now (M.started mech.now principal.now nonce.now) self.old).0) }
         ensures after { IfOk result (λ told. self.new ≡ (begun at nonce.now (M.started mech.now principal.now nonce.now) self.old).1) }
         ensures err { OnErr result (self.new ≡ self.old) }
@@ -52,6 +54,7 @@ impl Mount {
         requires xid { self.old.calls < at.xid }
         requires free { awaited_at self.old at.place ≡ None }
         requires alone { is_setting_up self.old ≡ false }
+        ensures fits { IfOk result FitsRecord }
         ensures begun { IfOk result (λ told. told ≡ (begun_anew at self.old).0) }
         ensures after { IfOk result (λ told. self.new ≡ (begun_anew at self.old).1) }
         ensures err { OnErr result (self.new ≡ self.old) }
@@ -70,6 +73,8 @@ impl Mount {
     fn await_init(&mut self, at: SendAt, mut init: PendingInit, bytes: Octets) -> Sent
         requires place { at.place < PLACES }
         requires bytes { bytes ≡ init_message at.xid init.token }
+        requires fits { length bytes ≤ RECORD_LIMIT }
+        ensures fits { length result.bytes ≤ RECORD_LIMIT }
         ensures sent { Some result ≡ (init_awaits at init self.old).0 }
         ensures after { self.new ≡ (init_awaits at init self.old).1 }
     {
@@ -97,6 +102,7 @@ impl Mount {
         requires free { awaited_at self.old at.place ≡ None }
         requires alone { is_setting_up self.old ≡ false }
         requires principal { length principal.now ≤ NAME_LIMIT }
+        ensures fits { IfOk result FitsRecord }
         ensures sent { IfOk result (λ told. told ≡ (stepped_in M.mic_of at principal.now back self.old.standing self.old).0) }
         ensures after { IfOk result (λ told. self.new ≡ (stepped_in M.mic_of at principal.now back self.old.standing self.old).1) }
         ensures err { OnErr result (self.new ≡ self.old) }

@@ -39,6 +39,8 @@ impl MountRows {
             "take" => self.take(alloc, number(words, 1), number(words, 2)),
             "thousand" => self.thousand(alloc),
             "make" => self.make(alloc, number(words, 1)),
+            "keep" => self.keep(alloc),
+            "back" => self.go_back(alloc),
             "fall" => self.fall(),
             "give_up" => self.give_up(number(words, 1)),
             "forget" => self.forget(number(words, 1)),
@@ -50,6 +52,16 @@ impl MountRows {
     fn renew(&mut self, alloc: Global, failing: u32) -> Result<Said, Wrong> {
         *self = MountRows::new(alloc, failing)?;
         Ok(Said::Word("made"))
+    }
+
+    fn keep(&mut self, alloc: Global) -> Result<Said, Wrong> {
+        self.scene.keep(alloc)?;
+        Ok(Said::Word("kept"))
+    }
+
+    fn go_back(&mut self, alloc: Global) -> Result<Said, Wrong> {
+        self.scene.go_back(alloc)?;
+        Ok(stage(&self.scene))
     }
 
     fn fall(&mut self) -> Result<Said, Wrong> {

@@ -16,12 +16,13 @@ use two_ends::{Server, Wrong, drawn};
 /// The principal of every call.
 const PRINCIPAL: &[u8] = b"user";
 
-/// A caller's mount and the server that it calls.
+/// A caller's mount, a copy of it that was kept, and the server that it calls.
 #[derive(Drop)]
 pub struct Scene {
     pub server: Server,
     pub mount: Mount,
     pub xid: u32,
+    kept: Mount,
     draws: CountDraws,
     plan: Planned,
 }
@@ -33,6 +34,7 @@ impl Scene {
             server: Server::new(alloc)?,
             mount: Mount::new(alloc, End::Source, true),
             xid: 0,
+            kept: Mount::new(alloc, End::Source, true),
             draws: CountDraws::new(),
             plan: planned(alloc, failing)?,
         })
@@ -167,6 +169,18 @@ impl Scene {
         }
         let mech = &self.server.mech;
         Ok(self.mount.take(alloc, place, PRINCIPAL, record_, mech)?)
+    }
+
+    /// A copy of the mount is kept.
+    pub fn keep(&mut self, alloc: Global) -> Result<(), Wrong> {
+        self.kept = self.mount.copy(alloc)?;
+        Ok(())
+    }
+
+    /// The copy is the mount from here on.
+    pub fn go_back(&mut self, alloc: Global) -> Result<(), Wrong> {
+        self.mount = self.kept.copy(alloc)?;
+        Ok(())
     }
 }
 

@@ -13,8 +13,8 @@ use outcome::Mem;
 use std::alloc::Global;
 use wire_xdr::{Items, Octets};
 
-/// No compound of these ends has so many bytes.
-pub const LONGEST_CALL: u32 = 73_728;
+/// No compound of these ends has so many bytes: sealed, with its head, it is no longer than a record may be.
+pub const LONGEST_CALL: u32 = 73_200;
 
 /// How many bytes its operations have at most.
 const OPERATIONS_SIZE: u32 = 72_000;

@@ -6,8 +6,9 @@ use Rattle.wire_xdr.specs.LengthLaws.{word_length, opaque_bounded}
 use Rattle.nfs_base.specs.declared.limits.TheConstants.{NAME_LIMIT, PRIVILEGE_LIMIT}
 use Rattle.gss_ctx.specs.declared.create.Create.{Create}
 use Rattle.gss_ctx.specs.Forms.{create}
+use Rattle.session_calls.specs.declared.compound.TheConstants.{LONGEST_CALL}
 
-pub create_short : (v : Create) → length v.name ≤ NAME_LIMIT → length v.privilege ≤ PRIVILEGE_LIMIT → length (create.spell v) < 4294967292
+pub create_short : (v : Create) → length v.name ≤ NAME_LIMIT → length v.privilege ≤ PRIVILEGE_LIMIT → length (create.spell v) < LONGEST_CALL
 unfolding create
 create_short v name privilege =
     omega (

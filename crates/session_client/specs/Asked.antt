@@ -6,6 +6,7 @@ use Rattle.gss_ctx.specs.Calls.{Side}
 use Rattle.gss_ctx.specs.Forms.{create}
 use Rattle.gss_ctx.specs.Seals.{Mic}
 use Rattle.session_calls.specs.Calls.{IsSendable}
+use Rattle.session_calls.specs.declared.compound.TheConstants.{LONGEST_CALL}
 use Rattle.session_client.specs.Sealing.{call_under, after_call}
 use Rattle.session_client.specs.declared.asked.Asked.{Asked}
 use Rattle.session_client.specs.declared.asked.Asked.TheVariants.{Compound, Create, Destroy}
@@ -32,7 +33,7 @@ ops_of _ = []
 -- it can go out: a compound that is whole, or short arguments
 abbrev pub AskedFits : Asked → Type 0
 AskedFits (Compound c) = IsSendable c
-AskedFits (Create args) = length args < 4294967292
+AskedFits (Create args) = length args < LONGEST_CALL
 AskedFits Destroy = Unit {0}
 
 -- the arguments of CREATE: a privilege's name and its bytes

@@ -1,7 +1,8 @@
 //! What is asked of a server under a context.
 
-ghost use Rattle.std.specs.Prelude.{◌≡◌, ◌≤◌, length, IfOk, OnErr};
+ghost use Rattle.std.specs.Prelude.{◌≡◌, ◌≤◌, length, IfOk, IfSome, OnErr};
 ghost use Rattle.nfs_base.specs.declared.limits.TheConstants.{NAME_LIMIT, PRIVILEGE_LIMIT};
+ghost use Rattle.rpc_msg.specs.declared.records.TheConstants.{RECORD_LIMIT};
 ghost use Rattle.session_client.specs.Asked.{AskedFits, called_under, create_args};
 
 use crate::sealing::{CallKind, SealedCall, seal_compound, seal_under};
@@ -10,6 +11,7 @@ use gss_mech::Mechanism;
 use nfs_compound::Compound;
 use outcome::Mem;
 use std::alloc::Global;
+use std::sync::Arc;
 use wire_xdr::Octets;
 
 /// What is asked of a server under a context.
@@ -38,6 +40,13 @@ impl Asked {
         Ok(Asked::Create(args))
     }
 
+    /// It is put where copies of a call share it.
+    pub fn share(self, alloc: Global) -> Mem<Arc<Asked>>
+        ensures { IfOk result (λ shared. shared.value ≡ self) }
+    {
+        Ok(Arc::new(alloc, self)?)
+    }
+
     /// Seals it as a call with this xid, with the context's next number. None exactly where the context's numbers have
     /// run out, which is at 2^31; then, and without memory, the context is as it was.
     pub fn seal<M: Mechanism>(
@@ -50,6 +59,7 @@ impl Asked {
         requires { AskedFits self.now }
         ensures told { IfOk result (λ told. told ≡ (called_under M.mic_of caller.old xid self.now).0) }
         ensures after { IfOk result (λ told. caller.new ≡ (called_under M.mic_of caller.old xid self.now).1) }
+        ensures fits { IfOk result (λ told. IfSome told (λ call. length call.bytes ≤ RECORD_LIMIT)) }
         ensures err { OnErr result (caller.new ≡ caller.old) }
     {
         match self {

@@ -4,6 +4,7 @@ ghost use Rattle.std.specs.Prelude.{◌≡◌, ◌≤◌, length, IfOk, OnErr};
 ghost use Rattle.nfs_base.specs.declared.limits.TheConstants.{TOKEN_LIMIT};
 ghost use Rattle.gss_ctx.specs.Init.{init_message};
 ghost use Rattle.gss_ctx.specs.Replies.{begun_of};
+ghost use Rattle.rpc_msg.specs.declared.records.TheConstants.{RECORD_LIMIT};
 ghost use Rattle.session_client.specs.Pending.{Beginning, beginning};
 ghost use Rattle.session_client.specs.Setup.{rooted};
 
@@ -57,16 +58,30 @@ impl PendingInit {
         }))
     }
 
+    /// The same INIT once more.
+    pub fn copy(&self) -> Mem<PendingInit>
+        ensures { IfOk result (λ copy. copy ≡ self.now) }
+    {
+        let nonce = self.nonce;
+        Ok(PendingInit {
+            nonce,
+            token: self.token.copy()?,
+            xid: self.xid,
+        })
+    }
+
     /// The bytes that go out.
     pub fn call(&self, alloc: Global) -> Mem<Octets>
-        ensures { IfOk result (λ bytes. bytes ≡ init_message self.now.xid self.now.token) }
+        ensures bytes { IfOk result (λ bytes. bytes ≡ init_message self.now.xid self.now.token) }
+        ensures fits { IfOk result (λ bytes. length bytes ≤ RECORD_LIMIT) }
     {
         init_call(alloc, self.xid, self.token.as_slice())
     }
 
     /// The bytes that go out where it is sent by another xid.
     pub fn call_as(&self, alloc: Global, xid: u32) -> Mem<Octets>
-        ensures { IfOk result (λ bytes. bytes ≡ init_message xid self.now.token) }
+        ensures bytes { IfOk result (λ bytes. bytes ≡ init_message xid self.now.token) }
+        ensures fits { IfOk result (λ bytes. length bytes ≤ RECORD_LIMIT) }
     {
         init_call(alloc, xid, self.token.as_slice())
     }

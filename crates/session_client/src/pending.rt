@@ -15,13 +15,15 @@ use nfs_compound::Op;
 use outcome::Mem;
 use std::alloc::Global;
 use std::marker::Model;
+use std::sync::Arc;
 use wire_xdr::Octets;
 
 /// A call that awaits its answer: what it asks, the seal under which it was last sent, and what is awaited of the reply
-/// to that. The number of a compound in its slot stands in its SEQUENCE, and stays with it.
+/// to that. The number of a compound in its slot stands in its SEQUENCE, and stays with it. What it asks may be 64 KiB
+/// long and never changes, so copies of the call share it.
 #[derive(Drop)]
 pub struct PendingCall {
-    asked: Asked,
+    asked: Arc<Asked>,
     seal: Seal,
     awaited: Awaited,
 }
@@ -32,16 +34,16 @@ impl Model for PendingCall {
 
     ghost Value = { Asking };
 
-    ghost view = { λ p. record { asked = p.asked; seal = p.seal; awaited = p.awaited } };
+    ghost view = { λ p. record { asked = p.asked.value; seal = p.seal; awaited = p.awaited } };
 
-    ghost invariant = { λ p. AskedFits p.asked };
+    ghost invariant = { λ p. AskedFits p.asked.value };
 }
 
 impl PendingCall {
     /// The call that was just sealed awaits its answer; beside it the bytes that go out.
-    pub fn new(asked: Asked, call: SealedCall) -> (PendingCall, Octets)
-        requires { AskedFits asked }
-        ensures pending { result.0 ≡ asking asked call }
+    pub fn new(asked: Arc<Asked>, call: SealedCall) -> (PendingCall, Octets)
+        requires { AskedFits asked.value }
+        ensures pending { result.0 ≡ asking asked.value call }
         ensures bytes { result.1 ≡ call.bytes }
     {
         let SealedCall {
@@ -55,6 +57,17 @@ impl PendingCall {
             awaited,
         };
         (pending, bytes)
+    }
+
+    /// The same call once more.
+    pub fn copy(&self) -> Mem<PendingCall>
+        ensures { IfOk result (λ copy. copy ≡ self.now) }
+    {
+        Ok(PendingCall {
+            asked: self.asked.clone()?,
+            seal: self.seal,
+            awaited: self.awaited,
+        })
     }
 
     /// The same was sealed anew: what was sent before is no longer awaited. Gives the bytes that go out.

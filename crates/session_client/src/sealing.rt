@@ -1,7 +1,9 @@
 //! Calls as they go out under a context.
 
-ghost use Rattle.std.specs.Prelude.{◌≡◌, ◌<◌, ◌≤◌, ◌^◌, length, IfOk, OnErr, None};
+ghost use Rattle.std.specs.Prelude.{◌≡◌, ◌+◌, ◌<◌, ◌≤◌, ◌^◌, length, IfOk, IfSome, OnErr, None};
+ghost use Rattle.gss_ctx.specs.declared.caller.TheConstants.{CALL_ROOM};
 ghost use Rattle.nfs_compound.specs.Compounds.{compound_bytes};
+ghost use Rattle.rpc_msg.specs.declared.records.TheConstants.{RECORD_LIMIT};
 ghost use Rattle.session_calls.specs.Calls.{IsSendable};
 ghost use Rattle.session_client.specs.Sealing.{proc_of, gss_proc_of, IsCalled};
 ghost use Rattle.session_client.specs.declared.sealing.CallKind.{CallKind};
@@ -72,6 +74,7 @@ pub fn seal_under<M: Mechanism>(
     requires { length args.now < 4294967292 }
     ensures called { caller.old.next < 2 ^ 31 → IfOk result (λ told. IsCalled M.mic_of caller.old xid kind args.now caller.new told) }
     ensures none { 2 ^ 31 ≤ caller.old.next → IfOk result (λ told. (told ≡ None) × (caller.new ≡ caller.old)) }
+    ensures len { IfOk result (λ told. IfSome told (λ call. length call.bytes ≤ length args.now + CALL_ROOM)) }
     ensures err { OnErr result (caller.new ≡ caller.old) }
 {
     let head = call_head(alloc, xid, kind.proc(), kind.gss_proc())?;
@@ -97,6 +100,7 @@ pub fn seal_compound<M: Mechanism>(
     requires { IsSendable compound.now }
     ensures called { caller.old.next < 2 ^ 31 → IfOk result (λ told. IsCalled M.mic_of caller.old xid CallKind.Compound (compound_bytes compound.now) caller.new told) }
     ensures none { 2 ^ 31 ≤ caller.old.next → IfOk result (λ told. (told ≡ None) × (caller.new ≡ caller.old)) }
+    ensures fits { IfOk result (λ told. IfSome told (λ call. length call.bytes ≤ RECORD_LIMIT)) }
     ensures err { OnErr result (caller.new ≡ caller.old) }
 {
     let args = write_compound(alloc, compound)?;

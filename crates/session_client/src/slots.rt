@@ -35,6 +35,14 @@ impl SlotNumbers {
         }
     }
 
+    /// The same numbers once more.
+    pub fn copy(&self) -> SlotNumbers
+        ensures { result ≡ self.now }
+    {
+        let next = self.next;
+        SlotNumbers { next }
+    }
+
     /// The number of the next new call in a slot.
     pub fn next(&self, slot: u32) -> u32
         requires { slot < SLOTS }
