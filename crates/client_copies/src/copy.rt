@@ -17,7 +17,7 @@ pub struct Session {
 }
 
 /// What COPY_NOTIFY's answer told (RFC 7862 section 15.3).
-#[derive(Drop)]
+#[derive(Clone, Copy)]
 pub struct First {
     /// The source file, by its handle.
     pub file: Handle,
@@ -128,7 +128,7 @@ pub enum Asking {
 }
 
 /// One copy of a client.
-#[derive(Drop)]
+#[derive(Clone, Copy)]
 pub struct ClientCopy {
     pub spec: CopySpec,
 

@@ -5,7 +5,7 @@ use copy_ops::OffloadEnd;
 use nfs_base::{Side, StateId, Status};
 
 /// What happens to a copy. Moments are whole seconds.
-#[derive(Drop)]
+#[derive(Clone, Copy)]
 pub enum Event {
     /// Its file is open at this server, by an OPEN of its own or of another.
     Opened(Side),

@@ -49,6 +49,15 @@ impl HeldOffloads {
         })
     }
 
+    /// The same once more.
+    pub fn copy(&self, alloc: Global) -> Mem<HeldOffloads>
+        ensures { IfOk result (λ held. held ≡ self.now) }
+    {
+        let mut held = Vec::with_capacity(alloc, MOST_HELD)?;
+        held.extend_from_slice(self.held.as_slice())?;
+        Ok(HeldOffloads { held })
+    }
+
     /// Holds one more. False exactly where 16 are held already; then nothing changes. It takes no memory.
     pub fn hold(&mut self, one: HeldOffload) -> bool
         ensures told { result ≡ spec.has_room self.old }

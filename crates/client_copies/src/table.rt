@@ -1,6 +1,6 @@
 //! The copies of a client.
 
-ghost use Rattle.std.specs.Prelude.{◌≡◌, ◌<◌, IfOk, option_copied, position};
+ghost use Rattle.std.specs.Prelude.{◌≡◌, ◌<◌, IfOk, None, option_copied, position, replicate};
 ghost use Rattle.client_copies.specs.Table as spec;
 ghost use Rattle.client_copies.specs.declared.table.TheConstants.{MOST_COPIES};
 
@@ -52,11 +52,20 @@ impl CopyTable {
         ensures { IfOk result (λ t. t ≡ spec.no_copies) }
     {
         Ok(CopyTable {
-            copies: [
-                None, None, None, None, None, None, None, None, None, None, None, None, None, None,
-                None, None,
-            ],
+            copies: no_copies(),
             held: HeldOffloads::new(alloc)?,
+        })
+    }
+
+    /// The same copies and the same that is held once more.
+    pub fn copy_all(&self, alloc: Global) -> Mem<CopyTable>
+        ensures { IfOk result (λ t. t ≡ self.now) }
+    {
+        let mut copies = no_copies();
+        copies.copy_from_slice(&self.copies);
+        Ok(CopyTable {
+            copies,
+            held: self.held.copy(alloc)?,
         })
     }
 
@@ -118,6 +127,15 @@ impl CopyTable {
             }
         }
     }
+}
+
+fn no_copies() -> [Option<ClientCopy>; MOST_COPIES as usize]
+    ensures { result ≡ replicate MOST_COPIES None }
+{
+    [
+        None, None, None, None, None, None, None, None, None, None, None, None, None, None, None,
+        None,
+    ]
 }
 
 fn on_copy(copy: &mut Option<ClientCopy>, event: Event) -> Said

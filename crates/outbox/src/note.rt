@@ -1,4 +1,4 @@
-ghost use Rattle.std.specs.Prelude.{◌≡◌, ◌++◌, ◌∷◌, ◌<◌, [], length, IfOk};
+ghost use Rattle.std.specs.Prelude.{◌≡◌, ◌++◌, ◌∷◌, ◌<◌, [], length, IfOk, OnOk, OnErr};
 
 use nfs_base::{Cause, JobName, PrivCause, Side, Status, Stop};
 use outcome::Mem;
@@ -207,6 +207,15 @@ impl NoteList {
         ensures { self.new ≡ self.old ++ note ∷ [] }
     {
         self.notes.push(note).unwrap();
+    }
+
+    /// Adds a note, also beyond the room that was taken. Without memory nothing changes.
+    pub fn add(&mut self, note: Note) -> Mem<()>
+        ensures ok { OnOk result (self.new ≡ self.old ++ note ∷ []) }
+        ensures err { OnErr result (self.new ≡ self.old) }
+    {
+        self.notes.push(note)?;
+        Ok(())
     }
 
     /// Takes all notes out.

@@ -1,3 +1,4 @@
 pub mod Laws
+pub mod Plan
 pub mod Queue
 pub mod Steps

@@ -1,8 +1,10 @@
 //! The verifiers of writes.
 
-ghost use Rattle.std.specs.Prelude.{◌≡◌, ◌==◌, ◌≤◌, ◌+◌, ◌<◌, not, filter, length, vec_len, vec_capacity};
+ghost use Rattle.std.specs.Prelude.{◌≡◌, ◌==◌, IfOk, not, filter};
 ghost use Rattle.std.specs.List.{list_all, list_any};
 ghost use Rattle.write_queue.specs.Queue.{agrees, cleared, is_pair, is_same, noted};
+
+use outcome::Mem;
 
 /// A write of this file was answered under this verifier since the last line of a commit of it.
 #[derive(Clone, Copy)]
@@ -11,16 +13,14 @@ pub struct Seen {
     pub verifier: [u8; 8],
 }
 
-/// Notes a write. It takes no memory where there is room for one more.
-pub(crate) fn note(seen: &mut Vec<Seen>, one: Seen)
-    requires { vec_len seen.old < vec_capacity seen.old }
-    ensures noted { seen.new.items ≡ noted one.file one.verifier seen.old.items }
-    ensures few { vec_len seen.new ≤ vec_len seen.old + 1 }
-    ensures room { vec_capacity seen.old ≤ vec_capacity seen.new }
+/// Notes a write.
+pub(crate) fn note(seen: &mut Vec<Seen>, one: Seen) -> Mem<()>
+    ensures { IfOk result (λ _. seen.new.items ≡ noted one.file one.verifier seen.old.items) }
 {
     if !has(seen.as_slice(), &one) {
-        seen.push(one).unwrap();
+        seen.push(one)?;
     }
+    Ok(())
 }
 
 fn has(seen: &[Seen], one: &Seen) -> bool
@@ -50,9 +50,7 @@ fn agrees(one: &Seen, file: u32, verifier: &[u8; 8]) -> bool
 
 /// Forgets the writes of a file.
 pub(crate) fn clear(seen: &mut Vec<Seen>, file: u32)
-    ensures cleared { seen.new.items ≡ cleared file seen.old.items }
-    ensures few { vec_len seen.new ≤ vec_len seen.old }
-    ensures room { vec_capacity seen.new ≡ vec_capacity seen.old }
+    ensures { seen.new.items ≡ cleared file seen.old.items }
 {
     seen.retain(|one| is_of_another(one, file));
 }
