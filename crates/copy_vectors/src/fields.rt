@@ -36,3 +36,9 @@ pub fn location(alloc: Global, words: &[&str], at: usize) -> Mem<Option<NetLoc>>
         addr: Octets::from_slice(alloc, addr)?,
     }))
 }
+
+/// Tells a text.
+pub fn tell(text: &mut String, what: &str) -> Mem<()> {
+    text.push_str(what)?;
+    Ok(())
+}

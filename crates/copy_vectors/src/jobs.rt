@@ -1,9 +1,10 @@
-use crate::fields::long;
-use job_table::{Chunk, JobId, Jobs, Landing, Plan, Refused};
+use crate::fields::{long, tell};
+use job_table::{Chunk, JobId, JobStatus, Jobs, Landing, Plan, Refused};
 use nfs_base::{Handle, StateId, Status, Stop};
 use outcome::Mem;
 use row_text::{number, word, words};
 use std::alloc::Global;
+use std::fmt::Write;
 use wire_xdr::Octets;
 
 /// The boot number of the table.
@@ -107,124 +108,82 @@ impl JobLines {
     /// with the bytes that landed and `running` or a status, or `gone`; `next N`, with a number or `none`; `len N`, with a
     /// length or `none`; `is N`, with what holds of the job; `landed`, with the bytes of all jobs; and `sweep N STEP`,
     /// with how many chunks landed, were held and were late.
-    pub fn answer(&mut self, alloc: Global, call: &str) -> Mem<String> {
+    pub fn answer(&mut self, alloc: Global, call: &str, text: &mut String) -> Mem<()> {
         let words = words(alloc, call)?;
         let words = words.as_slice();
         let job = id(words);
         match word(words, 0) {
-            "accept" => self.accept(alloc, words),
-            "claim" => self.claim(alloc, job),
-            "landing" => landing(alloc, self.jobs.landing(job, chunk(words))),
-            "land" => landing(alloc, self.jobs.land(job, chunk(words))),
-            "status" => self.status(alloc, job),
-            "next" => self.next(alloc, number(words, 1)),
-            "len" => self.len(alloc, job),
-            "is" => self.state(alloc, job),
-            "landed" => {
-                let bytes = self.jobs.landed();
-                Ok(format!(in alloc; "{bytes}")?)
-            }
-            "sweep" => self.sweep(alloc, job, number(words, 2) as usize),
-            _ => Ok(format!(in alloc; "no call")?),
+            "accept" => self.accept(alloc, words, text),
+            "claim" => tell_claim(self.jobs.claim(job), text),
+            "landing" => tell_landing(self.jobs.landing(job, chunk(words)), text),
+            "land" => tell_landing(self.jobs.land(job, chunk(words)), text),
+            "status" => tell_status(self.jobs.status(job), text),
+            "next" => tell_next(self.jobs.next(number(words, 1)), text),
+            "len" => tell_len(self.jobs.len(job), text),
+            "is" => self.state(job, text),
+            "landed" => tell_long(self.jobs.landed(), text),
+            "sweep" => self.sweep(alloc, job, number(words, 2) as usize, text),
+            _ => tell(text, "no call"),
         }
     }
 
-    fn accept(&mut self, alloc: Global, words: &[&str]) -> Mem<String> {
-        let Some(plan) = plan(alloc, words) else {
-            return Ok(format!(in alloc; "no plan")?);
-        };
+    fn accept(&mut self, alloc: Global, words: &[&str], text: &mut String) -> Mem<()> {
+        match plan(alloc, words) {
+            Some(plan) => self.accept_plan(plan, text),
+            None => tell(text, "no plan"),
+        }
+    }
+
+    fn accept_plan(&mut self, plan: Plan, text: &mut String) -> Mem<()> {
         let end = u128::from(plan.dst_off) + u128::from(plan.count);
         if self.jobs.made() == u32::MAX || end > u128::from(self.jobs.capacity()) {
-            return Ok(format!(in alloc; "not to be asked")?);
+            return tell(text, "not to be asked");
         }
-        match self.jobs.accept(plan)? {
-            Ok(JobId { number, .. }) => Ok(format!(in alloc; "job {number}")?),
-            Err(Refused::Overlap { job }) => {
-                let number = job.number;
-                Ok(format!(in alloc; "overlap {number}")?)
-            }
-            Err(Refused::Full) => Ok(format!(in alloc; "full")?),
-        }
+        let accepted = self.jobs.accept(plan)?;
+        tell_accepted(accepted, text)
     }
 
-    fn claim(&mut self, alloc: Global, job: JobId) -> Mem<String> {
-        match self.jobs.claim(job) {
-            Some(Chunk { off, len }) => Ok(format!(in alloc; "{off} {len}")?),
-            None => Ok(format!(in alloc; "none")?),
-        }
-    }
-
-    fn status(&self, alloc: Global, job: JobId) -> Mem<String> {
-        let Some(status) = self.jobs.status(job) else {
-            return Ok(format!(in alloc; "gone")?);
-        };
-        let landed = status.landed;
-        match status.complete {
-            Some(complete) => Ok(format!(in alloc; "{landed} {complete}")?),
-            None => Ok(format!(in alloc; "{landed} running")?),
-        }
-    }
-
-    fn next(&self, alloc: Global, after: u32) -> Mem<String> {
-        match self.jobs.next(after) {
-            Some(JobId { number, .. }) => Ok(format!(in alloc; "{number}")?),
-            None => Ok(format!(in alloc; "none")?),
-        }
-    }
-
-    fn len(&self, alloc: Global, job: JobId) -> Mem<String> {
-        match self.jobs.len(job) {
-            Some(len) => Ok(format!(in alloc; "{len}")?),
-            None => Ok(format!(in alloc; "none")?),
-        }
-    }
-
-    /// What holds of a job: `running`, `whole`, `ended`, `reported`, each where it does, or `-`.
-    fn state(&self, alloc: Global, job: JobId) -> Mem<String> {
-        let mut state = String::new(alloc);
-        if self.jobs.is_running(job) {
-            state.push_str("running ")?;
-        }
-        if self.jobs.is_whole(job) {
-            state.push_str("whole ")?;
-        }
-        if self.jobs.is_ended(job) {
-            state.push_str("ended ")?;
-        }
-        if self.jobs.is_reported(job) {
-            state.push_str("reported ")?;
-        }
-        state.push_str("-")?;
-        Ok(state)
+    /// Tells what holds of a job: `running`, `whole`, `ended`, `reported`, each where it does, and then `-`.
+    fn state(&self, job: JobId, text: &mut String) -> Mem<()> {
+        tell_where(self.jobs.is_running(job), text, "running ")?;
+        tell_where(self.jobs.is_whole(job), text, "whole ")?;
+        tell_where(self.jobs.is_ended(job), text, "ended ")?;
+        tell_where(self.jobs.is_reported(job), text, "reported ")?;
+        tell(text, "-")
     }
 
     /// Claims what can be claimed of a job, and lands each chunk that the last sweep claimed once: the first, then always
     /// the one that lies this many places further on in the ring of them.
-    fn sweep(&mut self, alloc: Global, job: JobId, step: usize) -> Mem<String> {
+    fn sweep(&mut self, alloc: Global, job: JobId, step: usize, text: &mut String) -> Mem<()> {
         let claimed = self.claim_all(alloc, job)?;
         if !claimed.is_empty() {
             self.chunks = claimed;
         }
+        match step.checked_rem(self.chunks.len()) {
+            Some(step) => tell_swept(self.land_all(job, step), text),
+            None => tell(text, "no chunks"),
+        }
+    }
+
+    /// How many chunks landed, were held and were late.
+    fn land_all(&mut self, job: JobId, step: usize) -> Swept {
         let count = self.chunks.len();
-        let Some(step) = step.checked_rem(count) else {
-            return Ok(format!(in alloc; "no chunks")?);
+        let mut swept = Swept {
+            landed: 0,
+            held: 0,
+            late: 0,
         };
-        let (mut landed, mut held, mut late) = (0u32, 0u32, 0u32);
         let mut at = 0usize;
         for _ in 0..count {
             if let Some(chunk) = self.chunks.get(at) {
-                match self.jobs.land(job, *chunk) {
-                    Landing::Landed => landed = landed.saturating_add(1),
-                    Landing::Held => held = held.saturating_add(1),
-                    Landing::Late => late = late.saturating_add(1),
-                }
+                swept.count(self.jobs.land(job, *chunk));
             }
             at = at.saturating_add(step);
             if at >= count {
                 at -= count;
             }
         }
-        Ok(format!(in alloc; "{landed} {held} {late}")?)
+        swept
     }
 
     fn claim_all(&mut self, alloc: Global, job: JobId) -> Mem<Vec<Chunk>> {
@@ -293,10 +252,90 @@ fn cause(words: &[&str]) -> Option<Stop> {
     }
 }
 
-fn landing(alloc: Global, landing: Landing) -> Mem<String> {
-    match landing {
-        Landing::Landed => Ok(format!(in alloc; "landed")?),
-        Landing::Held => Ok(format!(in alloc; "held")?),
-        Landing::Late => Ok(format!(in alloc; "late")?),
+/// How many chunks of a sweep landed, were held and were late.
+#[derive(Clone, Copy)]
+struct Swept {
+    landed: u32,
+    held: u32,
+    late: u32,
+}
+
+impl Swept {
+    fn count(&mut self, landing: Landing) {
+        match landing {
+            Landing::Landed => self.landed = self.landed.saturating_add(1),
+            Landing::Held => self.held = self.held.saturating_add(1),
+            Landing::Late => self.late = self.late.saturating_add(1),
+        }
     }
+}
+
+fn tell_swept(swept: Swept, text: &mut String) -> Mem<()> {
+    write!(text, "{} {} {}", swept.landed, swept.held, swept.late)?;
+    Ok(())
+}
+
+fn tell_accepted(accepted: Result<JobId, Refused>, text: &mut String) -> Mem<()> {
+    match accepted {
+        Ok(JobId { number, .. }) => write!(text, "job {number}")?,
+        Err(Refused::Overlap { job }) => write!(text, "overlap {}", job.number)?,
+        Err(Refused::Full) => text.push_str("full")?,
+    }
+    Ok(())
+}
+
+fn tell_claim(claim: Option<Chunk>, text: &mut String) -> Mem<()> {
+    match claim {
+        Some(Chunk { off, len }) => write!(text, "{off} {len}")?,
+        None => text.push_str("none")?,
+    }
+    Ok(())
+}
+
+fn tell_landing(landing: Landing, text: &mut String) -> Mem<()> {
+    match landing {
+        Landing::Landed => text.push_str("landed")?,
+        Landing::Held => text.push_str("held")?,
+        Landing::Late => text.push_str("late")?,
+    }
+    Ok(())
+}
+
+fn tell_status(status: Option<JobStatus>, text: &mut String) -> Mem<()> {
+    let Some(status) = status else {
+        return tell(text, "gone");
+    };
+    write!(text, "{} ", status.landed)?;
+    match status.complete {
+        Some(complete) => write!(text, "{complete}")?,
+        None => text.push_str("running")?,
+    }
+    Ok(())
+}
+
+fn tell_next(next: Option<JobId>, text: &mut String) -> Mem<()> {
+    match next {
+        Some(JobId { number, .. }) => write!(text, "{number}")?,
+        None => text.push_str("none")?,
+    }
+    Ok(())
+}
+
+fn tell_len(len: Option<u64>, text: &mut String) -> Mem<()> {
+    match len {
+        Some(len) => tell_long(u128::from(len), text),
+        None => tell(text, "none"),
+    }
+}
+
+fn tell_long(number: u128, text: &mut String) -> Mem<()> {
+    write!(text, "{number}")?;
+    Ok(())
+}
+
+fn tell_where(holds: bool, text: &mut String, what: &str) -> Mem<()> {
+    if holds {
+        text.push_str(what)?;
+    }
+    Ok(())
 }

@@ -14,7 +14,6 @@ mod grants;
 mod jobs;
 mod privileges;
 
-use crate::fields::long;
 use crate::grants::GrantLines;
 use crate::jobs::JobLines;
 use outcome::Mem;
@@ -48,38 +47,56 @@ impl Tables {
 
     /// Whether the answer of a line is that of the call.
     fn is_met(&mut self, alloc: Global, line: &str) -> Mem<bool> {
-        let words = words(alloc, line)?;
-        let words = words.as_slice();
         if self.in_jobs {
-            return self.is_met_by_jobs(alloc, line, words);
+            return self.is_met_by_jobs(alloc, line);
         }
-        if let Some((call, wanted)) = line.split_once(" = ") {
-            let given = self.grants.answer(alloc, call)?;
-            return Ok(given.as_str() == wanted);
+        match line.split_once(" = ") {
+            Some((call, wanted)) => {
+                let mut text = String::new(alloc);
+                self.grants.answer(alloc, call, &mut text)?;
+                Ok(text.as_str() == wanted)
+            }
+            None => self.is_done(alloc, line),
         }
-        match word(words, 0) {
+    }
+
+    /// Does what a line of grants without an answer says. Any other one is a line of privileges.
+    fn is_done(&mut self, alloc: Global, line: &str) -> Mem<bool> {
+        let words = words(alloc, line)?;
+        let number = number(&words, 1);
+        match word(&words, 0) {
             "case" => {
-                self.grants.begin(alloc, number(words, 1))?;
+                self.grants.begin(alloc, number)?;
                 Ok(true)
             }
             "expire" => {
-                self.grants.expire(u64::from(number(words, 1)));
+                self.grants.expire(u64::from(number));
                 Ok(true)
             }
             _ => privileges::is_met(alloc, line),
         }
     }
 
-    fn is_met_by_jobs(&mut self, alloc: Global, line: &str, words: &[&str]) -> Mem<bool> {
-        if word(words, 0) == "case" {
-            self.jobs.begin(alloc, long(words, 1))?;
-            return Ok(true);
+    fn is_met_by_jobs(&mut self, alloc: Global, line: &str) -> Mem<bool> {
+        match line.split_once(" = ") {
+            Some((call, wanted)) => {
+                let mut text = String::new(alloc);
+                self.jobs.answer(alloc, call, &mut text)?;
+                Ok(text.as_str() == wanted)
+            }
+            None => self.is_done_by_jobs(alloc, line),
         }
-        if let Some((call, wanted)) = line.split_once(" = ") {
-            let given = self.jobs.answer(alloc, call)?;
-            return Ok(given.as_str() == wanted);
+    }
+
+    fn is_done_by_jobs(&mut self, alloc: Global, line: &str) -> Mem<bool> {
+        match line.strip_prefix("case ") {
+            Some(capacity) => {
+                let capacity = capacity.parse::<u64>().unwrap_or(u64::MAX);
+                self.jobs.begin(alloc, capacity)?;
+                Ok(true)
+            }
+            None => self.jobs.is_done(alloc, line),
         }
-        self.jobs.is_done(alloc, line)
     }
 }
 

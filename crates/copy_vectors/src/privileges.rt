@@ -1,8 +1,11 @@
-use crate::fields::octets;
+ghost use Rattle.copy_privs.specs.Forms.{PrivilegeFits};
+
+use crate::fields::{octets, tell};
 use copy_privs::{PrivFault, Privilege, read_privilege, write_privilege};
 use outcome::Mem;
 use row_text::words;
 use std::alloc::Global;
+use std::fmt::Write;
 use wire_xdr::Octets;
 
 /// Whether a line `NAME BYTES ANSWER` is met. The answer is `from SECRET USER`, `to SECRET N USER` with the number
@@ -14,51 +17,73 @@ pub fn is_met(alloc: Global, line: &str) -> Mem<bool> {
     let Some((_, wanted)) = rest.split_once(' ') else {
         return Ok(false);
     };
-    let words = words(alloc, line)?;
-    let (name, bytes) = (octets(alloc, &words, 0)?, octets(alloc, &words, 1)?);
-    let given = answer(alloc, name.as_slice(), bytes.as_slice())?;
-    Ok(given.as_str() == wanted)
+    let mut text = String::new(alloc);
+    tell_line(alloc, line, &mut text)?;
+    Ok(text.as_str() == wanted)
 }
 
-fn answer(alloc: Global, name: &[u8], bytes: &[u8]) -> Mem<String> {
-    match read_privilege(alloc, name, bytes)? {
+/// Tells the answer of a line.
+fn tell_line(alloc: Global, line: &str, text: &mut String) -> Mem<()> {
+    let words = words(alloc, line)?;
+    let (name, bytes) = (octets(alloc, &words, 0)?, octets(alloc, &words, 1)?);
+    match read_privilege(alloc, name.as_slice(), bytes.as_slice())? {
         Ok(privilege) => {
-            let again = write_privilege(alloc, &privilege)?;
-            if again.as_slice() != bytes || privilege.name() != name {
-                return Ok(format!(in alloc; "written otherwise")?);
-            }
-            shown(alloc, &privilege)
+            let is_again = is_again(alloc, &privilege, name.as_slice(), bytes.as_slice())?;
+            tell_privilege(is_again, &privilege, text)
         }
-        Err(PrivFault::UnknownName) => Ok(format!(in alloc; "unknown")?),
-        Err(PrivFault::BadXdr { at }) => Ok(format!(in alloc; "bad {at}")?),
+        Err(fault) => tell_fault(fault, text),
     }
 }
 
-fn shown(alloc: Global, privilege: &Privilege) -> Mem<String> {
+/// Whether a privilege has this name and is written to these bytes.
+fn is_again(alloc: Global, privilege: &Privilege, name: &[u8], bytes: &[u8]) -> Mem<bool>
+    requires { PrivilegeFits privilege.now }
+{
+    let again = write_privilege(alloc, privilege)?;
+    Ok(again.as_slice() == bytes && privilege.name() == name)
+}
+
+fn tell_fault(fault: PrivFault, text: &mut String) -> Mem<()> {
+    match fault {
+        PrivFault::UnknownName => text.push_str("unknown")?,
+        PrivFault::BadXdr { at } => write!(text, "bad {at}")?,
+    }
+    Ok(())
+}
+
+fn tell_privilege(is_again: bool, privilege: &Privilege, text: &mut String) -> Mem<()> {
+    if !is_again {
+        return tell(text, "written otherwise");
+    }
     match privilege {
         Privilege::From { secret, user, .. } => {
-            let (secret, user) = (text(alloc, secret)?, text(alloc, user)?);
-            Ok(format!(in alloc; "from {secret} {user}")?)
+            tell_bytes("from ", secret, text)?;
+            tell_bytes(" ", user, text)
         }
         Privilege::To {
             secret,
             sources,
             user,
         } => {
-            let (secret, user) = (text(alloc, secret)?, text(alloc, user)?);
-            let count = sources.len();
-            Ok(format!(in alloc; "to {secret} {count} {user}")?)
+            tell_bytes("to ", secret, text)?;
+            write!(text, " {}", sources.len())?;
+            tell_bytes(" ", user, text)
         }
         Privilege::Confirm { mic, user } => {
-            let (mic, user) = (text(alloc, mic)?, text(alloc, user)?);
-            Ok(format!(in alloc; "confirm {mic} {user}")?)
+            tell_bytes("confirm ", mic, text)?;
+            tell_bytes(" ", user, text)
         }
     }
 }
 
-fn text(alloc: Global, bytes: &Octets) -> Mem<String> {
+/// Tells bytes in hex behind a text; `-` is none.
+fn tell_bytes(front: &str, bytes: &Octets, text: &mut String) -> Mem<()> {
+    text.push_str(front)?;
     if bytes.is_empty() {
-        return Ok(format!(in alloc; "-")?);
+        return tell(text, "-");
     }
-    Ok(hex::encode(alloc, bytes.as_slice())?)
+    for byte in bytes.as_slice() {
+        write!(text, "{byte:02x}")?;
+    }
+    Ok(())
 }

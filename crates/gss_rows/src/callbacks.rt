@@ -1,17 +1,17 @@
 //! A recorded callback of the destination, and the client's reply to it.
 
-ghost use Rattle.std.specs.Prelude.{IfOk};
 ghost use Rattle.rpc_msg.specs.Heads.{call};
 
 use crate::told::{bytes_at, part, tell_where};
-use gss_ctx::{Admit, Contexts};
+use gss_ctx::Contexts;
 use gss_mech::{Mechanism, Realm};
 use nfs_base::{End, Seal};
 use outcome::Mem;
-use rpc_msg::read_call;
 use std::alloc::Global;
 use std::fmt::Write;
-use two_ends::{Call, Wrong, realm};
+use streams::CountDraws;
+use two_ends::{Call, Server, Wrong, realm};
+use wire_xdr::Octets;
 
 /// The key of the client's context at the destination, by the tokens of INIT and its reply.
 fn key_at_dest(mech: &Realm, call: &[u8], reply: &[u8]) -> Result<[u8; 32], Wrong> {
@@ -43,12 +43,17 @@ fn add(
     }
 }
 
-/// The client's contexts for callbacks: of `source`, and of `dest` with this key.
-fn contexts(alloc: Global, mech: &Realm, key: &[u8; 32]) -> Result<Contexts<u8>, Wrong> {
+/// The client as the end that is called back, with its contexts: of `source`, and of `dest` with this key.
+fn called_end(alloc: Global, mech: Realm, key: &[u8; 32]) -> Result<Server, Wrong> {
     let mut contexts = Contexts::new(alloc, End::Client, 0)?;
-    add(alloc, &mut contexts, mech, (1, b"source", &[0; 32]))?;
-    add(alloc, &mut contexts, mech, (2, b"dest", key))?;
-    Ok(contexts)
+    add(alloc, &mut contexts, &mech, (1, b"source", &[0; 32]))?;
+    add(alloc, &mut contexts, &mech, (2, b"dest", key))?;
+    Ok(Server {
+        mech,
+        contexts,
+        draws: CountDraws::new(),
+        token: Octets::from_vec(Vec::new(alloc)),
+    })
 }
 
 /// `callback INIT REPLY CALL REPLY`: the destination's callback under context 2 of the client, whose key is that of the
@@ -56,9 +61,9 @@ fn contexts(alloc: Global, mech: &Realm, key: &[u8; 32]) -> Result<Contexts<u8>,
 pub fn callback(alloc: Global, words: &[&str], text: &mut String) -> Result<(), Wrong> {
     let mech = realm(alloc)?;
     let key = key_of(alloc, &mech, words)?;
-    let mut contexts = contexts(alloc, &mech, &key)?;
+    let mut client = called_end(alloc, mech, &key)?;
     let (sent, answered) = (bytes_at(alloc, words, 3)?, bytes_at(alloc, words, 4)?);
-    answer(alloc, &mech, &mut contexts, (&sent, &answered), text)
+    answer(alloc, &mut client, (&sent, &answered), text)
 }
 
 fn key_of(alloc: Global, mech: &Realm, words: &[&str]) -> Result<[u8; 32], Wrong> {
@@ -66,45 +71,21 @@ fn key_of(alloc: Global, mech: &Realm, words: &[&str]) -> Result<[u8; 32], Wrong
     key_at_dest(mech, &init, &made)
 }
 
-/// The call that a record is, where it is admitted.
-fn admitted(
-    alloc: Global,
-    mech: &Realm,
-    contexts: &mut Contexts<u8>,
-    sent: &[u8],
-) -> Result<Call, Wrong>
-    ensures { IfOk result (λ told. call.Fits told.head) }
-{
-    let Ok((head, body)) = read_call(alloc, sent)? else {
-        return Err(Wrong::Lacks("a call"));
-    };
-    match contexts.admit(alloc, &head, sent, body, 0, mech)? {
-        Admit::Admitted { number, seq, args } => Ok(Call {
-            head,
-            number,
-            seq,
-            args,
-        }),
-        _ => Err(Wrong::Lacks("an admission")),
-    }
-}
-
 /// The seal of the callback, and whether its arguments and the reply are those of the records.
 fn answer(
     alloc: Global,
-    mech: &Realm,
-    contexts: &mut Contexts<u8>,
+    client: &mut Server,
     (sent, answered): (&[u8], &[u8]),
     text: &mut String,
 ) -> Result<(), Wrong> {
-    let told = admitted(alloc, mech, contexts, sent)?;
-    if contexts.context(told.number).is_none() {
+    let told = client.admit(alloc, sent)?;
+    if client.contexts.context(told.number).is_none() {
         return Err(Wrong::Lacks("a context"));
     }
-    tell_seal(contexts.seal(told.number, told.seq), text)?;
+    tell_seal(client.contexts.seal(told.number, told.seq), text)?;
     let same = told.args.as_slice() == part(sent, 108, 228)?;
     tell_where(same, text, "its arguments; ")?;
-    let same = is_reply(alloc, mech, contexts, &told, answered)?;
+    let same = is_reply(alloc, client, &told, answered)?;
     Ok(tell_where(same, text, "the reply")?)
 }
 
@@ -115,19 +96,16 @@ fn tell_seal(seal: Seal, text: &mut String) -> Mem<()> {
 }
 
 /// Whether what the client seals, where the result is that of a reply, is that reply.
-fn is_reply(
-    alloc: Global,
-    mech: &Realm,
-    contexts: &Contexts<u8>,
-    told: &Call,
-    answered: &[u8],
-) -> Result<bool, Wrong>
+fn is_reply(alloc: Global, client: &Server, told: &Call, answered: &[u8]) -> Result<bool, Wrong>
     requires { call.Fits told.now.head }
 {
     let given = part(answered, 64, 124)?;
-    if given.len() > 60 || contexts.context(told.number).is_none() {
+    if given.len() > 60 || client.contexts.context(told.number).is_none() {
         return Err(Wrong::Lacks("a short result of a context"));
     }
-    let sealed = contexts.seal_reply(alloc, told.number, told.seq, &told.head, given, mech)?;
+    let (number, seq) = (told.number, told.seq);
+    let sealed = client
+        .contexts
+        .seal_reply(alloc, number, seq, &told.head, given, &client.mech)?;
     Ok(sealed.as_slice() == answered)
 }
