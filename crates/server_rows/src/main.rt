@@ -5,6 +5,7 @@
 #![tactic(auto)]
 
 mod call;
+mod disk;
 mod ends;
 mod fields;
 mod labels;

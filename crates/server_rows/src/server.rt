@@ -7,10 +7,11 @@ ghost use Rattle.disk_model.specs.Elapsed.{present};
 ghost use Rattle.session_server.specs.Host.{IsCounted};
 ghost use Rattle.server_rows.specs.Toy.{given};
 
+use crate::disk::RoomDisk;
 use crate::toy::Toy;
 use block_file::Volume;
 use compound_server::Server;
-use disk_model::{Disk, MemoryDisk};
+use disk_model::Disk;
 use file_server::Files;
 use gss_ctx::Contexts;
 use gss_mech::Realm;
@@ -24,21 +25,18 @@ use std::alloc::Global;
 use streams::MemDraws;
 use wire_xdr::Octets;
 
-/// How many calls of the disk fail, from the first on that does.
-const FAILING: u64 = 64;
-
 /// A server of the toy's rules, and what it draws from. It never gave out more numbers than its steps can have.
 #[derive(Drop)]
 pub struct ToyServer {
     draws: MemDraws,
-    host: Host<MemoryDisk, Toy, u32>,
+    host: Host<RoomDisk, Toy, u32>,
     ghost counted: { IsCounted given host },
 }
 
 impl ToyServer {
     /// A server over a new volume of so many files of so many blocks, whose disk fails from its call of this number on.
     pub fn new(alloc: Global, files: u32, blocks: u32, fails: u64) -> Mem<ToyServer> {
-        let disk = MemoryDisk::new(alloc, 40_000, failing(alloc, fails)?);
+        let disk = RoomDisk::new(alloc, fails)?;
         let volume = volume(alloc, disk, files.clamp(1, 64), blocks.clamp(1, 256))?;
         let files = toy_files(alloc, volume)?;
         let draws = draws(alloc, 0)?;
@@ -107,7 +105,7 @@ fn realm(alloc: Global) -> Mem<Realm> {
 }
 
 /// The files of a new volume, of which nothing is open.
-fn toy_files(alloc: Global, volume: Volume<MemoryDisk>) -> Mem<Files<MemoryDisk, Toy>>
+fn toy_files(alloc: Global, volume: Volume<RoomDisk>) -> Mem<Files<RoomDisk, Toy>>
     ensures { IfOk result (λ files. (given files.extra ≡ 0) × (files.opens.made ≡ 0)) }
 {
     let opens = Opens::new(alloc, 1)?;
@@ -119,7 +117,7 @@ fn toy_files(alloc: Global, volume: Volume<MemoryDisk>) -> Mem<Files<MemoryDisk,
     })
 }
 
-/// A new volume, opened. A disk in memory with this much room fails so early only where it may not grow.
+/// A new volume, opened. The disk has room for those of the rows, and fails later.
 fn volume<D: Disk + Drop>(alloc: Global, disk: D, files: u32, blocks: u32) -> Mem<Volume<D>>
     requires some_files { 1 ≤ files }
     requires few_files { files ≤ 64 }
@@ -139,15 +137,6 @@ fn open<D: Disk + Drop>(alloc: Global, disk: D) -> Mem<Volume<D>>
         Ok(volume) => Ok(volume),
         Err(_) => Err(NoMemory),
     }
-}
-
-/// The numbers of the calls of the disk that fail.
-fn failing(alloc: Global, first: u64) -> Mem<Vec<u64>> {
-    let mut failing = Vec::new(alloc);
-    for call in 0..FAILING {
-        failing.push(first.saturating_add(call))?;
-    }
-    Ok(failing)
 }
 
 /// Draws that repeat the bytes 0 to 255 in turn, and then 0. The call of this number fails; they are counted from 1.
