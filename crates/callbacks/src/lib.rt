@@ -6,5 +6,7 @@
 #![tactic(auto)]
 
 mod evaluation;
+mod laws;
 
 pub use evaluation::{Answered, Told, evaluate};
+pub use laws::answers_can_be_written;

@@ -1,0 +1,4 @@
+pub mod Falling
+pub mod Sending
+pub mod Sites
+pub mod Taking
