@@ -1,0 +1,8 @@
+mod Changed
+mod OwnMoves
+mod HeardMoves
+mod CalledMoves
+mod TurnMoves
+mod RunWords
+mod Whence
+mod Known
