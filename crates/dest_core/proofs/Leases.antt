@@ -34,7 +34,7 @@ none_given : {D M : Type 0} (h : Host D (Destination M) Carried) (server : Serve
     → server ≡ ended_at h → x ≡ silent server.files.extra → given x ≡ given h.server.files.extra
 none_given h server x ended told =
     ap (λ extra. given extra) told ∙ ap (λ s. given s.files.extra) ended
-    ∙ expiring_gives_none h.server.sessions h.second h.server.files.extra.copier.copies
+    ∙ expiring_gives_none h.server.sessions h.second h.server.files.extra.copies
 
 -- no number is given out by that
 pub still_counted : {D M : Type 0} (h : Host D (Destination M) Carried) (server : Server D (Destination M)) (x : Destination M)

@@ -5,4 +5,3 @@ pub mod Core
 pub mod Judging
 pub mod Laws
 pub mod Serving
-pub mod Stepping

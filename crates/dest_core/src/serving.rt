@@ -61,9 +61,7 @@ impl<M: Mechanism> Serving<Carried> for Destination<M> {
     }
 
     fn leave(&mut self, client: u64, why: ClientEnd) {
-        self.copier
-            .copies
-            .end_all(&Whose::Client(client), stop_of(why));
+        self.copies.end_all(&Whose::Client(client), stop_of(why));
     }
 
     fn lapse(&mut self, second: u64) {}

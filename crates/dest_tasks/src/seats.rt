@@ -1,11 +1,9 @@
 //! The seats of jobs.
 
-ghost use Rattle.std.specs.Prelude.{◌≡◌, ◌<◌, IfSome, None, replicate};
-ghost use Rattle.dest_tasks.specs.Seats.{denied, free_seat, is_denied, is_free, seat_of, seated, sits, was_denied};
+ghost use Rattle.std.specs.Prelude.{◌≡◌, ◌<◌, IfSome, None, position, replicate};
+ghost use Rattle.dest_tasks.specs.Seats.{denied, freed, is_denied, is_free, seat_of, seated, sits, was_denied};
 ghost use Rattle.dest_tasks.specs.declared.seats.TheConstants.{SEATS};
 
-use job_book::Book;
-use nfs_base::JobName;
 use std::marker::Model;
 
 /// How many jobs have a seat at a time.
@@ -57,26 +55,29 @@ impl Seats {
         self.seats.iter().position(|seat| sits(job, seat))
     }
 
-    /// A job that was accepted gets the lowest seat at which no job of the book sits, and it is told which. Where there is
-    /// none, nothing changes.
-    pub fn seat(&mut self, job: JobName, book: &Book) -> Option<usize>
-        ensures seat { result ≡ free_seat job.boot book.now.table self.old }
-        ensures there { IfSome result (λ seat. seat < SEATS) }
-        ensures after { self.new ≡ seated job book.now.table self.old }
+    /// A job that was accepted gets the lowest free seat. Where none is free, nothing changes.
+    pub fn seat(&mut self, job: u32)
+        ensures { self.new ≡ seated job self.old }
     {
-        let place = self.free_place(job.boot, book)?;
-        self.seats[place] = Some(Seat {
-            job: job.number,
-            denied: false,
-        });
-        Some(place)
+        if let Some(place) = self.free_place() {
+            self.seats[place] = Some(Seat { job, denied: false });
+        }
     }
 
-    fn free_place(&self, boot: u32, book: &Book) -> Option<usize>
-        ensures place { result ≡ free_seat boot book.now.table self.now }
+    fn free_place(&self) -> Option<usize>
+        ensures place { result ≡ position is_free self.now }
         ensures there { IfSome result (λ place. place < SEATS) }
     {
-        self.seats.iter().position(|seat| is_free(boot, book, seat))
+        self.seats.iter().position(|seat| is_free(seat))
+    }
+
+    /// A job that was retired has no seat any more.
+    pub fn free(&mut self, job: u32)
+        ensures { self.new ≡ freed job self.old }
+    {
+        if let Some(place) = self.of(job) {
+            self.seats[place] = None;
+        }
     }
 
     /// Whether a CREATE for a job was denied before.
@@ -114,17 +115,8 @@ fn is_denied(job: u32, seat: &Option<Seat>) -> bool
     }
 }
 
-/// Whether no job of the book sits there.
-fn is_free(boot: u32, book: &Book, seat: &Option<Seat>) -> bool
-    ensures { result ≡ is_free boot book.now.table seat.now }
+fn is_free(seat: &Option<Seat>) -> bool
+    ensures { result ≡ is_free seat.now }
 {
-    match seat {
-        None => true,
-        Some(seat) => book
-            .client(JobName {
-                boot,
-                number: seat.job,
-            })
-            .is_none(),
-    }
+    seat.is_none()
 }

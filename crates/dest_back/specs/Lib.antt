@@ -1,4 +1,0 @@
-pub mod Callbacks
-pub mod Compounds
-pub mod Hearing
-pub mod Telling
