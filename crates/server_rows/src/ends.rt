@@ -2,7 +2,6 @@
 
 use crate::call::{Call, Sent};
 use crate::fields::put_fields;
-use crate::server::ToyServer;
 use crate::told::{Awaits, told};
 use gss_ctx::{Caller, handle_of, init_call};
 use gss_mech::Mechanism;
@@ -11,6 +10,7 @@ use outbox::Outbox;
 use outcome::Mem;
 use row_text::{number, word};
 use std::alloc::Global;
+use toy_server::ToyServer;
 use wire_xdr::{Octets, Writer};
 
 /// The nonce of every caller.
@@ -42,7 +42,7 @@ impl Ends {
     pub fn new(alloc: Global, words: &[&str]) -> Mem<Ends> {
         let fails = word(words, 3).parse::<u64>().unwrap_or(u64::MAX);
         Ok(Ends {
-            server: ToyServer::new(alloc, number(words, 1), number(words, 2), fails)?,
+            server: ToyServer::new(alloc, 1, number(words, 1), number(words, 2), fails)?,
             count: 0,
             second: 0,
             session: 1,

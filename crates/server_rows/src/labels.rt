@@ -1,10 +1,10 @@
 //! What records and notes are called.
 
 use nfs_base::Seal;
-use nfs_compound::name_of;
-use outbox::{CallLabel, Dropped, Label, Note};
+use outbox::{Dropped, Label, Note};
 use outcome::Mem;
 use std::fmt::Write;
+use toy_server::call_name;
 
 /// Adds what a record is called.
 pub fn put_label(text: &mut String, label: Label) -> Mem<()> {
@@ -16,18 +16,6 @@ pub fn put_label(text: &mut String, label: Label) -> Mem<()> {
         Label::Call(_) => text.push_str("a call")?,
     }
     Ok(())
-}
-
-fn call_name(call: CallLabel) -> &'static str {
-    match call {
-        CallLabel::Init => "INIT",
-        CallLabel::Create => "CREATE",
-        CallLabel::Destroy => "DESTROY",
-        CallLabel::Null => "NULL",
-        CallLabel::Compound => "COMPOUND",
-        CallLabel::Operation(op) => name_of(op),
-        CallLabel::Callback(_) => "CALLBACK",
-    }
 }
 
 /// Adds what is to be told of a step.

@@ -1,17 +1,14 @@
 //! Tables over a server, from standard input (`row_text`): every call of it as a record on the wire, made by hand word for
-//! word, and what goes back. The server has a toy extension ([`toy::Toy`]), which shows what an extension costs.
+//! word, and what goes back. The server is `toy_server`'s.
 //!
 //! Every expected answer is written down from RFC 5531, RFC 2203, RFC 7861, RFC 8881 and `docs/protocol.md`.
 #![tactic(auto)]
 
 mod call;
-mod disk;
 mod ends;
 mod fields;
 mod labels;
-mod server;
 mod told;
-mod toy;
 
 use ends::Ends;
 use outcome::Mem;

@@ -3,13 +3,13 @@
 use crate::ends::NONCE;
 use crate::fields::put_words;
 use crate::labels::{marks, put_label, put_note};
-use crate::server::ToyServer;
 use gss_ctx::{Awaited, Begun, Caller, Checked, init_reply, named_by};
 use nfs_compound::{Res, name_of};
 use outbox::{Outbox, Outgoing, To};
 use outcome::{Mem, NoMemory};
 use std::alloc::Global;
 use std::fmt::Write;
+use toy_server::ToyServer;
 use wire_xdr::{Octets, ReadError, Reader, Xdr};
 
 /// Who sent a record, and awaits its answer.

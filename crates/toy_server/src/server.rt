@@ -5,7 +5,7 @@ ghost use Rattle.block_file.specs.Opened.{CanBeOpened};
 ghost use Rattle.disk_model.specs.Disk.{Image, MayLeave};
 ghost use Rattle.disk_model.specs.Elapsed.{present};
 ghost use Rattle.session_server.specs.Host.{IsCounted};
-ghost use Rattle.server_rows.specs.Toy.{given};
+ghost use Rattle.toy_server.specs.Toy.{given};
 
 use crate::disk::RoomDisk;
 use crate::toy::Toy;
@@ -13,11 +13,12 @@ use block_file::Volume;
 use compound_server::Server;
 use disk_model::Disk;
 use file_server::Files;
-use gss_ctx::Contexts;
+use gss_ctx::{Admit, Contexts};
 use gss_mech::Realm;
 use nfs_base::End;
 use outbox::Outbox;
 use outcome::{Mem, NoMemory};
+use rpc_msg::read_call;
 use sess_slots::Sessions;
 use session_server::{Host, MOST_STEPS};
 use state_ids::Opens;
@@ -34,19 +35,20 @@ pub struct ToyServer {
 }
 
 impl ToyServer {
-    /// A server over a new volume of so many files of so many blocks, whose disk fails from its call of this number on.
-    pub fn new(alloc: Global, files: u32, blocks: u32, fails: u64) -> Mem<ToyServer> {
+    /// A server in its boot of this number over a new volume of so many files of so many blocks, whose disk fails from its
+    /// call of this number on. Nobody has called yet.
+    pub fn new(alloc: Global, boot: u32, files: u32, blocks: u32, fails: u64) -> Mem<ToyServer> {
         let disk = RoomDisk::new(alloc, fails)?;
         let volume = volume(alloc, disk, files.clamp(1, 64), blocks.clamp(1, 256))?;
-        let files = toy_files(alloc, volume)?;
+        let files = toy_files(alloc, boot, volume)?;
         let draws = draws(alloc, 0)?;
         Ok(ToyServer {
             draws,
             host: Host {
-                contexts: Contexts::new(alloc, End::Source, 1)?,
+                contexts: Contexts::new(alloc, End::Source, boot)?,
                 server: Server {
                     files,
-                    sessions: Sessions::new(alloc, 1)?,
+                    sessions: Sessions::new(alloc, boot)?,
                 },
                 second: 0,
                 steps: 0,
@@ -78,6 +80,31 @@ impl ToyServer {
         Ok(())
     }
 
+    /// The reply to a call under a context with this result, as if the server had told it in this second. The server isn't
+    /// asked, and nothing changes. None: the call wouldn't be admitted, or the result is too long.
+    pub fn forged(
+        &self,
+        alloc: Global,
+        record_: &[u8],
+        told: &[u8],
+        now: u64,
+    ) -> Mem<Option<Octets>> {
+        let Ok((head, body)) = read_call(alloc, record_)? else {
+            return Ok(None);
+        };
+        let contexts = &self.host.contexts;
+        let verdict = contexts.weigh(alloc, &head, &record_[body..], now, self.mech())?;
+        let Admit::Admitted { number, seq, .. } = verdict.answer else {
+            return Ok(None);
+        };
+        if told.len() > 1000 {
+            return Ok(None);
+        }
+        let most = told.len();
+        let sealer = contexts.sealer(alloc, number, seq, &head, most, self.mech())?;
+        Ok(Some(sealer.seal(told, self.mech())))
+    }
+
     /// The mechanism.
     pub fn mech(&self) -> &Realm {
         &self.host.server.files.extra.mech
@@ -105,10 +132,10 @@ fn realm(alloc: Global) -> Mem<Realm> {
 }
 
 /// The files of a new volume, of which nothing is open.
-fn toy_files(alloc: Global, volume: Volume<RoomDisk>) -> Mem<Files<RoomDisk, Toy>>
+fn toy_files(alloc: Global, boot: u32, volume: Volume<RoomDisk>) -> Mem<Files<RoomDisk, Toy>>
     ensures { IfOk result (λ files. (given files.extra ≡ 0) × (files.opens.made ≡ 0)) }
 {
-    let opens = Opens::new(alloc, 1)?;
+    let opens = Opens::new(alloc, boot)?;
     let extra = Toy::new(realm(alloc)?);
     Ok(Files {
         volume,

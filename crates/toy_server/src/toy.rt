@@ -6,7 +6,7 @@ ghost use Rattle.copy_ops.specs.declared.operation.TheConstants.{OP_COPY_NOTIFY}
 ghost use Rattle.file_server.specs.Answering.{Says};
 ghost use Rattle.nfs_base.specs.declared.status.TheConstants.Status.{OK};
 ghost use Rattle.wire_xdr.specs.Words.{word_bytes};
-ghost use Rattle.server_rows.specs.Toy.{attributes_gate, given, judged, operation_gate, permits, read_gate, wide_grant};
+ghost use Rattle.toy_server.specs.Toy.{attributes_gate, given, judged, operation_gate, permits, read_gate, wide_grant};
 
 use compound_server::{ClientEnd, Serving};
 use copy_ops::{CopyArg, OP_CLONE, OP_COPY, OP_OFFLOAD_CANCEL, OP_OFFLOAD_STATUS};
@@ -75,7 +75,7 @@ impl Toy {
 }
 
 impl Extension<Option<u32>> for Toy {
-    ghost use Rattle.server_rows.specs.Toy.{gated};
+    ghost use Rattle.toy_server.specs.Toy.{gated};
 
     ghost gated = { gated };
 
@@ -138,8 +138,8 @@ impl Toy {
 }
 
 impl Serving<u32> for Toy {
-    ghost use Rattle.server_rows.specs.Laws.{gates_give_none, none_given, same_gate, still};
-    ghost use Rattle.server_rows.specs.Toy.{given, lapses, leaves, serves, suits};
+    ghost use Rattle.toy_server.specs.Laws.{gates_give_none, none_given, same_gate, still};
+    ghost use Rattle.toy_server.specs.Toy.{given, lapses, leaves, serves, suits};
 
     type Room = ();
 
@@ -216,8 +216,8 @@ fn say_wide(p: &mut Progress, wide: &[u8; WIDE]) -> Status
 }
 
 impl Extending<u32> for Toy {
-    ghost use Rattle.server_rows.specs.Laws.{none_given};
-    ghost use Rattle.server_rows.specs.Toy.{judges, silent, tells};
+    ghost use Rattle.toy_server.specs.Laws.{none_given};
+    ghost use Rattle.toy_server.specs.Toy.{judges, silent, tells};
 
     type Mech = Realm;
 
