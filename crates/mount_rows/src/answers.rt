@@ -1,43 +1,26 @@
-//! The replies of the server, by name.
+//! Replies that are written by hand, by name: what no server tells, or this one only after many calls.
 
-use crate::told::{BAD_SESSION, CREATED, DELAY, DELAYED, EXCHANGED, STALE, ended, reclaimed};
-use gss_ctx::{Inited, read_init};
+use crate::told::{DELAY, DELAYED, STALE};
 use outcome::Mem;
-use row_text::{number, word};
-use rpc_msg::read_call;
 use std::alloc::Global;
-use two_ends::{Server, Wrong};
+use toy_server::ToyServer;
+use two_ends::Wrong;
 
 /// Bytes that go out, or that come back.
 pub type Bytes = Vec<u8>;
 
-/// The reply to a call that the words name.
-pub fn reply(
+/// The reply of this name to a call that comes in a second. The server isn't asked.
+pub fn written(
     alloc: Global,
-    server: &mut Server,
+    server: &ToyServer,
     call: &[u8],
-    asked: &[&str],
+    name: &str,
+    now: u64,
 ) -> Result<Bytes, Wrong> {
-    match word(asked, 2) {
-        "rooted" => rooted(alloc, server, call),
-        "exchanged" => sealed(alloc, server, call, &EXCHANGED),
-        "created" => sealed(alloc, server, call, &CREATED),
-        "delay" => sealed(alloc, server, call, &DELAY),
-        "stale" => sealed(alloc, server, call, &STALE),
-        "delayed" => sealed(alloc, server, call, &DELAYED),
-        "badsession" => sealed(alloc, server, call, &BAD_SESSION),
-        "reclaimed" => {
-            let told = reclaimed(number(asked, 3), number(asked, 4));
-            sealed(alloc, server, call, &told)
-        }
-        "child" => {
-            let told = [8, number(asked, 3), number(asked, 4), 0, 0];
-            sealed(alloc, server, call, &told)
-        }
-        "refused" => sealed(alloc, server, call, &[0, number(asked, 3), 0]),
-        "ended" => sealed(alloc, server, call, &ended(number(asked, 3))),
-        "nothing" => sealed(alloc, server, call, &[]),
-        "undrawn" => plain(alloc, call, &[1, 0, 0, 0, 0, 0, 851_968, 1, 0, 0]),
+    match name {
+        "delay" => sealed(alloc, server, call, &DELAY, now),
+        "stale" => sealed(alloc, server, call, &STALE, now),
+        "delayed" => sealed(alloc, server, call, &DELAYED, now),
         "unsealed" => plain(alloc, call, &[1, 0, 0, 0, 0, 0, 0, 0]),
         "failed" => plain(alloc, call, &[1, 0, 0, 0, 5]),
         "denied" => plain(alloc, call, &[1, 1, 1, 13]),
@@ -54,60 +37,26 @@ fn plain(alloc: Global, call: &[u8], told: &[u32]) -> Result<Bytes, Wrong> {
 }
 
 /// The reply to a call under a context, with these words as its result.
-fn sealed(alloc: Global, server: &mut Server, call: &[u8], told: &[u32]) -> Result<Bytes, Wrong> {
+fn sealed(
+    alloc: Global,
+    server: &ToyServer,
+    call: &[u8],
+    told: &[u32],
+    now: u64,
+) -> Result<Bytes, Wrong> {
     let mut body = Vec::new(alloc);
     put(&mut body, told)?;
-    let call = server.admit(alloc, call)?;
-    let reply = server.reply(alloc, &call, body.as_slice())?;
-    let mut bytes = Vec::new(alloc);
-    bytes.extend_from_slice(reply.as_slice())?;
-    Ok(bytes)
-}
-
-/// The reply to an INIT, which makes a context.
-fn rooted(alloc: Global, server: &mut Server, call: &[u8]) -> Result<Bytes, Wrong> {
-    let Ok((head, body)) = read_call(alloc, call)? else {
-        return Err(Wrong::Lacks("a call"));
-    };
-    let Some(token) = read_init(alloc, &call[body..])? else {
-        return Err(Wrong::Lacks("a token"));
-    };
-    let made = inited(alloc, server, token.as_slice())?;
-    in_reply(alloc, head.xid, made)
-}
-
-fn inited(alloc: Global, server: &mut Server, token: &[u8]) -> Result<Inited, Wrong> {
-    if server.contexts.made() == u32::MAX {
-        return Err(Wrong::Lacks("a number"));
+    match server.forged(alloc, call, body.as_slice(), now)? {
+        Some(reply) => copied(alloc, reply.as_slice()),
+        None => Err(Wrong::Lacks("an admission")),
     }
-    let Server {
-        contexts,
-        mech,
-        draws,
-        ..
-    } = server;
-    Ok(contexts.init(alloc, token, 0, mech, draws)?)
 }
 
-/// The result of an INIT in its reply (RFC 2203 section 5.2.3.1).
-fn in_reply(alloc: Global, xid: u32, inited: Inited) -> Result<Bytes, Wrong> {
-    let Inited::Made {
-        handle,
-        window,
-        token,
-        verifier,
-    } = inited
-    else {
-        return Err(Wrong::Lacks("a context"));
-    };
-    let mut bytes = Vec::new(alloc);
-    put(&mut bytes, &[xid, 1, 0, 6, 32])?;
-    bytes.extend_from_slice(&verifier)?;
-    put(&mut bytes, &[0, 8])?;
-    bytes.extend_from_slice(&handle)?;
-    put(&mut bytes, &[0, 0, window, 64])?;
-    bytes.extend_from_slice(token.as_slice())?;
-    Ok(bytes)
+/// A copy of these bytes.
+pub fn copied(alloc: Global, bytes: &[u8]) -> Result<Bytes, Wrong> {
+    let mut copy = Vec::new(alloc);
+    copy.extend_from_slice(bytes)?;
+    Ok(copy)
 }
 
 fn put(bytes: &mut Bytes, words: &[u32]) -> Mem<()> {

@@ -29,9 +29,10 @@ impl Letters {
         Ok(())
     }
 
-    /// The newest record of a place, and no bytes where there is none.
-    pub fn last(&self, place: u32) -> &[u8] {
-        match self.items.iter().rev().find(|letter| letter.place == place) {
+    /// The newest record of a place but so many, and no bytes where there is none.
+    pub fn last(&self, place: u32, but: usize) -> &[u8] {
+        let mut of_place = self.items.iter().rev().filter(|l| l.place == place);
+        match of_place.nth(but) {
             Some(letter) => letter.bytes.as_slice(),
             None => &[],
         }

@@ -1,6 +1,6 @@
 //! Tables over a caller's mount of one server, crate `mount`, from standard input (`row_text`). One mount is kept from line
-//! to line, before a server whose results are written by hand: its calls are lost, answered late, twice, denied and failed, and
-//! it begins again.
+//! to line, before a server of `toy_server`: its calls are lost, come late and twice, and so do the answers; they are denied
+//! and fail, and the mount begins again. An answer that no server gives is written by hand, and its line names it.
 #![tactic(auto)]
 
 mod answers;

@@ -2,15 +2,18 @@
 
 ghost use Rattle.mount.specs.State.{IsChild};
 
-use crate::answers::{Bytes, reply};
+use crate::answers::{copied, written};
 use crate::letters::Letters;
 use crate::said::Said;
-use crate::scene::Scene;
+use crate::scene::{PRINCIPAL, Scene};
 use mount::{Ending, Heard, PLACES, Sent, Told, Under};
+use nfs_base::Status;
+use outbox::{Label, Outbox};
 use outcome::{Mem, NoMemory};
 use row_text::{Rows, number, word, words};
 use session_client::Setup;
 use std::alloc::Global;
+use toy_server::call_name;
 use two_ends::Wrong;
 
 /// The mount and its server, what was sent from each place, and the replies that were made.
@@ -35,10 +38,11 @@ impl MountRows {
     fn told(&mut self, alloc: Global, words: &[&str]) -> Result<Said, Wrong> {
         match word(words, 0) {
             "new" => self.renew(alloc, number(words, 1)),
-            "reply" => self.reply(alloc, words),
+            "reply" => self.reply(alloc, number(words, 1), word(words, 2)),
+            "late" => self.serve(alloc, number(words, 1), number(words, 2) as usize),
+            "boot" | "undrawn" | "at" => self.set(alloc, word(words, 0), number(words, 1)),
             "take" => self.take(alloc, number(words, 1), number(words, 2)),
             "thousand" => self.thousand(alloc),
-            "make" => self.make(alloc, number(words, 1)),
             "keep" => self.keep(alloc),
             "back" => self.go_back(alloc),
             "fall" => self.fall(),
@@ -91,10 +95,14 @@ impl MountRows {
         match word(words, 0) {
             "begin" => self.scene.begin(alloc, place),
             "begin_anew" => self.scene.begin_anew(alloc, place),
-            "step" => self.scene.step(alloc, place),
+            "step" => self.scene.step(alloc, place, owner(word(words, 2))),
             "reclaim" => self.scene.reclaim(alloc, place),
             "call" => self.scene.call(alloc, place, under(number(words, 2))),
-            "create" => self.scene.create(alloc, place, number(words, 2)),
+            "create" => {
+                let (name, privilege) = (word(words, 3), word(words, 4));
+                self.scene
+                    .create(alloc, place, number(words, 2), name, privilege)
+            }
             "end" => self.scene.end(alloc, place, ending(word(words, 2))),
             "again" => self.scene.again(alloc, place),
             _ => Err(Wrong::Lacks("a call of this name")),
@@ -103,33 +111,49 @@ impl MountRows {
 
     fn send(&mut self, alloc: Global, words: &[&str]) -> Result<Said, Wrong> {
         let sent = self.sent_by(alloc, words)?;
-        let mut bytes: Bytes = Vec::new(alloc);
-        bytes.extend_from_slice(sent.bytes.as_slice())?;
+        let bytes = copied(alloc, sent.bytes.as_slice())?;
         self.sent.add(number(words, 1), bytes)?;
         Ok(Said::Number("xid", self.scene.xid))
     }
 
-    /// The server's reply to what was last sent from a place is made, and kept.
-    fn reply(&mut self, alloc: Global, words: &[&str]) -> Result<Said, Wrong> {
-        let place = number(words, 1);
-        let call = self.sent.last(place);
-        let bytes = reply(alloc, &mut self.scene.server, call, words)?;
+    /// The reply to what was last sent from a place is made, and kept: the server's, and where one is named that which is
+    /// written by hand.
+    fn reply(&mut self, alloc: Global, place: u32, name: &str) -> Result<Said, Wrong> {
+        if name.is_empty() {
+            return self.serve(alloc, place, 0);
+        }
+        let call = self.sent.last(place, 0);
+        let scene = &self.scene;
+        let bytes = written(alloc, &scene.server, call, name, scene.second)?;
         self.made.add(place, bytes)?;
         Ok(Said::Word("made"))
     }
 
-    /// The server makes a child of a context.
-    fn make(&mut self, alloc: Global, parent: u32) -> Result<Said, Wrong> {
-        match self.scene.server.create(alloc, parent, 0)? {
-            Ok(number) => Ok(Said::Number("context", number)),
-            Err(_) => Err(Wrong::Lacks("room for a context")),
+    /// What was last sent from a place, but for so many, comes to the server, whose answer is kept.
+    fn serve(&mut self, alloc: Global, place: u32, but: usize) -> Result<Said, Wrong> {
+        let out = self.scene.serve(alloc, self.sent.last(place, but))?;
+        let [sent] = out.sent.as_slice() else {
+            return Ok(Said::Word("nothing"));
+        };
+        let bytes = copied(alloc, sent.bytes.as_slice())?;
+        self.made.add(place, bytes)?;
+        Ok(named(sent.label))
+    }
+
+    /// What becomes of the server, or of the time.
+    fn set(&mut self, alloc: Global, what: &str, value: u32) -> Result<Said, Wrong> {
+        match what {
+            "boot" => self.scene.boot(alloc, value)?,
+            "undrawn" => self.scene.server.fail_draw(alloc)?,
+            _ => self.scene.second = u64::from(value),
         }
+        Ok(Said::Word("so"))
     }
 
     /// The reply that was last made for a place is taken, at another one where it is named.
     fn take(&mut self, alloc: Global, of: u32, other: u32) -> Result<Said, Wrong> {
         let place = if other < PLACES { other } else { of };
-        let heard = self.scene.take(alloc, place, self.made.last(of))?;
+        let heard = self.scene.take(alloc, place, self.made.last(of, 0))?;
         Ok(Said::Heard(word_of(&heard), stage_of(&self.scene)))
     }
 
@@ -143,38 +167,43 @@ impl MountRows {
             "child" => Said::Yes(at < PLACES && mount.has_child(at)),
             "awaited" => Said::Yes(at < PLACES && mount.awaits(at)),
             "place" => place(mount.place_of(at)),
-            "number" => Said::Number("number", number_in(self.sent.last(at))),
-            "same" => Said::Yes(self.sent.last(at).get(4..) == self.sent.last(other).get(4..)),
+            "number" => Said::Number("number", number_in(self.sent.last(at, 0))),
+            "same" => Said::Yes(
+                self.sent.last(at, 0).get(4..) == self.sent.last(other, 0).get(4..),
+            ),
             _ => return Err(Wrong::Lacks("a question of this name")),
         })
     }
 
-    /// A thousand calls, each of which is lost, goes out again with its number, and is refused: those of each slot have the
-    /// numbers 1, 2, 3 and so on.
+    /// A thousand calls. Every other one is lost, and of the others the answer; then it goes out again with its number, and is
+    /// answered: those of each slot have the numbers 1, 2, 3 and so on.
     fn thousand(&mut self, alloc: Global) -> Result<Said, Wrong> {
         let mut right = 0u32;
         for i in 0..1000u32 {
-            if self.delayed(alloc, 1 + i % 15, 1 + i / 15)? {
+            if self.answered_again(alloc, 1 + i % 15, 1 + i / 15, i % 2 == 0)? {
                 right = right.wrapping_add(1);
             }
         }
         Ok(Said::Number("right", right))
     }
 
-    fn delayed(&mut self, alloc: Global, slot: u32, wanted: u32) -> Result<bool, Wrong> {
-        let lost = self.scene.call(alloc, slot, Under::Root)?;
-        let again = self.scene.again(alloc, slot)?;
-        let words = ["reply", "", "delayed"];
-        let told = reply(
-            alloc,
-            &mut self.scene.server,
-            again.bytes.as_slice(),
-            &words,
-        )?;
-        let heard = self.scene.take(alloc, slot, told.as_slice())?;
-        let first = number_in(lost.bytes.as_slice());
-        let second = number_in(again.bytes.as_slice());
-        Ok(first == wanted && second == wanted && matches!(heard.told, Told::Answer(_)))
+    fn answered_again(
+        &mut self,
+        alloc: Global,
+        slot: u32,
+        wanted: u32,
+        lost: bool,
+    ) -> Result<bool, Wrong> {
+        let first = self.scene.call(alloc, slot, Under::Root)?;
+        if !lost {
+            self.scene.serve(alloc, first.bytes.as_slice())?;
+        }
+        let second = self.scene.again(alloc, slot)?;
+        let out = self.scene.serve(alloc, second.bytes.as_slice())?;
+        let heard = self.scene.take(alloc, slot, answer_in(&out))?;
+        let first = number_in(first.bytes.as_slice());
+        let second = number_in(second.bytes.as_slice());
+        Ok(first == wanted && second == wanted && is_complete(&heard.told))
     }
 }
 
@@ -199,6 +228,14 @@ fn under(child: u32) -> Under
     Under::Root
 }
 
+/// The owner of this name.
+fn owner(name: &str) -> &[u8] {
+    if name.is_empty() {
+        return PRINCIPAL;
+    }
+    name.as_bytes()
+}
+
 fn ending(what: &str) -> Ending {
     match what {
         "session" => Ending::Session,
@@ -211,6 +248,33 @@ fn place(found: Option<u32>) -> Said {
     match found {
         Some(place) => Said::Number("place", place),
         None => Said::Word("none"),
+    }
+}
+
+/// What a record of the server is called, with its status.
+fn named(label: Label) -> Said {
+    match label {
+        Label::Reply { to, status } => Said::Number(call_name(to), status),
+        Label::Denied(why) => Said::Number("denied", why),
+        Label::Fault(stat) => Said::Number("failed", stat),
+        Label::Mismatch => Said::Word("mismatch"),
+        Label::Call(_) => Said::Word("called"),
+    }
+}
+
+/// The record that a step of the server sends.
+fn answer_in(out: &Outbox) -> &[u8] {
+    match out.sent.as_slice() {
+        [sent] => sent.bytes.as_slice(),
+        _ => &[],
+    }
+}
+
+/// Whether a call was answered as a second RECLAIM_COMPLETE is.
+fn is_complete(told: &Told) -> bool {
+    match told {
+        Told::Answer(reply) => reply.status.number == Status::COMPLETE_ALREADY.number,
+        _ => false,
     }
 }
 

@@ -1,27 +1,32 @@
-//! A caller's mount before a server whose results are written by hand.
+//! A caller's mount, and the server that it calls.
 
 ghost use Rattle.std.specs.Prelude.{◌≡◌, ◌<◌, IfOk, None};
 ghost use Rattle.mount.specs.State.{awaited_at, IsChild};
 ghost use Rattle.mount.specs.declared.state.TheConstants.{PLACES};
 
 use mount::{Ending, Heard, Mount, PLACES, SendAt, Sent, Under};
-use nfs_base::End;
+use nfs_base::{End, NAME_LIMIT, PRIVILEGE_LIMIT};
+use outbox::Outbox;
 use outcome::{Mem, Planned};
 use session_calls::SlotCall;
 use session_client::Setup;
 use std::alloc::Global;
 use streams::CountDraws;
-use two_ends::{Server, Wrong, drawn};
+use toy_server::ToyServer;
+use two_ends::{Wrong, drawn};
 
-/// The principal of every call.
-const PRINCIPAL: &[u8] = b"user";
+/// The principal of every call, and its owner where no other one is named.
+pub const PRINCIPAL: &[u8] = b"user";
 
 /// A caller's mount, a copy of it that was kept, and the server that it calls.
 #[derive(Drop)]
 pub struct Scene {
-    pub server: Server,
+    pub server: ToyServer,
     pub mount: Mount,
     pub xid: u32,
+
+    /// When calls go out and come to the server.
+    pub second: u64,
     kept: Mount,
     draws: CountDraws,
     plan: Planned,
@@ -31,9 +36,10 @@ impl Scene {
     /// Nothing is set up. The caller's draw with this number fails.
     pub fn new(alloc: Global, failing: u32) -> Result<Scene, Wrong> {
         Ok(Scene {
-            server: Server::new(alloc)?,
+            server: toy_server(alloc, 1)?,
             mount: Mount::new(alloc, End::Source, true),
             xid: 0,
+            second: 0,
             kept: Mount::new(alloc, End::Source, true),
             draws: CountDraws::new(),
             plan: planned(alloc, failing)?,
@@ -59,7 +65,8 @@ impl Scene {
             return Err(Wrong::Lacks("a place"));
         }
         self.xid = xid;
-        Ok(SendAt { place, xid, now: 0 })
+        let now = self.second;
+        Ok(SendAt { place, xid, now })
     }
 
     /// A call goes out where nothing is awaited.
@@ -85,7 +92,7 @@ impl Scene {
         let Setup::Down = self.mount.setup() else {
             return Err(Wrong::Lacks("a setup that is down"));
         };
-        let mech = &self.server.mech;
+        let mech = self.server.mech();
         let sent = self.mount.begin(alloc, at, PRINCIPAL, &nonce, mech)?;
         out(sent)
     }
@@ -100,14 +107,17 @@ impl Scene {
         out(sent)
     }
 
-    /// The next step of the setup goes out at a place.
-    pub fn step(&mut self, alloc: Global, place: u32) -> Result<Sent, Wrong> {
+    /// The next step of the setup goes out at a place, as that of this owner.
+    pub fn step(&mut self, alloc: Global, place: u32, owner: &[u8]) -> Result<Sent, Wrong> {
+        if owner.len() > NAME_LIMIT as usize {
+            return Err(Wrong::Lacks("a short name"));
+        }
         let at = self.ready(place)?;
         if self.mount.is_setting_up() {
             return Err(Wrong::Lacks("no other setup"));
         }
-        let mech = &self.server.mech;
-        let sent = self.mount.step(alloc, at, PRINCIPAL, None, mech)?;
+        let mech = self.server.mech();
+        let sent = self.mount.step(alloc, at, owner, None, mech)?;
         out(sent)
     }
 
@@ -117,7 +127,7 @@ impl Scene {
         if !self.mount.has_numbers(place) {
             return Err(Wrong::Lacks("a number of the slot"));
         }
-        let sent = self.mount.reclaim(alloc, at, &self.server.mech)?;
+        let sent = self.mount.reclaim(alloc, at, self.server.mech())?;
         out(sent)
     }
 
@@ -130,35 +140,44 @@ impl Scene {
             return Err(Wrong::Lacks("a number of the slot"));
         }
         let call = SlotCall::ReclaimComplete;
-        let mech = &self.server.mech;
+        let mech = self.server.mech();
         let sent = self.mount.send(alloc, at, under, call, mech)?;
         out(sent)
     }
 
-    /// CREATE of a child goes out at a place.
-    pub fn create(&mut self, alloc: Global, place: u32, child: u32) -> Result<Sent, Wrong> {
+    /// CREATE of a child goes out at a place, with this privilege of this name.
+    pub fn create(
+        &mut self,
+        alloc: Global,
+        place: u32,
+        child: u32,
+        name: &str,
+        privilege: &str,
+    ) -> Result<Sent, Wrong> {
         if child >= PLACES {
             return Err(Wrong::Lacks("a child"));
         }
+        let (name, privilege) = (name.as_bytes(), privilege.as_bytes());
+        if name.len() > NAME_LIMIT as usize || privilege.len() > PRIVILEGE_LIMIT as usize {
+            return Err(Wrong::Lacks("a short name"));
+        }
         let at = self.ready(place)?;
-        let mech = &self.server.mech;
-        let sent = self
-            .mount
-            .create(alloc, at, child, b"name", b"privilege", mech)?;
+        let mech = self.server.mech();
+        let sent = self.mount.create(alloc, at, child, name, privilege, mech)?;
         out(sent)
     }
 
     /// What ends something goes out at a place.
     pub fn end(&mut self, alloc: Global, place: u32, ending: Ending) -> Result<Sent, Wrong> {
         let at = self.ready(place)?;
-        let sent = self.mount.end(alloc, at, ending, &self.server.mech)?;
+        let sent = self.mount.end(alloc, at, ending, self.server.mech())?;
         out(sent)
     }
 
     /// What is awaited at a place goes out again.
     pub fn again(&mut self, alloc: Global, place: u32) -> Result<Sent, Wrong> {
         let at = self.numbered(place)?;
-        let sent = self.mount.send_again(alloc, at, &self.server.mech)?;
+        let sent = self.mount.send_again(alloc, at, self.server.mech())?;
         out(sent)
     }
 
@@ -167,8 +186,23 @@ impl Scene {
         if place >= PLACES {
             return Err(Wrong::Lacks("a place"));
         }
-        let mech = &self.server.mech;
+        let mech = self.server.mech();
         Ok(self.mount.take(alloc, place, PRINCIPAL, record_, mech)?)
+    }
+
+    /// A record comes to the server: one step of it.
+    pub fn serve(&mut self, alloc: Global, record_: &[u8]) -> Result<Outbox, Wrong> {
+        match self.server.on_record(alloc, record_, self.second)? {
+            Some(out) => Ok(out),
+            None => Err(Wrong::Lacks("a step")),
+        }
+    }
+
+    /// Another server stands in the place of the one that was there: it is in its boot of this number, and nobody has called
+    /// it yet.
+    pub fn boot(&mut self, alloc: Global, boot: u32) -> Result<(), Wrong> {
+        self.server = toy_server(alloc, boot)?;
+        Ok(())
     }
 
     /// A copy of the mount is kept.
@@ -182,6 +216,11 @@ impl Scene {
         self.mount = self.kept.copy(alloc)?;
         Ok(())
     }
+}
+
+/// A server whose disk doesn't fail.
+fn toy_server(alloc: Global, boot: u32) -> Mem<ToyServer> {
+    ToyServer::new(alloc, boot, 1, 1, u64::MAX)
 }
 
 /// The call with this number fails.
