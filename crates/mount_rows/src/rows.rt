@@ -116,8 +116,8 @@ impl MountRows {
         Ok(Said::Number("xid", self.scene.xid))
     }
 
-    /// The reply to what was last sent from a place is made, and kept: the server's, and where one is named that which is
-    /// written by hand.
+    /// `reply PLACE`: what was last sent from a place comes to the server, whose reply is kept. `reply PLACE NAME`: one that
+    /// is written by hand is kept instead, and the call doesn't come to the server.
     fn reply(&mut self, alloc: Global, place: u32, name: &str) -> Result<Said, Wrong> {
         if name.is_empty() {
             return self.serve(alloc, place, 0);
@@ -129,7 +129,7 @@ impl MountRows {
         Ok(Said::Word("made"))
     }
 
-    /// What was last sent from a place, but for so many, comes to the server, whose answer is kept.
+    /// What was last sent from a place, but for so many, comes to the server, whose reply is kept.
     fn serve(&mut self, alloc: Global, place: u32, but: usize) -> Result<Said, Wrong> {
         let out = self.scene.serve(alloc, self.sent.last(place, but))?;
         let [sent] = out.sent.as_slice() else {
@@ -140,7 +140,8 @@ impl MountRows {
         Ok(named(sent.label))
     }
 
-    /// What becomes of the server, or of the time.
+    /// `boot NUMBER`: a server in this boot stands in the place of the one that was there, with nothing of what it had.
+    /// `undrawn`: the server's next draw fails. `at SECOND`: when calls go out and come from now on.
     fn set(&mut self, alloc: Global, what: &str, value: u32) -> Result<Said, Wrong> {
         match what {
             "boot" => self.scene.boot(alloc, value)?,

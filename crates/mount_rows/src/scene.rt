@@ -198,8 +198,7 @@ impl Scene {
         }
     }
 
-    /// Another server stands in the place of the one that was there: it is in its boot of this number, and nobody has called
-    /// it yet.
+    /// A server in its boot of this number stands in the place of the one that was there. Nobody has called it yet.
     pub fn boot(&mut self, alloc: Global, boot: u32) -> Result<(), Wrong> {
         self.server = toy_server(alloc, boot)?;
         Ok(())
