@@ -1,0 +1,6 @@
+mod Answered
+mod Going
+mod Hearing
+mod Inits
+mod Made
+mod Steps

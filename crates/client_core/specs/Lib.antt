@@ -1,0 +1,10 @@
+pub mod Backs
+pub mod Callbacks
+pub mod Calls
+pub mod Commands
+pub mod Endings
+pub mod Parts
+pub mod Records
+pub mod Room
+pub mod State
+pub mod Telling
