@@ -8,4 +8,7 @@ pub struct Carried {
     pub secret: Octets,
     pub sources: Items<NetLoc>,
     pub user: Octets,
+
+    /// The key of the context under which the child was made.
+    pub root: [u8; 32],
 }

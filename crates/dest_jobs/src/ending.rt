@@ -32,7 +32,7 @@ impl<'a> Whose<'a> {
 
 impl Copies {
     /// Adds what is to be told of this step. It wants no memory.
-    pub(crate) fn note(&mut self, note: Note)
+    pub fn note(&mut self, note: Note)
         ensures { self.new ≡ with_note note self.old }
     {
         add_note(&mut self.told, note);

@@ -4,8 +4,9 @@
 //! [`Copies`] are the jobs of a destination, as a [`Book`], with the source from which it copies and what is to be told of a
 //! step.
 //! [`Copies::copy`] is COPY once it is known between which files: its table of refusals, and the job that is taken.
-//! Its contract is the one to read first, over `specs/Copying.antt`. No call here wants memory or knows a compound, a page
-//! or a session; a server around it does.
+//! Its contract is the one to read first, over `specs/Copying.antt`. What comes about in a job on its way is in
+//! `specs/Progress.antt`. No call here but [`Copies::size`] wants memory, and none knows a compound, a page or a session; a server
+//! around it does.
 #![tactic(auto)]
 
 mod carried;
@@ -13,9 +14,11 @@ mod copies;
 mod copying;
 mod ending;
 mod offloads;
+mod progress;
 
 pub use carried::Carried;
 pub use copies::Copies;
 pub use copying::{CopyRoom, Ends};
 pub use ending::Whose;
 pub use job_book::Book;
+pub use progress::stop_status;

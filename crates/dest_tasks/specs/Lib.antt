@@ -1,3 +1,4 @@
+pub mod Completing
 pub mod Posts
 pub mod Seats
 pub mod Tasks

@@ -1,7 +1,6 @@
 -- What the workers of a destination are at, by their places: a worker's place is its number less 1, and its slot at the
 -- source. A worker awaits an answer of the source for a job, or holds the bytes of a chunk that is to land.
 use Rattle.std.specs.Prelude.{ℕ, zero, suc, ◌+◌, ◌==◌, ◌&&◌, not, Bool, true, false, List, slice_index_or, slice_set, if◌then◌else◌, Option, Some, None}
-use Rattle.std.specs.List.{list_any}
 use Rattle.nfs_base.specs.declared.job.JobName.{JobName}
 use Rattle.dest_tasks.specs.declared.post.Errand.{Errand}
 use Rattle.dest_tasks.specs.declared.post.Errand.TheVariants as errands

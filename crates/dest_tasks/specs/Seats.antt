@@ -2,6 +2,9 @@
 -- accepted. By its seat the job has its context at the source, and its slot in the back channel of its client's session.
 use Rattle.std.specs.Prelude.{ℕ, ◌==◌, ◌&&◌, Bool, true, false, List, position, slice_set, is_none, Option, Some, None}
 use Rattle.std.specs.List.{list_any}
+use Rattle.job_book.specs.Book.{client_of}
+use Rattle.job_table.specs.Table.{JobTable}
+use Rattle.nfs_base.specs.declared.job.JobName.{JobName}
 use Rattle.dest_tasks.specs.declared.seats.Seat.{Seat}
 
 abbrev pub sits : (job : ℕ) → Option Seat → Bool
@@ -12,24 +15,21 @@ sits job (Some seat) = seat.job == job
 abbrev pub seat_of : (job : ℕ) → List (Option Seat) → Option ℕ
 seat_of job seats = position (sits job) seats
 
--- ---- a job is accepted, and retired
+-- ---- a job is accepted. Where a job sits that isn't in the book any more, the seat is free.
 
-abbrev pub is_free : Option Seat → Bool
-is_free seat = is_none seat
+abbrev pub is_free : (boot : ℕ) → JobTable → Option Seat → Bool
+is_free boot t None = true
+is_free boot t (Some seat) = is_none (client_of t (record { boot = boot; number = seat.job }))
+
+abbrev pub free_seat : (boot : ℕ) → JobTable → List (Option Seat) → Option ℕ
+free_seat boot t seats = position (is_free boot t) seats
 
 abbrev pub seated_at : (job : ℕ) → Option ℕ → List (Option Seat) → List (Option Seat)
 seated_at job None seats = seats
 seated_at job (Some place) seats = slice_set seats place (Some (record { job = job; denied = false }))
 
-abbrev pub seated : (job : ℕ) → List (Option Seat) → List (Option Seat)
-seated job seats = seated_at job (position is_free seats) seats
-
-abbrev pub freed_at : Option ℕ → List (Option Seat) → List (Option Seat)
-freed_at None seats = seats
-freed_at (Some place) seats = slice_set seats place None
-
-abbrev pub freed : (job : ℕ) → List (Option Seat) → List (Option Seat)
-freed job seats = freed_at (seat_of job seats) seats
+abbrev pub seated : JobName → JobTable → List (Option Seat) → List (Option Seat)
+seated job t seats = seated_at job.number (free_seat job.boot t seats) seats
 
 -- ---- the source denied a CREATE for the job
 

@@ -1,16 +1,18 @@
 -- What a worker that awaits and holds nothing does next: the jobs are gone through by number, and the first task that is
 -- found is done. RFC 7862 section 4.10.1.2; the tasks and their order are own.
-use Rattle.std.specs.Prelude.{ℕ, zero, suc, ◌&&◌, not, Bool, true, false, List, [], ◌∷◌, slice_index_or, if◌then◌else◌, is_some, Option, Some, None}
+use Rattle.std.specs.Prelude.{ℕ, zero, suc, ◌&&◌, not, Bool, true, false, List, slice_index_or, is_some, Option, Some, None}
 use Rattle.std.specs.List.{list_any}
-use Rattle.copy_model.specs.Job.{has_ended}
 use Rattle.job_log.specs.declared.chunk.Chunk.{Chunk}
-use Rattle.job_table.specs.Table.{is_running}
+use Rattle.job_table.specs.Table.{JobTable, is_running}
 use Rattle.job_table.specs.declared.job.Job.{Job}
 use Rattle.nfs_base.specs.declared.job.JobName.{JobName}
-use Rattle.job_book.specs.Book.{BookView, id_of, named, next_name}
+use Rattle.job_book.specs.Book.{BookView, client_of, id_of, named, next_name}
 use Rattle.job_book.specs.Working.{claimed, is_whole, next_chunk, size_in}
+use Rattle.sess_slots.specs.Begins.{has_lapsed}
+use Rattle.sess_slots.specs.Table.{SessionTable}
 use Rattle.dest_tasks.specs.declared.post.Post.{Post}
 use Rattle.dest_tasks.specs.declared.seats.Seat.{Seat}
+use Rattle.dest_tasks.specs.declared.tasks.Outlook.{Outlook}
 use Rattle.dest_tasks.specs.declared.tasks.Sight.{Sight}
 use Rattle.dest_tasks.specs.declared.tasks.Source.{Source}
 use Rattle.dest_tasks.specs.declared.tasks.Task.{Task}
@@ -24,15 +26,24 @@ abbrev pub has_context : (contexts : List Bool) → Option ℕ → Bool
 has_context contexts None = false
 has_context contexts (Some seat) = slice_index_or contexts seat false
 
+-- whether a job's client has no lease any more: the job ends with it
+abbrev pub is_gone : SessionTable → (second : ℕ) → (client : Option ℕ) → Bool
+is_gone sessions second None = false
+is_gone sessions second (Some client) = has_lapsed sessions client second
+
 -- a session, a context for this job, and which of the answers are awaited that make these or tell the size
-abbrev pub sight : Source → List Post → List (Option Seat) → JobName → Sight
-sight source posts seats name = record {
+abbrev pub sight : Source → List Post → List (Option Seat) → (gone : Bool) → JobName → Sight
+sight source posts seats gone name = record {
   session = source.session;
   setting_up = source.setting_up;
   context = has_context source.contexts (seat_of name.number seats);
   confirming = list_any (confirms name) posts;
   sizing = list_any (sizes name) posts;
+  gone = gone;
 }
+
+abbrev pub seen_in : Outlook → JobTable → JobName → Sight
+seen_in o t name = sight o.source.now o.workers.now o.seats.now (is_gone o.sessions.now o.second (client_of t name)) name
 
 -- ---- the tasks of a job that goes on, each where it is due
 
@@ -75,8 +86,12 @@ abbrev pub task_if : (running : Bool) → Sight → JobName → Option Job → O
 task_if true s name job = going_task s name job
 task_if false s name job = None
 
+-- a job that ends with its client's lease goes on no more
+abbrev pub goes_on : (running : Bool) → Sight → Bool
+goes_on running s = running && not s.gone
+
 abbrev pub job_task : (JobName → Sight) → JobName → BookView → Option Task
-job_task see name b = task_if (is_running b.table (id_of name)) (see name) name (named b.table name)
+job_task see name b = task_if (goes_on (is_running b.table (id_of name)) (see name)) (see name) name (named b.table name)
 
 -- ---- the first task of all jobs
 

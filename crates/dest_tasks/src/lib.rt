@@ -7,12 +7,14 @@
 //! doesn't grow with a job's chunks. Nothing here knows a record, a context or a volume, and nothing wants memory.
 #![tactic(auto)]
 
+mod laws;
 mod post;
 mod seats;
 mod tasks;
 mod workers;
 
 pub use job_book::{Book, Chunk};
+pub use laws::{chunks_are_next, claims_go_back, commits_are_whole, sized_jobs_complete};
 pub use post::{Errand, Post};
 pub use seats::{SEATS, Seat, Seats};
 pub use tasks::{Outlook, Sight, Source, Task, find_task};

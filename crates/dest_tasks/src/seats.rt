@@ -1,9 +1,11 @@
 //! The seats of jobs.
 
-ghost use Rattle.std.specs.Prelude.{◌≡◌, ◌<◌, IfSome, None, position, replicate};
-ghost use Rattle.dest_tasks.specs.Seats.{denied, freed, is_denied, is_free, seat_of, seated, sits, was_denied};
+ghost use Rattle.std.specs.Prelude.{◌≡◌, ◌<◌, IfSome, None, replicate};
+ghost use Rattle.dest_tasks.specs.Seats.{denied, free_seat, is_denied, is_free, seat_of, seated, sits, was_denied};
 ghost use Rattle.dest_tasks.specs.declared.seats.TheConstants.{SEATS};
 
+use job_book::Book;
+use nfs_base::JobName;
 use std::marker::Model;
 
 /// How many jobs have a seat at a time.
@@ -55,29 +57,26 @@ impl Seats {
         self.seats.iter().position(|seat| sits(job, seat))
     }
 
-    /// A job that was accepted gets the lowest free seat. Where none is free, nothing changes.
-    pub fn seat(&mut self, job: u32)
-        ensures { self.new ≡ seated job self.old }
+    /// A job that was accepted gets the lowest seat at which no job of the book sits, and it is told which. Where there is
+    /// none, nothing changes.
+    pub fn seat(&mut self, job: JobName, book: &Book) -> Option<usize>
+        ensures seat { result ≡ free_seat job.boot book.now.table self.old }
+        ensures there { IfSome result (λ seat. seat < SEATS) }
+        ensures after { self.new ≡ seated job book.now.table self.old }
     {
-        if let Some(place) = self.free_place() {
-            self.seats[place] = Some(Seat { job, denied: false });
-        }
+        let place = self.free_place(job.boot, book)?;
+        self.seats[place] = Some(Seat {
+            job: job.number,
+            denied: false,
+        });
+        Some(place)
     }
 
-    fn free_place(&self) -> Option<usize>
-        ensures place { result ≡ position is_free self.now }
+    fn free_place(&self, boot: u32, book: &Book) -> Option<usize>
+        ensures place { result ≡ free_seat boot book.now.table self.now }
         ensures there { IfSome result (λ place. place < SEATS) }
     {
-        self.seats.iter().position(|seat| is_free(seat))
-    }
-
-    /// A job that was retired has no seat any more.
-    pub fn free(&mut self, job: u32)
-        ensures { self.new ≡ freed job self.old }
-    {
-        if let Some(place) = self.of(job) {
-            self.seats[place] = None;
-        }
+        self.seats.iter().position(|seat| is_free(boot, book, seat))
     }
 
     /// Whether a CREATE for a job was denied before.
@@ -115,8 +114,17 @@ fn is_denied(job: u32, seat: &Option<Seat>) -> bool
     }
 }
 
-fn is_free(seat: &Option<Seat>) -> bool
-    ensures { result ≡ is_free seat.now }
+/// Whether no job of the book sits there.
+fn is_free(boot: u32, book: &Book, seat: &Option<Seat>) -> bool
+    ensures { result ≡ is_free boot book.now.table seat.now }
 {
-    seat.is_none()
+    match seat {
+        None => true,
+        Some(seat) => book
+            .client(JobName {
+                boot,
+                number: seat.job,
+            })
+            .is_none(),
+    }
 }

@@ -3,13 +3,14 @@
 ghost use Rattle.std.specs.Prelude.{◌≡◌, ◌<◌, IfSome};
 ghost use Rattle.job_book.specs.Book.{named};
 ghost use Rattle.dest_tasks.specs.declared.seats.TheConstants.{SEATS};
-ghost use Rattle.dest_tasks.specs.Tasks.{after_task, asking_task, has_context, job_task, landing_task, may_call, or_else, sight, task_from, when};
+ghost use Rattle.dest_tasks.specs.Tasks.{after_task, asking_task, has_context, is_gone, job_task, landing_task, may_call, or_else, seen_in, sight, task_from, when};
 ghost use Rattle.nfs_base.specs.declared.limits.TheConstants.{MOST_JOBS};
 
 use crate::seats::{SEATS, Seats};
 use crate::workers::Workers;
 use job_book::{Book, Chunk};
 use nfs_base::{JobName, MOST_JOBS};
+use sess_slots::Sessions;
 
 /// What a worker sees of the source for a job.
 #[derive(Clone, Copy, PartialEq, Eq)]
@@ -28,6 +29,9 @@ pub struct Sight {
 
     /// Whether the answer is awaited that tells the size of the job's file.
     pub sizing: bool,
+
+    /// Whether its client's lease has ended, so that the job ends.
+    pub gone: bool,
 }
 
 /// What a worker is to do, and for which job.
@@ -68,11 +72,15 @@ pub struct Outlook<'a> {
     pub source: &'a Source,
     pub workers: &'a Workers,
     pub seats: &'a Seats,
+
+    /// The clients, whose leases end in this second.
+    pub sessions: &'a Sessions,
+    pub second: u64,
 }
 
 impl<'a> Outlook<'a> {
-    fn sight(&self, name: JobName) -> Sight
-        ensures { result ≡ sight self.now.source.now self.now.workers.now self.now.seats.now name }
+    fn sight(&self, name: JobName, client: Option<u64>) -> Sight
+        ensures { result ≡ sight self.now.source.now self.now.workers.now self.now.seats.now (is_gone self.now.sessions.now self.now.second client) name }
     {
         Sight {
             session: self.source.session,
@@ -80,6 +88,16 @@ impl<'a> Outlook<'a> {
             context: has_context(&self.source.contexts, self.seats.of(name.number)),
             confirming: self.workers.confirms(name),
             sizing: self.workers.sizes(name),
+            gone: self.is_gone(client),
+        }
+    }
+
+    fn is_gone(&self, client: Option<u64>) -> bool
+        ensures { result ≡ is_gone self.now.sessions.now self.now.second client }
+    {
+        match client {
+            None => false,
+            Some(client) => self.sessions.lapsed(client, self.second),
         }
     }
 }
@@ -96,7 +114,7 @@ fn has_context(contexts: &[bool; SEATS as usize], seat: Option<usize>) -> bool
 
 /// The first task of all jobs, by number. The chunk that is to be read is claimed.
 pub fn find_task(book: &mut Book, outlook: &Outlook) -> Option<Task>
-    ensures task { result ≡ task_from (λ name. sight outlook.now.source.now outlook.now.workers.now outlook.now.seats.now name) MOST_JOBS 0 book.old }
+    ensures task { result ≡ task_from (seen_in outlook.now book.old.table) MOST_JOBS 0 book.old }
     ensures claimed { book.new ≡ after_task result book.old }
 {
     find_from(book, outlook, MOST_JOBS, 0)
@@ -104,7 +122,7 @@ pub fn find_task(book: &mut Book, outlook: &Outlook) -> Option<Task>
 
 #[tactic(auto, unfolding(crate::specs::Tasks::task_from))]
 fn find_from(book: &mut Book, outlook: &Outlook, left: usize, after: u32) -> Option<Task>
-    ensures task { result ≡ task_from (λ name. sight outlook.now.source.now outlook.now.workers.now outlook.now.seats.now name) left after book.old }
+    ensures task { result ≡ task_from (seen_in outlook.now book.old.table) left after book.old }
     ensures claimed { book.new ≡ after_task result book.old }
 {
     if left == 0 {
@@ -120,13 +138,16 @@ fn find_from(book: &mut Book, outlook: &Outlook, left: usize, after: u32) -> Opt
 }
 
 fn job_task(book: &mut Book, outlook: &Outlook, name: JobName) -> Option<Task>
-    ensures task { result ≡ job_task (λ name. sight outlook.now.source.now outlook.now.workers.now outlook.now.seats.now name) name book.old }
+    ensures task { result ≡ job_task (seen_in outlook.now book.old.table) name book.old }
     ensures claimed { book.new ≡ after_task result book.old }
 {
     if !book.is_running(name) {
         return None;
     }
-    let sight = outlook.sight(name);
+    let sight = outlook.sight(name, book.client(name));
+    if sight.gone {
+        return None;
+    }
     let sized = book.len(name).is_some();
     match asking_task(&sight, sized, name) {
         Some(task) => Some(task),

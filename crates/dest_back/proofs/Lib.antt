@@ -1,0 +1,4 @@
+pub mod CopyLemmas
+pub mod Fitting
+pub mod Nexts
+pub mod Sendings

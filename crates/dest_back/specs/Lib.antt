@@ -1,0 +1,4 @@
+pub mod Callbacks
+pub mod Compounds
+pub mod Hearing
+pub mod Telling

@@ -1,0 +1,9 @@
+pub mod Chunks
+pub mod Ends
+pub mod Falls
+pub mod Found
+pub mod Goes
+pub mod Joined
+pub mod Sends
+pub mod Steps
+pub mod Turns

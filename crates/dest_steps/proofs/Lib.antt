@@ -1,0 +1,4 @@
+pub mod Doing
+pub mod Jobs
+pub mod Quiet
+pub mod Turns

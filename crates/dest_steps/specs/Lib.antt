@@ -1,0 +1,11 @@
+pub mod Calls
+pub mod Copier
+pub mod Failing
+pub mod Hearing
+pub mod Landing
+pub mod Replying
+pub mod Short
+pub mod Telling
+pub mod Ticking
+pub mod Turning
+pub mod Working
