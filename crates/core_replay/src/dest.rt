@@ -1,6 +1,8 @@
 //! Cases of a destination.
 
+ghost use Rattle.std.specs.Prelude.{◌≤◌, IsTrue};
 ghost use Rattle.block_file.specs.Opened.{CanBeOpened};
+ghost use Rattle.dest_tasks.specs.declared.workers.TheConstants.{WORKERS};
 ghost use Rattle.disk_model.specs.Disk.{Image, MayLeave};
 ghost use Rattle.disk_model.specs.Elapsed.{present};
 
@@ -9,6 +11,7 @@ use crate::setting::{dest_name, dest_place, dest_source, realm};
 use crate::volume::{formatted, new_disk};
 use block_file::FileInfo;
 use dest_core::DestCore;
+use dest_tasks::WORKERS;
 use disk_model::{Disk, MemoryDisk};
 use gss_mech::Realm;
 use nfs_base::End;
@@ -48,6 +51,39 @@ impl Driver for DestCore<MemoryDisk, Realm> {
         Ok(Some(self.tick(alloc, now)?))
     }
 
+    fn work<W: Draws>(
+        &mut self,
+        alloc: Global,
+        worker: u8,
+        now: u64,
+        draws: &mut W,
+    ) -> Mem<Option<Outbox>> {
+        if self.calls() >= MOST_STEPS || !is_worker(worker) {
+            return Ok(None);
+        }
+        Ok(Some(DestCore::work(self, alloc, worker, now, draws)?))
+    }
+
+    fn reply(
+        &mut self,
+        alloc: Global,
+        worker: u8,
+        record_: &[u8],
+        now: u64,
+    ) -> Mem<Option<Outbox>> {
+        if self.calls() >= MOST_STEPS || !is_worker(worker) {
+            return Ok(None);
+        }
+        Ok(Some(self.on_source_reply(alloc, worker, record_, now)?))
+    }
+
+    fn fail(&mut self, alloc: Global, worker: u8) -> Mem<Option<Outbox>> {
+        if self.calls() >= MOST_STEPS || !is_worker(worker) {
+            return Ok(None);
+        }
+        Ok(Some(self.link_failed(alloc, worker)?))
+    }
+
     fn info(&self, file: u32) -> Option<FileInfo> {
         if file == 0 || file > self.files() {
             return None;
@@ -65,6 +101,14 @@ impl Driver for DestCore<MemoryDisk, Realm> {
         }
         Some(room)
     }
+}
+
+/// Whether a worker has this number.
+fn is_worker(worker: u8) -> bool
+    ensures first { IsTrue result → 1 ≤ worker }
+    ensures last { IsTrue result → worker ≤ WORKERS }
+{
+    1 <= worker && u32::from(worker) <= WORKERS
 }
 
 /// The destination of a case, over a disk that is formatted for it.

@@ -28,6 +28,21 @@ pub trait Driver: Drop {
     /// A second comes by itself.
     fn wait(&mut self, alloc: Global, now: u64) -> Mem<Option<Outbox>>;
 
+    /// A worker has its turn.
+    fn work<W: Draws>(
+        &mut self,
+        alloc: Global,
+        worker: u8,
+        now: u64,
+        draws: &mut W,
+    ) -> Mem<Option<Outbox>>;
+
+    /// A record comes to a worker from the source.
+    fn reply(&mut self, alloc: Global, worker: u8, record_: &[u8], now: u64) -> Mem<Option<Outbox>>;
+
+    /// A worker's link has failed.
+    fn fail(&mut self, alloc: Global, worker: u8) -> Mem<Option<Outbox>>;
+
     /// What is told of a file, where it is there.
     fn info(&self, file: u32) -> Option<FileInfo>;
 

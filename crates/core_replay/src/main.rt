@@ -5,7 +5,7 @@
 //! follow it. A case begins with `case NAME FILES BLOCKS TAG`: a core over a volume just made. Then come events and, behind
 //! each, its outcome: the lines `note`, `accepted`, `used`, `undrawn` and `sent`. `file` and `peek` tell what the volume
 //! holds in the end, and `end` ends the case. Empty lines and those that begin with `#` are passed over. At an event that
-//! the core doesn't make yet, as `work`, its case is left, which is printed with the number of the line.
+//! the core doesn't make, as `work` at a source, its case is left, which is printed with the number of the line.
 #![tactic(auto)]
 
 mod cases;

@@ -1,16 +1,16 @@
 //! What a step gave, as the lines of a case.
 
 use nfs_base::{End, JobName, Seal};
-use nfs_compound::name_of;
+use nfs_compound::{cb_name_of, name_of};
 use outbox::{CallAnswer, CallLabel, Dropped, Label, Note, Outbox, Outgoing, To, Used, VolumeCall};
 use outcome::Mem;
 use std::alloc::Global;
 
-/// The lines of an outbox, in their order.
-pub fn lines_of(alloc: Global, end: End, out: &Outbox) -> Mem<Vec<String>> {
+/// The lines of an outbox, in their order. A letter says who took the record.
+pub fn lines_of(alloc: Global, taker: char, out: &Outbox) -> Mem<Vec<String>> {
     let mut lines = Vec::new(alloc);
     for note in out.notes.as_slice() {
-        lines.push(note_line(alloc, end, note)?)?;
+        lines.push(note_line(alloc, taker, note)?)?;
     }
     if let Some(seal) = &out.accepted {
         let seal = seal_text(alloc, seal)?;
@@ -28,11 +28,11 @@ pub fn lines_of(alloc: Global, end: End, out: &Outbox) -> Mem<Vec<String>> {
     Ok(lines)
 }
 
-fn note_line(alloc: Global, end: End, note: &Note) -> Mem<String> {
+fn note_line(alloc: Global, taker: char, note: &Note) -> Mem<String> {
     match note {
         Note::Dropped { why } => {
-            let (end, why) = (end_letter(end), dropped_word(*why));
-            Ok(format!(in alloc; "note drop {end} {why}")?)
+            let why = dropped_word(*why);
+            Ok(format!(in alloc; "note drop {taker} {why}")?)
         }
         Note::Permit { cause } => Ok(format!(in alloc; "note permit {cause}")?),
         Note::Privilege { cause } => Ok(format!(in alloc; "note privilege {cause}")?),
@@ -51,7 +51,7 @@ fn job_line(alloc: Global, note: &Note) -> Mem<String> {
         } => accepted_line(alloc, *job, *file, *to, *count),
         Note::Overlap { job } => Ok(format!(in alloc; "note overlap {job}")?),
         Note::Stopped { job, cause } => Ok(format!(in alloc; "note stopped {job} {cause}")?),
-        _ => Ok(format!(in alloc; "note of another end")?),
+        _ => way_line(alloc, note),
     }
 }
 
@@ -63,6 +63,21 @@ fn accepted_line(alloc: Global, job: JobName, file: u32, to: u64, count: u64) ->
     Ok(format!(in alloc; "note accepted {job} {file} {to} {count}")?)
 }
 
+/// What is told of a job on its way.
+fn way_line(alloc: Global, note: &Note) -> Mem<String> {
+    match note {
+        Note::Sized { job, len } => Ok(format!(in alloc; "note sized {job} {len}")?),
+        Note::Landed { job, off, len } => {
+            Ok(format!(in alloc; "note landed {job} {off} {len}")?)
+        }
+        Note::Held { job, off } => Ok(format!(in alloc; "note held {job} {off}")?),
+        Note::Late { job, off } => Ok(format!(in alloc; "note late {job} {off}")?),
+        Note::Committed { job } => Ok(format!(in alloc; "note committed {job}")?),
+        Note::Reported { job } => Ok(format!(in alloc; "note reported {job}")?),
+        _ => Ok(format!(in alloc; "note of another end")?),
+    }
+}
+
 fn dropped_word(why: Dropped) -> &'static str {
     match why {
         Dropped::Unread => "unread",
@@ -72,7 +87,8 @@ fn dropped_word(why: Dropped) -> &'static str {
     }
 }
 
-fn end_letter(end: End) -> char {
+/// The letter of an end.
+pub fn end_letter(end: End) -> char {
     match end {
         End::Source => 's',
         End::Dest => 'd',
@@ -113,7 +129,7 @@ fn call_name(to: CallLabel) -> &'static str {
         CallLabel::Null => "NULL",
         CallLabel::Compound => "COMPOUND",
         CallLabel::Operation(op) => name_of(op),
-        CallLabel::Callback(op) => name_of(op),
+        CallLabel::Callback(op) => cb_name_of(op),
     }
 }
 

@@ -2,7 +2,7 @@
 
 use crate::driver::Driver;
 use crate::lines::{bytes_of, long};
-use crate::outcomes::lines_of;
+use crate::outcomes::{end_letter, lines_of};
 use crate::setting::{few_draws, given_draws};
 use outbox::Outbox;
 use outcome::Mem;
@@ -68,12 +68,23 @@ fn event<D: Driver>(
     let out = match word(words, 0) {
         "record" => comes(alloc, core, draws, few, words)?,
         "tick" => core.wait(alloc, long(words, 1))?,
+        "work" => works(alloc, core, draws, few, words)?,
+        "reply" => replies(alloc, core, words)?,
+        "failed" => core.fail(alloc, worker_of(words))?,
         _ => None,
     };
     match out {
-        Some(out) => Ok(Some(lines_of(alloc, core.end(), &out)?)),
+        Some(out) => Ok(Some(lines_of(alloc, taker(core, words), &out)?)),
         None => Ok(None),
     }
+}
+
+/// Who takes the record of an event: a worker has a letter of its own.
+fn taker<D: Driver>(core: &D, words: &[&str]) -> char {
+    if word(words, 0) == "reply" {
+        return 'w';
+    }
+    end_letter(core.end())
 }
 
 /// A record comes on a connection.
@@ -90,6 +101,32 @@ fn comes<D: Driver>(
         Some(few) => core.take(alloc, conn, given.as_slice(), now, few),
         None => core.take(alloc, conn, given.as_slice(), now, draws),
     }
+}
+
+/// A worker has its turn.
+fn works<D: Driver>(
+    alloc: Global,
+    core: &mut D,
+    draws: &mut CountDraws,
+    few: &mut Option<MemDraws>,
+    words: &[&str],
+) -> Mem<Option<Outbox>> {
+    let (worker, now) = (worker_of(words), long(words, 2));
+    match few {
+        Some(few) => core.work(alloc, worker, now, few),
+        None => core.work(alloc, worker, now, draws),
+    }
+}
+
+/// A record comes to a worker from the source.
+fn replies<D: Driver>(alloc: Global, core: &mut D, words: &[&str]) -> Mem<Option<Outbox>> {
+    let given = bytes_of(alloc, word(words, 3))?;
+    core.reply(alloc, worker_of(words), given.as_slice(), long(words, 2))
+}
+
+/// The number of a worker, 0 where there is none.
+fn worker_of(words: &[&str]) -> u8 {
+    word(words, 1).parse::<u8>().unwrap_or(0)
 }
 
 fn held<D: Driver>(alloc: Global, core: &mut D, words: &[&str]) -> Mem<String> {

@@ -48,6 +48,30 @@ impl Driver for SourceCore<MemoryDisk, Realm> {
         Ok(Some(self.tick(alloc, now)?))
     }
 
+    fn work<W: Draws>(
+        &mut self,
+        alloc: Global,
+        worker: u8,
+        now: u64,
+        draws: &mut W,
+    ) -> Mem<Option<Outbox>> {
+        Ok(None)
+    }
+
+    fn reply(
+        &mut self,
+        alloc: Global,
+        worker: u8,
+        record_: &[u8],
+        now: u64,
+    ) -> Mem<Option<Outbox>> {
+        Ok(None)
+    }
+
+    fn fail(&mut self, alloc: Global, worker: u8) -> Mem<Option<Outbox>> {
+        Ok(None)
+    }
+
     fn info(&self, file: u32) -> Option<FileInfo> {
         if file == 0 || file > self.files() {
             return None;

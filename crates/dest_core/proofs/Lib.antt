@@ -1,2 +1,3 @@
 pub mod Answers
-pub mod Leases
+pub mod Hosts
+pub mod Turns

@@ -18,34 +18,34 @@ use Rattle.session_server.specs.declared.extending.Judgement.TheVariants.{Grante
 use Rattle.dest_jobs.specs.declared.carried.Carried.{Carried}
 use Rattle.dest_core.specs.declared.destination.Destination.{Destination}
 
--- a privilege that was read
-abbrev pub granted : Privilege → Judgement Carried
-granted (privileges.To secret sources user) = Granted (record { secret = secret; sources = sources; user = user })
+-- a privilege that was read, under a root context with this key
+abbrev pub granted : (root : List ℕ) → Privilege → Judgement Carried
+granted root (privileges.To secret sources user) = Granted (record { secret = secret; sources = sources; user = user; root = root })
 -- these are refused in any case
-granted (privileges.From secret destination user) = Refused Unknown
-granted (privileges.Confirm code user) = Refused Unknown
+granted root (privileges.From secret destination user) = Refused Unknown
+granted root (privileges.Confirm code user) = Refused Unknown
 
-abbrev pub unless_refused : Option PrivCause → Privilege → Judgement Carried
-unless_refused (Some cause) privilege = Refused cause
-unless_refused None privilege = granted privilege
+abbrev pub unless_refused : Option PrivCause → (root : List ℕ) → Privilege → Judgement Carried
+unless_refused (Some cause) root privilege = Refused cause
+unless_refused None root privilege = granted root privilege
 
-abbrev pub judged_read : NetLoc → (principal : List ℕ) → Result Privilege PrivFault → Judgement Carried
-judged_read source principal (Err faults.UnknownName) = Refused Unknown
-judged_read source principal (Err (faults.BadXdr at)) = Misspelt
-judged_read source principal (Ok privilege) = unless_refused (dest_refusal source principal privilege) privilege
+abbrev pub judged_read : NetLoc → Context Carried → Result Privilege PrivFault → Judgement Carried
+judged_read source parent (Err faults.UnknownName) = Refused Unknown
+judged_read source parent (Err (faults.BadXdr at)) = Misspelt
+judged_read source parent (Ok privilege) = unless_refused (dest_refusal source parent.principal privilege) parent.key privilege
 
 -- what is said of a privilege by its name, under the context of a number
 abbrev pub judged_under : NetLoc → Option (Context Carried) → (name privilege : List ℕ) → Judgement Carried
 judged_under source None name privilege = Misspelt
-judged_under source (Some parent) name privilege = judged_read source parent.principal (privilege_told name privilege)
+judged_under source (Some parent) name privilege = judged_read source parent (privilege_told name privilege)
 
 abbrev pub judges : {M : Type 0} → (second : ℕ) → ContextTable Carried → (number : ℕ) → (name privilege : List ℕ) → Destination M → Judgement Carried
-judges second table number name privilege x = judged_under x.copies.source.loc (context_of number table.entries) name privilege
+judges second table number name privilege x = judged_under x.copier.copies.source.loc (context_of number table.entries) name privilege
 
 -- ---- what is told of a step
 
 abbrev pub tells : {M : Type 0} → Destination M → List Note
-tells x = x.copies.told
+tells x = x.copier.copies.told
 
 abbrev pub silent : {M : Type 0} → Destination M → Destination M
-silent x = record x { copies = record x.copies { told = [] } }
+silent x = record x { copier = record x.copier { copies = record x.copier.copies { told = [] } } }

@@ -12,4 +12,4 @@ same_given x = le_refl (given x)
 
 pub leaving_gives : {M : Type 0} (client : ℕ) (why : ClientEnd) (x : Destination M) → given (leaves client why x) ≤ given x
 leaving_gives client why x =
-    subst (λ n. n ≤ given x) (sym (leaving_gives_none client (stop_of why) x.copies)) (le_refl (given x))
+    subst (λ n. n ≤ given x) (sym (leaving_gives_none client (stop_of why) x.copier.copies)) (le_refl (given x))

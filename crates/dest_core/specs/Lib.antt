@@ -5,3 +5,4 @@ pub mod Core
 pub mod Judging
 pub mod Laws
 pub mod Serving
+pub mod Stepping

@@ -38,11 +38,11 @@ stop_of Lapsed = LeaseExpired
 stop_of Gone = ClientGone
 
 abbrev pub leaves : {M : Type 0} → (client : ℕ) → ClientEnd → Destination M → Destination M
-leaves client why x = record x { copies = ending.leaves client (stop_of why) x.copies }
+leaves client why x = record x { copier = record x.copier { copies = ending.leaves client (stop_of why) x.copier.copies } }
 
 -- a second alone ends nothing; leases end where the server itself goes through its jobs
 abbrev pub lapses : {M : Type 0} → (second : ℕ) → Destination M → Destination M
 lapses second x = x
 
 abbrev pub given : {M : Type 0} → Destination M → ℕ
-given x = x.copies.book.table.made
+given x = x.copier.copies.book.table.made

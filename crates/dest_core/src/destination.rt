@@ -1,15 +1,11 @@
-use dest_jobs::Copies;
+use dest_steps::Copier;
 use nfs_base::NetLoc;
-use wire_xdr::Octets;
 
 /// What a destination has besides its files.
 #[derive(Drop)]
 pub struct Destination<M> {
-    /// The copies that it took, with the source from which it copies.
-    pub copies: Copies,
-
-    /// As whom it calls the source.
-    pub principal: Octets,
+    /// The copies that it took, and what works on them.
+    pub copier: Copier,
 
     /// Where it is found itself.
     pub own: NetLoc,

@@ -48,13 +48,13 @@ impl<M: Mechanism> Extending<Carried> for Destination<M> {
             Err(PrivFault::BadXdr { .. }) => Ok(Judgement::Misspelt),
             Ok(privilege) => match self.refuses(parent, &privilege) {
                 Some(cause) => Ok(Judgement::Refused(cause)),
-                None => Ok(granted(privilege)),
+                None => Ok(granted(&parent.key, privilege)),
             },
         }
     }
 
     fn tell(&mut self, notes: &mut NoteList) {
-        std::mem::swap(notes, &mut self.copies.told);
+        std::mem::swap(notes, &mut self.copier.copies.told);
     }
 
     ghost by_telling = { λ x. same_given x };
@@ -63,11 +63,11 @@ impl<M: Mechanism> Extending<Carried> for Destination<M> {
 impl<M> Destination<M> {
     /// Why a privilege is refused under a parent.
     fn refuses(&self, parent: &Context<Carried>, privilege: &Privilege) -> Option<PrivCause>
-        ensures { result ≡ dest_refusal self.now.copies.source.loc parent.now.principal privilege.now }
+        ensures { result ≡ dest_refusal self.now.copier.copies.source.loc parent.now.principal privilege.now }
     {
         match privilege {
             Privilege::To { sources, user, .. } => refuse_to(
-                &self.copies.source.loc,
+                &self.copier.copies.source.loc,
                 parent.principal.as_slice(),
                 sources.as_slice(),
                 user.as_slice(),
@@ -79,9 +79,10 @@ impl<M> Destination<M> {
 }
 
 /// What is said of a privilege that isn't refused.
-fn granted(privilege: Privilege) -> Judgement<Carried>
-    ensures { result ≡ granted privilege }
+fn granted(root: &[u8; 32], privilege: Privilege) -> Judgement<Carried>
+    ensures { result ≡ granted root.now privilege }
 {
+    let root = *root;
     match privilege {
         Privilege::To {
             secret,
@@ -91,6 +92,7 @@ fn granted(privilege: Privilege) -> Judgement<Carried>
             secret,
             sources,
             user,
+            root,
         }),
         Privilege::From { .. } => Judgement::Refused(PrivCause::Unknown),
         Privilege::Confirm { .. } => Judgement::Refused(PrivCause::Unknown),

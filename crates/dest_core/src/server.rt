@@ -1,50 +1,55 @@
 //! The whole server.
 
-ghost use Rattle.std.specs.Prelude.{true, ◌≡◌, ◌↔◌, ◌≤◌, ◌<◌, ◌+◌, [], length, None, IfOk, IsOk, IsTrue, OnErr, Err, MatchResult};
+ghost use Rattle.std.specs.Prelude.{true, ◌≡◌, ◌↔◌, ◌≤◌, ◌<◌, ◌+◌, ◌-◌, [], length, None, IfOk, IsOk, IsTrue, OnErr, Err, MatchResult};
 ghost use Rattle.block_file.specs.Opened.{homes_by, CanBeOpened, RefusedFor};
 ghost use Rattle.block_file.specs.Stored.{flaw_of, reopened, tag_of};
 ghost use Rattle.block_file.specs.declared.faults.OpenFault.{OpenFault};
 ghost use Rattle.block_file.specs.declared.faults.ReadFault.{ReadFault};
 ghost use Rattle.copy_model.specs.Volume.{bytes_at, file_at};
-ghost use Rattle.dest_core.specs.Core.{dest_rules, leases_ended, second_come, IsNew};
-ghost use Rattle.dest_core.specs.Serving.{given};
+ghost use Rattle.dest_core.specs.Core.{no_copier, IsNew};
+ghost use Rattle.dest_core.specs.Stepping.{failure_step, tick_step, IsRecord, IsReply, IsWork};
+ghost use Rattle.dest_tasks.specs.declared.workers.TheConstants.{WORKERS};
 ghost use Rattle.disk_model.specs.Disk.{Image, MayLeave};
 ghost use Rattle.disk_model.specs.Elapsed.{contents, present, set_to, IsOut};
 ghost use Rattle.job_book.specs.Book.{book_bytes, IsSound};
 ghost use Rattle.outcome.specs.Causes.{Rose};
 ghost use Rattle.server_volume.specs.Moments.{Ran};
 ghost use Rattle.server_volume.specs.Store.{seat_of};
-ghost use Rattle.session_server.specs.Host.{host_of, stepped_of, IsCounted};
+ghost use Rattle.session_server.specs.Host.{host_of, stepped_of};
 ghost use Rattle.session_server.specs.Lengths.{AreShort};
-ghost use Rattle.session_server.specs.Steps.{IsTurn};
 ghost use Rattle.session_server.specs.declared.host.TheConstants.{MOST_STEPS};
 
 use crate::destination::Destination;
+use crate::steps::{fail_link, take_record, take_reply, tick, work};
 use block_file::{FileInfo, OpenFault, ReadFault, Volume};
 use compound_server::Server;
 use copy_privs::Peer;
-use dest_jobs::{Carried, Copies, Whose};
+use dest_back::Callbacks;
+use dest_jobs::{Carried, Copies};
+use dest_steps::Copier;
+use dest_tasks::WORKERS;
+use dest_work::Work;
 use disk_model::{CrashDisk, Disk};
 use file_server::Files;
 use gss_ctx::Contexts;
 use gss_mech::Mechanism;
 use job_book::Book;
-use nfs_base::{End, NetLoc, Stop};
-use outbox::{CallList, NoteList, Outbox};
+use nfs_base::{End, NetLoc};
+use outbox::{NoteList, Outbox};
 use outcome::Mem;
 use sess_slots::Sessions;
-use session_server::{Extending, Host};
+use session_server::Host;
 use state_ids::Opens;
 use std::alloc::Global;
 use std::marker::Model;
 use streams::Draws;
-use wire_xdr::{Items, Octets};
+use wire_xdr::Octets;
 
 /// A destination: a server that takes copies from one source as jobs. Contracts see the [`Host`] that it is, which never
 /// gave out more numbers than its steps can have.
 #[derive(Drop)]
 pub struct DestCore<D: Disk, M> {
-    host: Host<D, Destination<M>, Carried>,
+    pub(crate) host: Host<D, Destination<M>, Carried>,
 }
 
 impl<D: Disk, M> Model for DestCore<D, M> {
@@ -102,17 +107,9 @@ impl<D: Disk + Drop, M: Mechanism> DestCore<D, M> {
         ensures volume { IfOk result (λ core. core.server.files.volume ≡ volume) }
     {
         let boot = volume.boot();
-        let copies = Copies {
-            book: Book::new(alloc, boot, volume.capacity())?,
-            told: NoteList::new(alloc)?,
-            source,
-        };
-        let extra = Destination {
-            copies,
-            principal,
-            own,
-            mech,
-        };
+        let capacity = volume.capacity();
+        let copier = no_copier(alloc, boot, capacity, source, principal)?;
+        let extra = Destination { copier, own, mech };
         let opens = Opens::new(alloc, boot)?;
         let sessions = Sessions::new(alloc, boot)?;
         let contexts = Contexts::new(alloc, End::Dest, boot)?;
@@ -132,6 +129,29 @@ impl<D: Disk + Drop, M: Mechanism> DestCore<D, M> {
     }
 }
 
+/// Nothing was copied yet.
+fn no_copier(
+    alloc: Global,
+    boot: u32,
+    capacity: u64,
+    source: Peer,
+    principal: Octets,
+) -> Mem<Copier>
+    ensures { IfOk result (λ copier. copier ≡ no_copier boot capacity source principal) }
+{
+    let book = Book::new(alloc, boot, capacity)?;
+    let told = NoteList::new(alloc)?;
+    let work = Work::new(alloc);
+    let back = Callbacks::new(alloc);
+    let copies = Copies { book, told, source };
+    Ok(Copier {
+        copies,
+        work,
+        back,
+        principal,
+    })
+}
+
 impl<D: Disk, M: Mechanism> DestCore<D, M> {
     /// Takes a record that comes on a connection, and answers it: one step. Without memory the destination is as before.
     pub fn on_record<W: Draws>(
@@ -143,7 +163,7 @@ impl<D: Disk, M: Mechanism> DestCore<D, M> {
         draws: &mut W,
     ) -> Mem<Outbox>
         requires few { self.old.steps < MOST_STEPS }
-        ensures turn { D.Told → IfOk result (λ out. IsTurn dest_rules (record { mic = M.mic_of; derived = M.derived }) (M.accepted self.old.server.files.extra.mech) W.gives conn record_.now now (host_of D.size self.old) draws.old draws.new (stepped_of D.size self.new out)) }
+        ensures turn { D.Told → IfOk result (λ out. IsRecord (record { mic = M.mic_of; derived = M.derived }) (M.accepted self.old.server.files.extra.mech) W.gives conn record_.now now (host_of D.size self.old) draws.old draws.new (stepped_of D.size self.new out)) }
         ensures ran { D.Told → IfOk result (λ out. Ran (seat_of D.size D.fuse D.timeline self.old.server.files.volume) (seat_of D.size D.fuse D.timeline self.new.server.files.volume) [] out.used) }
         ensures short { IfOk result (λ out. AreShort out.sent) }
         ensures undrawn { IfOk result (λ out. out.undrawn ≡ true → Rose (W.faults draws.old) (W.faults draws.new)) }
@@ -151,62 +171,77 @@ impl<D: Disk, M: Mechanism> DestCore<D, M> {
         ensures later { W.faults draws.old ≤ W.faults draws.new }
         ensures failing { W.failing draws.new ≡ W.failing draws.old }
     {
-        self.host.on_record(alloc, conn, record_, now, draws)
+        take_record(&mut self.host, alloc, conn, record_, now, draws)
     }
 
-    /// A second comes by itself: a step in which the jobs end whose clients' leases have. Without memory the destination is
-    /// as before.
+    /// A second comes by itself: a step in which the jobs end whose clients' leases have, and what was sent 30 or more seconds ago
+    /// goes out again. Without memory the destination is as before.
     pub fn tick(&mut self, alloc: Global, now: u64) -> Mem<Outbox>
         requires few { self.old.steps < MOST_STEPS }
-        ensures is { IfOk result (λ out. stepped_of D.size self.new out ≡ second_come now (host_of D.size self.old)) }
+        ensures is { IfOk result (λ out. stepped_of D.size self.new out ≡ tick_step (record { mic = M.mic_of; derived = M.derived }) now (host_of D.size self.old)) }
         ensures volume { self.new.server.files.volume ≡ self.old.server.files.volume }
+        ensures short { IfOk result (λ out. AreShort out.sent) }
         ensures err { OnErr result (self.new ≡ self.old) }
     {
-        let mut notes = NoteList::new(alloc)?;
-        let used = CallList::new(alloc)?;
-        second_comes(&mut self.host, now, &mut notes);
-        Ok(Outbox {
-            sent: Items::new(alloc),
-            notes,
-            accepted: None,
-            used,
-            undrawn: false,
-        })
+        tick(&mut self.host, alloc, now)
     }
-}
 
-/// A second comes by itself, and what that ends is told.
-fn second_comes<D: Disk, M: Mechanism>(
-    host: &mut Host<D, Destination<M>, Carried>,
-    now: u64,
-    notes: &mut NoteList,
-)
-    requires few { host.old.steps < MOST_STEPS }
-    requires counted { IsCounted given host.old }
-    requires untold { notes.old ≡ [] }
-    ensures host { host_of D.size host.new ≡ (second_come now (host_of D.size host.old)).host }
-    ensures notes { notes.new ≡ (second_come now (host_of D.size host.old)).out.notes }
-    ensures volume { host.new.server.files.volume ≡ host.old.server.files.volume }
-    ensures counted { IsCounted given host.new }
-{
-    host.tick(now);
-    end_leases(&mut host.server, host.second);
-    host.server.files.extra.tell(notes);
-}
+    /// A worker's turn, by the worker's number from 1 on, once the leases have ended: a step. Without memory the destination is
+    /// as before.
+    pub fn work<W: Draws>(
+        &mut self,
+        alloc: Global,
+        worker: u8,
+        now: u64,
+        draws: &mut W,
+    ) -> Mem<Outbox>
+        requires few { self.old.steps < MOST_STEPS }
+        requires worker { 1 ≤ worker }
+        requires workers { worker ≤ WORKERS }
+        ensures is { D.Told → IfOk result (λ out. IsWork W.gives (M.started self.old.server.files.extra.mech) (record { mic = M.mic_of; derived = M.derived }) (worker - 1) now (host_of D.size self.old) draws.old draws.new (stepped_of D.size self.new out)) }
+        ensures ran { D.Told → IfOk result (λ out. Ran (seat_of D.size D.fuse D.timeline self.old.server.files.volume) (seat_of D.size D.fuse D.timeline self.new.server.files.volume) [] out.used) }
+        ensures once { IfOk result (λ out. length out.used ≤ 1) }
+        ensures undrawn { IfOk result (λ out. out.undrawn ≡ true → Rose (W.faults draws.old) (W.faults draws.new)) }
+        ensures short { IfOk result (λ out. AreShort out.sent) }
+        ensures err { OnErr result (self.new ≡ self.old) }
+        ensures later { W.faults draws.old ≤ W.faults draws.new }
+        ensures failing { W.failing draws.new ≡ W.failing draws.old }
+    {
+        work(&mut self.host, alloc, u32::from(worker - 1), now, draws)
+    }
 
-/// Ends the jobs whose clients' leases have ended in a second.
-fn end_leases<D: Disk, M>(server: &mut Server<D, Destination<M>>, second: u64)
-    ensures { server.new ≡ (let extra = leases_ended server.old.sessions second server.old.files.extra in let files = record server.old.files { extra = extra } in record server.old { files = files }) }
-{
-    let whose = Whose::Lapsed {
-        sessions: &server.sessions,
-        second,
-    };
-    server
-        .files
-        .extra
-        .copies
-        .end_all(&whose, Stop::LeaseExpired);
+    /// Takes a record that the source sent to a worker: a step. Without memory the destination is as before.
+    pub fn on_source_reply(
+        &mut self,
+        alloc: Global,
+        worker: u8,
+        record_: &[u8],
+        now: u64,
+    ) -> Mem<Outbox>
+        requires few { self.old.steps < MOST_STEPS }
+        requires worker { 1 ≤ worker }
+        requires workers { worker ≤ WORKERS }
+        ensures is { D.Told → IfOk result (λ out. IsReply (record { mic = M.mic_of; derived = M.derived }) (M.finished self.old.server.files.extra.mech self.old.server.files.extra.copier.principal) (worker - 1) record_.now now (host_of D.size self.old) (stepped_of D.size self.new out)) }
+        ensures ran { D.Told → IfOk result (λ out. Ran (seat_of D.size D.fuse D.timeline self.old.server.files.volume) (seat_of D.size D.fuse D.timeline self.new.server.files.volume) [] out.used) }
+        ensures once { IfOk result (λ out. length out.used ≤ 1) }
+        ensures short { IfOk result (λ out. AreShort out.sent) }
+        ensures err { OnErr result (self.new ≡ self.old) }
+    {
+        take_reply(&mut self.host, alloc, u32::from(worker - 1), record_, now)
+    }
+
+    /// A worker's link failed: a step. Without memory the destination is as before.
+    pub fn link_failed(&mut self, alloc: Global, worker: u8) -> Mem<Outbox>
+        requires few { self.old.steps < MOST_STEPS }
+        requires worker { 1 ≤ worker }
+        requires workers { worker ≤ WORKERS }
+        ensures is { IfOk result (λ out. stepped_of D.size self.new out ≡ failure_step (record { mic = M.mic_of; derived = M.derived }) (worker - 1) (host_of D.size self.old)) }
+        ensures volume { self.new.server.files.volume ≡ self.old.server.files.volume }
+        ensures short { IfOk result (λ out. AreShort out.sent) }
+        ensures err { OnErr result (self.new ≡ self.old) }
+    {
+        fail_link(&mut self.host, alloc, u32::from(worker - 1))
+    }
 }
 
 impl<D: Disk, M> DestCore<D, M> {
@@ -220,10 +255,10 @@ impl<D: Disk, M> DestCore<D, M> {
     /// How many bytes the jobs landed, those that aren't there any more included. Whatever was done before, each job's
     /// entries are lawful, each claim is of a chunk that hasn't landed, and the ranges of those that run are apart.
     pub fn landed(&self) -> u128
-        ensures value { result ≡ book_bytes self.now.server.files.extra.copies.book }
-        ensures sound { IsSound self.now.server.files.extra.copies.book.table }
+        ensures value { result ≡ book_bytes self.now.server.files.extra.copier.copies.book }
+        ensures sound { IsSound self.now.server.files.extra.copier.copies.book.table }
     {
-        self.host.server.files.extra.copies.book.landed()
+        self.host.server.files.extra.copier.copies.book.landed()
     }
 
     /// How many files there are, but for the root directory.

@@ -61,7 +61,9 @@ impl<M: Mechanism> Serving<Carried> for Destination<M> {
     }
 
     fn leave(&mut self, client: u64, why: ClientEnd) {
-        self.copies.end_all(&Whose::Client(client), stop_of(why));
+        self.copier
+            .copies
+            .end_all(&Whose::Client(client), stop_of(why));
     }
 
     fn lapse(&mut self, second: u64) {}

@@ -15,8 +15,9 @@ returns-clause-serves g c = λ choice agrees.
     let files = c.args.files.now in
     let p = c.args.p.now in
     let old = going_of size files p in
-    let copies = after_cancel (own_job files.extra.copies.book.table c.args.client c.args.id.now) files.extra.copies in
+    let copier = files.extra.copier in
+    let copies = after_cancel (own_job copier.copies.book.table c.args.client c.args.id.now) copier.copies in
     ap (λ (s : Status). told_of (served (with_copies copies old) (results.OffloadCancel s)) p.page.bytes) (sym c.cancel-status.ensures.status)
     ∙ ap (λ (x : Copies). told_of (served (with_copies x old) (results.OffloadCancel c.cancel-status.result)) p.page.bytes) (sym c.cancel-status.ensures.after)
-    ∙ serves_said (machine_of size (record files { extra = record files.extra { copies = c.cancel-status.new.self } })) (results.OffloadCancel c.cancel-status.result) p c.refuse.new.self _ c.refuse.result
+    ∙ serves_said (machine_of size (record files { extra = record files.extra { copier = record copier { copies = c.cancel-status.new.self } } })) (results.OffloadCancel c.cancel-status.result) p c.refuse.new.self _ c.refuse.result
     c.refuse.ensures.says (cancel_spelled c.cancel-status.result) (sym c.refuse.ensures.status)
