@@ -22,12 +22,6 @@ pub enum RunEnd {
     /// The input is no schedule.
     Refused,
 
-    /// The records of the run have too many bytes.
-    OverLimit,
-
-    /// A record was taken by mistake.
-    Mistaken,
-
     /// The source failed.
     ReadFault,
 
@@ -84,8 +78,6 @@ impl RunEnd {
         let status = match self {
             RunEnd::Done => ExitStatus::Done,
             RunEnd::Refused => ExitStatus::Refused,
-            RunEnd::OverLimit => ExitStatus::Refused,
-            RunEnd::Mistaken => ExitStatus::Mistaken,
             RunEnd::ReadFault => ExitStatus::ReadFault,
             RunEnd::WriteFault => ExitStatus::WriteFault,
             RunEnd::NoMemory => ExitStatus::NoMemory,

@@ -1,20 +1,21 @@
-ghost use Rattle.std.specs.Prelude.{◌≡◌, ◌≤◌, true, is_some};
-ghost use Rattle.nfscopy.specs.Ends.{UsageEnds};
+ghost use Rattle.std.specs.Prelude.{◌≡◌, ◌≤◌, [], None, Some, Ok, true, is_some};
+ghost use Rattle.sched_text.specs.ScheduleText.{schedule_of};
+ghost use Rattle.nfscopy.specs.Input.{parsed};
 ghost use Rattle.nfscopy.specs.Outside.{outside, disk_words};
-ghost use Rattle.nfscopy.specs.RunEnds.{run_words, RunEnds};
+ghost use Rattle.nfscopy.specs.RunEnds.{CarriesOut, RunEnds};
+ghost use Rattle.nfscopy.specs.Ends.{UsageEnds};
+ghost use Rattle.nfscopy.specs.Puts.{LastPut, UnmadePut};
 
 use crate::ends::{RunEnd, UsageEnd};
-use crate::notice::{
-    bad_line, mistaken_line, not_volume_line, small_line, too_much_line, usage_line,
-};
+use crate::notice::{bad_line, not_volume_line, small_line, too_much_line, usage_line};
 use disk_model::Disk;
-use gss_mech::Mechanism;
 use nfs_base::INPUT_LIMIT;
 use outcome::NoMemory;
+use run_machine::every_run;
+use sched_run::{Disks, Ran, System, Unmade};
+use sched_text::{Schedule, schedule_lines};
 use std::alloc::Global;
 use streams::{Sink, Source, Whole, put_all, read_whole};
-use wire_run::{Disks, Ran, System, Unmade};
-use wire_schedule::{BadLine, Schedule};
 
 /// Puts the line `usage`.
 pub fn usage<K: Sink>(output: &mut K) -> UsageEnd
@@ -27,25 +28,26 @@ pub fn usage<K: Sink>(output: &mut K) -> UsageEnd
     }
 }
 
-/// Reads a schedule, carries it out over the two disks and puts its transcript. Codes are those of the mechanism.
-pub fn run<S: Source, K: Sink, D: Disk + Drop, M: Mechanism>(
+/// Reads a schedule, carries it out over the two disks and puts its transcript.
+pub fn run<S: Source, K: Sink, D: Disk + Drop>(
     alloc: Global,
     input: &mut S,
     output: &mut K,
     disks: &mut Disks<D>,
-    mech: &M,
 ) -> RunEnd
     requires source { is_some disks.old.source ≡ true }
     requires dest { is_some disks.old.dest ≡ true }
-    ensures ends { RunEnds (disk_words D.Told D.faults D.size D.timeline) (run_words M.mic_of M.derived M.started M.accepted M.finished mech.now)
+    ensures ends { RunEnds (disk_words D.Told D.faults D.size D.timeline)
         (outside (S.gives input.old).left (K.takes output.old).taken (S.gives input.old).faults (K.takes output.old).faults disks.old.source disks.old.dest)
         (outside (S.gives input.new).left (K.takes output.new).taken (S.gives input.new).faults (K.takes output.new).faults disks.new.source disks.new.dest)
         result }
     ensures reads_later { (S.gives input.old).faults ≤ (S.gives input.new).faults }
     ensures writes_later { (K.takes output.old).faults ≤ (K.takes output.new).faults }
 {
+    every_run();
+    schedule_lines();
     match read_whole(alloc, input, INPUT_LIMIT as usize) {
-        Ok(Whole::Text(text)) => run_text(alloc, &text, output, disks, mech),
+        Ok(Whole::Text(text)) => run_text(alloc, &text, output, disks),
         Ok(Whole::TooMuch) => put_last(output, too_much_line(), RunEnd::Refused),
         Ok(Whole::Failed) => RunEnd::ReadFault,
         Err(NoMemory) => RunEnd::NoMemory,
@@ -53,67 +55,64 @@ pub fn run<S: Source, K: Sink, D: Disk + Drop, M: Mechanism>(
 }
 
 /// Carries out the schedule of a text, and puts its transcript.
-fn run_text<K: Sink, D: Disk + Drop, M: Mechanism>(
+fn run_text<K: Sink, D: Disk + Drop>(
     alloc: Global,
     text: &[u8],
     output: &mut K,
     disks: &mut Disks<D>,
-    mech: &M,
-) -> RunEnd {
+) -> RunEnd
+    requires source { is_some disks.old.source ≡ true }
+    requires dest { is_some disks.old.dest ≡ true }
+    ensures ends { CarriesOut (disk_words D.Told D.faults D.size D.timeline)
+        (outside None (K.takes output.old).taken 0 (K.takes output.old).faults disks.old.source disks.old.dest)
+        (outside (Some []) (K.takes output.new).taken 0 (K.takes output.new).faults disks.new.source disks.new.dest)
+        (Some (parsed (schedule_of text.now))) result }
+    ensures later { (K.takes output.old).faults ≤ (K.takes output.new).faults }
+{
     match Schedule::parse(alloc, text) {
-        Ok(Ok(schedule)) => run_schedule(alloc, &schedule, output, disks, mech),
-        Ok(Err(bad)) => put_bad(alloc, bad, output, RunEnd::Refused),
+        Ok(Ok(schedule)) => run_schedule(alloc, &schedule, output, disks),
+        Ok(Err(bad)) => match bad_line(alloc, bad) {
+            Ok(line) => put_last(output, line.as_bytes(), RunEnd::Refused),
+            Err(NoMemory) => RunEnd::NoMemory,
+        },
         Err(NoMemory) => RunEnd::NoMemory,
     }
 }
 
 /// Carries out a schedule, and puts its transcript. The disks are handed back, but for want of memory.
-fn run_schedule<K: Sink, D: Disk + Drop, M: Mechanism>(
+fn run_schedule<K: Sink, D: Disk + Drop>(
     alloc: Global,
     schedule: &Schedule,
     output: &mut K,
     disks: &mut Disks<D>,
-    mech: &M,
-) -> RunEnd {
-    let handed = Disks {
+) -> RunEnd
+    requires source { is_some disks.old.source ≡ true }
+    requires dest { is_some disks.old.dest ≡ true }
+    ensures ends { CarriesOut (disk_words D.Told D.faults D.size D.timeline)
+        (outside None (K.takes output.old).taken 0 (K.takes output.old).faults disks.old.source disks.old.dest)
+        (outside (Some []) (K.takes output.new).taken 0 (K.takes output.new).faults disks.new.source disks.new.dest)
+        (Some (Ok schedule.now)) result }
+    ensures later { (K.takes output.old).faults ≤ (K.takes output.new).faults }
+{
+    let mut system = System::new(Disks {
         source: disks.source.take(),
         dest: disks.dest.take(),
-    };
-    let Ok(mut system) = System::new(alloc, handed, mech) else {
-        return RunEnd::NoMemory;
-    };
+    });
     let ran = system.run(alloc, schedule, output);
     *disks = system.hand_back();
     match ran {
-        Ok(ran) => put_end(alloc, ran, output),
-        Err(NoMemory) => RunEnd::NoMemory,
-    }
-}
-
-/// Puts the last line of a run that didn't put it yet.
-fn put_end<K: Sink>(alloc: Global, ran: Ran, output: &mut K) -> RunEnd {
-    match ran {
-        Ran::Whole => RunEnd::Done,
-        Ran::OverLimit { line } => put_bad(alloc, BadLine { line }, output, RunEnd::OverLimit),
-        Ran::WriteFault => RunEnd::WriteFault,
-        Ran::Unmade(cause) => put_unmade(alloc, cause, output),
-        Ran::Mistaken(mistake) => match mistaken_line(alloc, mistake) {
-            Ok(line) => put_last(output, line.as_bytes(), RunEnd::Mistaken),
-            Err(NoMemory) => RunEnd::NoMemory,
-        },
-    }
-}
-
-/// Puts the line of a schedule's that is bad.
-fn put_bad<K: Sink>(alloc: Global, bad: BadLine, output: &mut K, end: RunEnd) -> RunEnd {
-    match bad_line(alloc, bad) {
-        Ok(line) => put_last(output, line.as_bytes(), end),
+        Ok(Ran::Whole) => RunEnd::Done,
+        Ok(Ran::WriteFault) => RunEnd::WriteFault,
+        Ok(Ran::Unmade(cause)) => put_unmade(alloc, cause, output),
         Err(NoMemory) => RunEnd::NoMemory,
     }
 }
 
 /// Puts why a server's volume could not be made, where that isn't a fault of its disk.
-fn put_unmade<K: Sink>(alloc: Global, cause: Unmade, output: &mut K) -> RunEnd {
+fn put_unmade<K: Sink>(alloc: Global, cause: Unmade, output: &mut K) -> RunEnd
+    ensures puts { UnmadePut (K.takes output.old).taken (K.takes output.new).taken (K.takes output.old).faults (K.takes output.new).faults cause result }
+    ensures later { (K.takes output.old).faults ≤ (K.takes output.new).faults }
+{
     match cause {
         Unmade::DiskFailed => RunEnd::DiskFault,
         Unmade::TooSmall { need, have } => match small_line(alloc, need, have) {
@@ -128,7 +127,10 @@ fn put_unmade<K: Sink>(alloc: Global, cause: Unmade, output: &mut K) -> RunEnd {
 }
 
 /// Puts the last line of a run that ends so.
-fn put_last<K: Sink>(output: &mut K, line: &[u8], end: RunEnd) -> RunEnd {
+fn put_last<K: Sink>(output: &mut K, line: &[u8], end: RunEnd) -> RunEnd
+    ensures puts { LastPut (K.takes output.old).taken (K.takes output.new).taken (K.takes output.old).faults (K.takes output.new).faults line.now end result }
+    ensures later { (K.takes output.old).faults ≤ (K.takes output.new).faults }
+{
     match put_all(output, line) {
         Ok(()) => end,
         Err(_) => RunEnd::WriteFault,

@@ -21,9 +21,9 @@ mod words;
 use crate::answer::{Answer, DiskPlan, Faults, GOOD_DISK, NO_FAULTS, ask_disks};
 use crate::escapes::spelled;
 use outcome::Mem;
+use sched_text::Schedule;
 use std::alloc::Global;
 use std::io;
-use wire_schedule::{Directive, Schedule};
 
 /// What holds of the rows that follow.
 #[derive(Drop)]
@@ -104,7 +104,7 @@ impl Setting {
         };
         if let Some(events) = wanted.strip_prefix("events ") {
             let read = Schedule::parse(alloc, &input)?;
-            return Ok(read.is_ok_and(|found| events.parse() == Ok(count(&found))));
+            return Ok(read.is_ok_and(|found| events.parse() == Ok(found.events().len())));
         }
         if let Some(line) = wanted.strip_prefix("bad ") {
             let read = Schedule::parse(alloc, &input)?;
@@ -117,20 +117,6 @@ impl Setting {
         };
         Ok(wanted.parse() == Ok(answer.status) && answer.put.as_bytes() == put.as_slice())
     }
-}
-
-/// How many events a schedule has, once its lines are written out.
-fn count(schedule: &Schedule) -> u64 {
-    let mut events = 0_u64;
-    for entry in schedule.entries() {
-        let more = match entry.directive {
-            Directive::Once(_) => 1,
-            Directive::Flows { times } => u64::from(times),
-            Directive::Rounds { times } => 2 * u64::from(times),
-        };
-        events = events.saturating_add(more);
-    }
-    events
 }
 
 fn put(place: &mut Vec<u8>, text: Option<Vec<u8>>) -> bool {

@@ -1,7 +1,0 @@
-pub mod Check
-pub mod Ends
-pub mod History
-pub mod Lines
-pub mod Runs
-pub mod Steps
-pub mod World
