@@ -1,0 +1,5 @@
+mod FileParts
+mod WalkParts
+mod OutsideParts
+mod CompoundParts
+mod StepParts

@@ -1,0 +1,11 @@
+//! How what a particular server adds goes on, in every step of the server.
+//!
+//! There is no code here. `specs/Following.antt` says what it is to go along a relation; a server's extension that does in each of
+//! its own rules is [`Following`], and then it does in every step ([`own_parts_go_on`]), whatever the record is.
+#![tactic(auto)]
+
+mod following;
+mod laws;
+
+pub use following::Following;
+pub use laws::own_parts_go_on;
