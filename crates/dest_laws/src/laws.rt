@@ -48,7 +48,8 @@ ghost use Rattle.server_volume.specs.Calls.{commit_call, write_call};
 ghost use Rattle.server_volume.specs.Choices.{Choice};
 ghost use Rattle.sess_slots.specs.Table.{SessionTable};
 
-/// Whatever a step of a destination does to its jobs is a list of deeds.
+/// Whatever a part of a destination's step does to its jobs is a list of deeds: a worker's turn, a record of the source, a failed
+/// link, a client's reply, an operation of a client, the end of clients and of leases.
 pub fn steps_are_deeds()
     // A worker's turn: what is due, by which a chunk is claimed, and what is done.
     ensures due { (mic : Mic) (at : SendAt) (me : List ℕ) (sessions : SessionTable) (w : Work) (b : BookView) → ByDeeds b (turn mic at me sessions w b).book }

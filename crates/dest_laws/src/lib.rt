@@ -1,8 +1,8 @@
 //! What the steps of a destination do to its jobs (RFC 7862 sections 4.2 and 15.2).
 //!
-//! There is no code here. [`steps_are_deeds`] says that each step changes the jobs by what is done to a book, one thing after
-//! another, as `dest_tasks` has it: so its law on how a sized job completes is one on every such step, and so is
-//! [`chunks_left_never_rise`]. [`chunks_land`] says that a chunk which the source brought lands, also later, and that a whole
+//! There is no code here. [`steps_are_deeds`] says that each part of a step changes the jobs by what is done to a book, one thing
+//! after another, as `dest_tasks` has it: so its law on how a sized job completes is one on every such part, and so is
+//! [`chunks_left_never_rise`]. That a whole record of a client is such a list, operation by operation, isn't said here. [`chunks_land`] says that a chunk which the source brought lands, also later, and that a whole
 //! job is committed; [`found_tasks_go_out`] that a worker isn't idle where there is a task.
 #![tactic(auto)]
 
