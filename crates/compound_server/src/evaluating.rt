@@ -51,7 +51,7 @@ impl<D: Disk, X> Server<D, X> {
         ensures walks { D.Told → Walks (λ choice. walk (record { gate = X.gated; serve = X.serves }) choice caller.now carry.now tail (map op_of ops) (course_of D.size self.old p.old)) p.old.page.bytes count (course_of D.size self.new p.new) p.new.page.bytes result.status.number result.count }
         ensures room { p.new.page.room ≡ p.old.page.room }
         ensures fits { length p.new.page.bytes ≤ p.old.page.room }
-        ensures ran { D.Told → Ran (seat_of D.size D.fuse D.timeline self.old.files.volume) (seat_of D.size D.fuse D.timeline self.new.files.volume) p.old.used p.new.used }
+        ensures ran { D.Told → Ran (seat_of D.size D.fuse D.timeline D.faults self.old.files.volume) (seat_of D.size D.fuse D.timeline D.faults self.new.files.volume) p.old.used p.new.used }
         ensures counted { AreCounted X.given (length ops) self.old self.new }
     {
         let mut rest = ops.into_deque();

@@ -1,6 +1,6 @@
 //! The steps of a destination besides those of every server.
 
-ghost use Rattle.std.specs.Prelude.{◌≡◌, ◌≤◌, ◌<◌, [], false, true, length, vec_capacity, IfOk, OnErr};
+ghost use Rattle.std.specs.Prelude.{◌≡◌, ◌≤◌, ◌<◌, ◌+◌, [], false, true, length, vec_capacity, IfOk, OnErr};
 ghost use Rattle.dest_core.specs.Core.{leases_ended};
 ghost use Rattle.dest_core.specs.Serving.{given};
 ghost use Rattle.dest_core.specs.Stepping.{answer_step, failure_step, finished, around_in, is_undrawn, put_copier, second_in, tick_step, turn_step, reply_step, without_lapsed, IsRecord, IsReply, IsWork};
@@ -84,11 +84,12 @@ pub(crate) fn work<D: Disk, M: Mechanism, W: Draws>(
     requires counted { IsCounted given host.old }
     requires place { place < WORKERS }
     ensures is { D.Told → IfOk result (λ out. IsWork W.gives (M.started host.old.server.files.extra.mech) (record { mic = M.mic_of; derived = M.derived }) place now (host_of D.size host.old) draws.old draws.new (stepped_of D.size host.new out)) }
-    ensures ran { D.Told → IfOk result (λ out. Ran (seat_of D.size D.fuse D.timeline host.old.server.files.volume) (seat_of D.size D.fuse D.timeline host.new.server.files.volume) [] out.used) }
+    ensures ran { D.Told → IfOk result (λ out. Ran (seat_of D.size D.fuse D.timeline D.faults host.old.server.files.volume) (seat_of D.size D.fuse D.timeline D.faults host.new.server.files.volume) [] out.used) }
     ensures once { IfOk result (λ out. length out.used ≤ 1) }
     ensures undrawn { IfOk result (λ out. out.undrawn ≡ true → Rose (W.faults draws.old) (W.faults draws.new)) }
     ensures short { IfOk result (λ out. AreShort out.sent) }
     ensures err { OnErr result (host.new ≡ host.old) }
+    ensures steps { IfOk result (λ _. host.new.steps ≡ host.old.steps + 1) }
     ensures counted { IsCounted given host.new }
     ensures later { W.faults draws.old ≤ W.faults draws.new }
     ensures failing { W.failing draws.new ≡ W.failing draws.old }
@@ -136,8 +137,9 @@ fn make_turn<D: Disk, M: Mechanism>(
     requires short { TurnIsShort turn }
     ensures short { AreShort result.sent }
     ensures is { D.Told → (choice : Choice) → Agrees choice result.used → stepped_of D.size host.new result ≡ turn_step choice place now turn (host_of D.size host.old) }
-    ensures ran { D.Told → Ran (seat_of D.size D.fuse D.timeline host.old.server.files.volume) (seat_of D.size D.fuse D.timeline host.new.server.files.volume) [] result.used }
+    ensures ran { D.Told → Ran (seat_of D.size D.fuse D.timeline D.faults host.old.server.files.volume) (seat_of D.size D.fuse D.timeline D.faults host.new.server.files.volume) [] result.used }
     ensures once { length result.used ≤ 1 }
+    ensures steps { host.new.steps ≡ host.old.steps + 1 }
     ensures counted { IsCounted given host.new }
     ensures undrawn { result.undrawn ≡ is_undrawn turn }
 {
@@ -172,7 +174,7 @@ fn make_turn_on<D: Disk, M>(
     requires room { room.items ≡ [] }
     requires one { 1 ≤ vec_capacity room }
     ensures does { D.Told → Does (λ choice. turn_made choice place turn (doing_of files.old.extra.copier (store_of D.size files.old.volume) used.old)) files.new.extra.copier (store_of D.size files.new.volume) used.new result }
-    ensures ran { D.Told → Ran (seat_of D.size D.fuse D.timeline files.old.volume) (seat_of D.size D.fuse D.timeline files.new.volume) used.old used.new }
+    ensures ran { D.Told → Ran (seat_of D.size D.fuse D.timeline D.faults files.old.volume) (seat_of D.size D.fuse D.timeline D.faults files.new.volume) used.old used.new }
     ensures short { AreShort result }
     ensures once { length used.new ≤ 1 }
     ensures opening { SameOpening files.old.volume.volume files.new.volume.volume }
@@ -201,6 +203,7 @@ fn finish<D: Disk, M: Mechanism>(
     ensures used { result.used ≡ used }
     ensures sent { result.sent ≡ sent }
     ensures undrawn { result.undrawn ≡ undrawn }
+    ensures steps { host.new.steps ≡ host.old.steps }
     ensures counted { IsCounted given host.new }
 {
     let mut notes = notes;
@@ -226,10 +229,11 @@ pub(crate) fn take_reply<D: Disk, M: Mechanism>(
     requires counted { IsCounted given host.old }
     requires place { place < WORKERS }
     ensures is { D.Told → IfOk result (λ out. IsReply (record { mic = M.mic_of; derived = M.derived }) (M.finished host.old.server.files.extra.mech host.old.server.files.extra.copier.principal) place record_.now now (host_of D.size host.old) (stepped_of D.size host.new out)) }
-    ensures ran { D.Told → IfOk result (λ out. Ran (seat_of D.size D.fuse D.timeline host.old.server.files.volume) (seat_of D.size D.fuse D.timeline host.new.server.files.volume) [] out.used) }
+    ensures ran { D.Told → IfOk result (λ out. Ran (seat_of D.size D.fuse D.timeline D.faults host.old.server.files.volume) (seat_of D.size D.fuse D.timeline D.faults host.new.server.files.volume) [] out.used) }
     ensures once { IfOk result (λ out. length out.used ≤ 1) }
     ensures short { IfOk result (λ out. AreShort out.sent) }
     ensures err { OnErr result (host.new ≡ host.old) }
+    ensures steps { IfOk result (λ _. host.new.steps ≡ host.old.steps + 1) }
     ensures counted { IsCounted given host.new }
 {
     let room = Room::new(alloc)?;
@@ -271,8 +275,9 @@ fn make_effect<D: Disk, M: Mechanism>(
     requires short { EffectIsShort heard.effect }
     ensures short { AreShort result.sent }
     ensures is { D.Told → (choice : Choice) → Agrees choice result.used → stepped_of D.size host.new result ≡ reply_step choice place now heard (host_of D.size host.old) }
-    ensures ran { D.Told → Ran (seat_of D.size D.fuse D.timeline host.old.server.files.volume) (seat_of D.size D.fuse D.timeline host.new.server.files.volume) [] result.used }
+    ensures ran { D.Told → Ran (seat_of D.size D.fuse D.timeline D.faults host.old.server.files.volume) (seat_of D.size D.fuse D.timeline D.faults host.new.server.files.volume) [] result.used }
     ensures once { length result.used ≤ 1 }
+    ensures steps { host.new.steps ≡ host.old.steps + 1 }
     ensures counted { IsCounted given host.new }
 {
     let Heard { effect, accepted } = heard;
@@ -298,7 +303,7 @@ fn make_effect_on<D: Disk, M>(
     requires calls { used.old ≡ [] }
     requires room { room.items ≡ [] }
     ensures does { D.Told → Does (λ choice. effect_done choice place effect (doing_of files.old.extra.copier (store_of D.size files.old.volume) used.old)) files.new.extra.copier (store_of D.size files.new.volume) used.new result }
-    ensures ran { D.Told → Ran (seat_of D.size D.fuse D.timeline files.old.volume) (seat_of D.size D.fuse D.timeline files.new.volume) used.old used.new }
+    ensures ran { D.Told → Ran (seat_of D.size D.fuse D.timeline D.faults files.old.volume) (seat_of D.size D.fuse D.timeline D.faults files.new.volume) used.old used.new }
     ensures short { AreShort result }
     ensures once { length used.new ≤ 1 }
     ensures opening { SameOpening files.old.volume.volume files.new.volume.volume }
@@ -324,6 +329,7 @@ pub(crate) fn fail_link<D: Disk, M: Mechanism>(
     ensures volume { host.new.server.files.volume ≡ host.old.server.files.volume }
     ensures short { IfOk result (λ out. AreShort out.sent) }
     ensures err { OnErr result (host.new ≡ host.old) }
+    ensures steps { IfOk result (λ _. host.new.steps ≡ host.old.steps + 1) }
     ensures counted { IsCounted given host.new }
 {
     let room = Room::new(alloc)?;
@@ -374,6 +380,7 @@ pub(crate) fn tick<D: Disk, M: Mechanism>(
     ensures volume { host.new.server.files.volume ≡ host.old.server.files.volume }
     ensures short { IfOk result (λ out. AreShort out.sent) }
     ensures err { OnErr result (host.new ≡ host.old) }
+    ensures steps { IfOk result (λ _. host.new.steps ≡ host.old.steps + 1) }
     ensures counted { IsCounted given host.new }
 {
     let room = Room::new(alloc)?;
@@ -412,10 +419,11 @@ pub(crate) fn take_record<D: Disk, M: Mechanism, W: Draws>(
     requires few { host.old.steps < MOST_STEPS }
     requires counted { IsCounted given host.old }
     ensures turn { D.Told → IfOk result (λ out. IsRecord (record { mic = M.mic_of; derived = M.derived }) (M.accepted host.old.server.files.extra.mech) W.gives conn record_.now now (host_of D.size host.old) draws.old draws.new (stepped_of D.size host.new out)) }
-    ensures ran { D.Told → IfOk result (λ out. Ran (seat_of D.size D.fuse D.timeline host.old.server.files.volume) (seat_of D.size D.fuse D.timeline host.new.server.files.volume) [] out.used) }
+    ensures ran { D.Told → IfOk result (λ out. Ran (seat_of D.size D.fuse D.timeline D.faults host.old.server.files.volume) (seat_of D.size D.fuse D.timeline D.faults host.new.server.files.volume) [] out.used) }
     ensures short { IfOk result (λ out. AreShort out.sent) }
     ensures undrawn { IfOk result (λ out. out.undrawn ≡ true → Rose (W.faults draws.old) (W.faults draws.new)) }
     ensures err { OnErr result (host.new ≡ host.old) }
+    ensures steps { IfOk result (λ _. host.new.steps ≡ host.old.steps + 1) }
     ensures counted { IsCounted given host.new }
     ensures later { W.faults draws.old ≤ W.faults draws.new }
     ensures failing { W.failing draws.new ≡ W.failing draws.old }
@@ -443,6 +451,7 @@ fn take_answer<D: Disk, M: Mechanism>(
     ensures unused { IfOk result (λ out. out.used ≡ []) }
     ensures drawn { IfOk result (λ out. out.undrawn ≡ false) }
     ensures err { OnErr result (host.new ≡ host.old) }
+    ensures steps { IfOk result (λ _. host.new.steps ≡ host.old.steps + 1) }
     ensures counted { IsCounted given host.new }
 {
     let room = Room::new(alloc)?;
@@ -471,6 +480,7 @@ fn second_comes<D: Disk, M: Mechanism>(host: &mut Host<D, Destination<M>, Carrie
     requires counted { IsCounted given host.old }
     ensures is { host_of D.size host.new ≡ without_lapsed (second_in now (host_of D.size host.old)) }
     ensures volume { host.new.server.files.volume ≡ host.old.server.files.volume }
+    ensures steps { host.new.steps ≡ host.old.steps + 1 }
     ensures counted { IsCounted given host.new }
 {
     host.tick(now);

@@ -105,7 +105,7 @@ pub(crate) fn land<D: Disk>(
     requires calls { length used.old < MOST_CALLS }
     requires room { room.items ≡ [] }
     ensures does { D.Told → Does (λ choice. landed choice place job chunk bytes told (doing_of copier.old (store_of D.size volume.old) used.old)) copier.new (store_of D.size volume.new) used.new result }
-    ensures ran { D.Told → Ran (seat_of D.size D.fuse D.timeline volume.old) (seat_of D.size D.fuse D.timeline volume.new) used.old used.new }
+    ensures ran { D.Told → Ran (seat_of D.size D.fuse D.timeline D.faults volume.old) (seat_of D.size D.fuse D.timeline D.faults volume.new) used.old used.new }
     ensures grows { Grows used.old used.new }
     ensures short { AreShort result }
     ensures once { length used.new ≤ length used.old + 1 }
@@ -145,7 +145,7 @@ fn write<D: Disk>(
     requires calls { length used.old < MOST_CALLS }
     requires room { room.items ≡ [] }
     ensures does { D.Told → Does (λ choice. written_to choice job chunk bytes.now told (doing_of copier.old (store_of D.size volume.old) used.old)) copier.new (store_of D.size volume.new) used.new result }
-    ensures ran { D.Told → Ran (seat_of D.size D.fuse D.timeline volume.old) (seat_of D.size D.fuse D.timeline volume.new) used.old used.new }
+    ensures ran { D.Told → Ran (seat_of D.size D.fuse D.timeline D.faults volume.old) (seat_of D.size D.fuse D.timeline D.faults volume.new) used.old used.new }
     ensures grows { Grows used.old used.new }
     ensures short { AreShort result }
     ensures once { length used.new ≤ length used.old + 1 }
@@ -183,7 +183,7 @@ fn write_at<D: Disk>(
     requires calls { length used.old < MOST_CALLS }
     requires room { room.items ≡ [] }
     ensures does { D.Told → Does (λ choice. written_at choice job chunk file off bytes.now told (doing_of copier.old (store_of D.size volume.old) used.old)) copier.new (store_of D.size volume.new) used.new result }
-    ensures ran { D.Told → Ran (seat_of D.size D.fuse D.timeline volume.old) (seat_of D.size D.fuse D.timeline volume.new) used.old used.new }
+    ensures ran { D.Told → Ran (seat_of D.size D.fuse D.timeline D.faults volume.old) (seat_of D.size D.fuse D.timeline D.faults volume.new) used.old used.new }
     ensures grows { Grows used.old used.new }
     ensures short { AreShort result }
     ensures once { length used.new ≤ length used.old + 1 }

@@ -299,7 +299,7 @@ pub fn take_effect<D: Disk>(
     requires calls { length used.old < MOST_CALLS }
     requires room { room.items ≡ [] }
     ensures does { D.Told → Does (λ choice. effect_done choice place effect (doing_of copier.old (store_of D.size volume.old) used.old)) copier.new (store_of D.size volume.new) used.new result }
-    ensures ran { D.Told → Ran (seat_of D.size D.fuse D.timeline volume.old) (seat_of D.size D.fuse D.timeline volume.new) used.old used.new }
+    ensures ran { D.Told → Ran (seat_of D.size D.fuse D.timeline D.faults volume.old) (seat_of D.size D.fuse D.timeline D.faults volume.new) used.old used.new }
     ensures grows { Grows used.old used.new }
     ensures short { AreShort result }
     ensures once { length used.new ≤ length used.old + 1 }

@@ -46,7 +46,7 @@ pub fn take_turn<D: Disk>(
     requires room { room.items ≡ [] }
     requires one { 1 ≤ vec_capacity room }
     ensures does { D.Told → Does (λ choice. turn_made choice place turn (doing_of copier.old (store_of D.size volume.old) used.old)) copier.new (store_of D.size volume.new) used.new result }
-    ensures ran { D.Told → Ran (seat_of D.size D.fuse D.timeline volume.old) (seat_of D.size D.fuse D.timeline volume.new) used.old used.new }
+    ensures ran { D.Told → Ran (seat_of D.size D.fuse D.timeline D.faults volume.old) (seat_of D.size D.fuse D.timeline D.faults volume.new) used.old used.new }
     ensures grows { Grows used.old used.new }
     ensures short { AreShort result }
     ensures once { length used.new ≤ length used.old + 1 }
@@ -118,7 +118,7 @@ fn land_held<D: Disk>(
     requires calls { length used.old < MOST_CALLS }
     requires room { room.items ≡ [] }
     ensures does { D.Told → Does (λ choice. held_landed choice place told (post_at copier.old.work.workers place) (doing_of copier.old (store_of D.size volume.old) used.old)) copier.new (store_of D.size volume.new) used.new result }
-    ensures ran { D.Told → Ran (seat_of D.size D.fuse D.timeline volume.old) (seat_of D.size D.fuse D.timeline volume.new) used.old used.new }
+    ensures ran { D.Told → Ran (seat_of D.size D.fuse D.timeline D.faults volume.old) (seat_of D.size D.fuse D.timeline D.faults volume.new) used.old used.new }
     ensures grows { Grows used.old used.new }
     ensures short { AreShort result }
     ensures once { length used.new ≤ length used.old + 1 }
@@ -153,7 +153,7 @@ fn commit<D: Disk>(
     requires calls { length used.old < MOST_CALLS }
     requires room { room.items ≡ [] }
     ensures does { D.Told → Does (λ choice. commit_if (may_commit job copier.old) choice job told (doing_of copier.old (store_of D.size volume.old) used.old)) copier.new (store_of D.size volume.new) used.new result }
-    ensures ran { D.Told → Ran (seat_of D.size D.fuse D.timeline volume.old) (seat_of D.size D.fuse D.timeline volume.new) used.old used.new }
+    ensures ran { D.Told → Ran (seat_of D.size D.fuse D.timeline D.faults volume.old) (seat_of D.size D.fuse D.timeline D.faults volume.new) used.old used.new }
     ensures grows { Grows used.old used.new }
     ensures short { AreShort result }
     ensures once { length used.new ≤ length used.old + 1 }
@@ -187,7 +187,7 @@ fn commit_file<D: Disk>(
     requires there { file < length volume.old.volume.files }
     requires calls { length used.old < MOST_CALLS }
     ensures does { D.Told → Does (λ choice. commit_by job told (commit_call choice used.old (store_of D.size volume.old) file) (doing_of copier.old (store_of D.size volume.old) used.old)) copier.new (store_of D.size volume.new) used.new result }
-    ensures ran { D.Told → Ran (seat_of D.size D.fuse D.timeline volume.old) (seat_of D.size D.fuse D.timeline volume.new) used.old used.new }
+    ensures ran { D.Told → Ran (seat_of D.size D.fuse D.timeline D.faults volume.old) (seat_of D.size D.fuse D.timeline D.faults volume.new) used.old used.new }
     ensures grows { Grows used.old used.new }
     ensures short { AreShort result }
     ensures once { length used.new ≤ length used.old + 1 }

@@ -1,8 +1,11 @@
 -- A volume's answers to its calls are those of the model's calls.
-use Rattle.std.proofs.Common.{◌≡◌, ℕ, ◌+◌, ◌<◌, Bool, true, false, Option, Some, None, Result, Ok, Err, List, [], ◌∷◌, length, refl, sym, ap, subst, ◌∙◌, arith, get_or}
+use Rattle.std.proofs.Common.{◌≡◌, ℕ, ◌+◌, ◌<◌, ◌≤◌, Bool, true, false, Option, Some, None, Result, Ok, Err, List, [], ◌∷◌, length, refl, sym, ap, subst, ◌∙◌, arith, get_or}
 use Rattle.std.specs.Prelude.{◌↔◌, IsOk, IsErr, nat_lt, ◌==◌, if◌then◌else◌}
 use Rattle.std.proofs.lemmas.List.{get_or_append_left, length-append}
 use Rattle.std.proofs.Math.Seq.{get_or-append_seam}
+use Rattle.outcome.specs.Causes.{Rose, RoseBy}
+use Rattle.disk_model.specs.declared.fuse.Fuse.{Fuse}
+use Rattle.disk_model.specs.Elapsed.{Timeline}
 use Rattle.disk_model.specs.Passes.{Passes, passes_none}
 use Rattle.block_file.specs.Opened.{refusal_of}
 use Rattle.block_file.specs.declared.faults.ReadFault.{ReadFault}
@@ -16,7 +19,7 @@ use Rattle.server_volume.specs.declared.used.VolumeCall.{VolumeCall}
 use Rattle.server_volume.specs.Choices.{Choice, Agrees, Grows, noted, no_call, fate_of}
 use Rattle.server_volume.specs.Store.{Store, Seat}
 use Rattle.server_volume.specs.Calls.{Asked, Reads, Writes, Commits, Called, called, call_of, done_by, failed_by, left_by, broken_fault, fault_in, read_answer, write_answer, write_fault}
-use Rattle.server_volume.specs.Moments.{Ran, Serves, IsTaken, within, NowLeft, LeftBy, IsCovered}
+use Rattle.server_volume.specs.Moments.{Ran, failed_in, Serves, IsTaken, within, NowLeft, LeftBy, IsCovered}
 
 -- ---- what is noted
 
@@ -47,10 +50,18 @@ given s used fault = record { store = s; used = used; fault = fault }
 
 -- ---- reads and commits
 
+-- a call that was refused leaves all of it, but that the disk's faults may have been counted on
+pub record Stays (old new : Seat) : Type 0 where
+  pub store : new.store ≡ old.store
+  pub fuse : new.fuse ≡ old.fuse
+  pub timeline : new.timeline ≡ old.timeline
+
 -- what a volume says of a read or a commit
 pub record ReadFacts {A : Type 0} (result : Result A ReadFault) (asked : Asked) (old new : Seat) : Type 0 where
   pub broken : (result ≡ Err reading.Broken) ↔ (old.store.volume.broken ≡ true)
-  pub kept : result ≡ Err reading.Broken → new ≡ old
+  pub kept : result ≡ Err reading.Broken → Stays old new
+  pub later : old.faults ≤ new.faults
+  pub cause : result ≡ Err reading.DiskFailed → Rose old.faults new.faults
   pub done : IsOk result → new.store ≡ done_by asked old.store
   pub failed : result ≡ Err reading.DiskFailed → new.store ≡ failed_by asked old.store
   pub serves : old.store.volume.broken ≡ false → Serves old.store asked
@@ -81,7 +92,7 @@ reads_make result asked old new used more facts is choice agrees =
     ap (λ fate. called (broken_fault old.store.volume.broken) reading.DiskFailed fate asked used old.store)
     (agrees_last used more (call_of asked old.store) (read_answer result) is choice agrees)
     ∙ read_cases old.store.volume.broken result asked used old.store new.store facts.broken
-    (λ e. ap (λ (x : Seat). x.store) (facts.kept e)) facts.done facts.failed
+    (λ e. (facts.kept e).store) facts.done facts.failed
     ∙ ap (λ (us : List Used). given new.store us (fault_in result)) (sym is)
 
 -- ---- writes
@@ -90,7 +101,9 @@ reads_make result asked old new used more facts is choice agrees =
 pub record WriteFacts {A : Type 0} (result : Result A WriteFault) (file off : ℕ) (bytes : List ℕ) (old new : Seat) : Type 0 where
   pub tested : (fault : WriteFault) → write_fault old.store.volume off bytes ≡ Some fault → result ≡ Err fault
   pub passed : write_fault old.store.volume off bytes ≡ None → IsErr result → result ≡ Err writing.DiskFailed
-  pub kept : IsErr result → (result ≡ Err writing.DiskFailed → ⊥) → new ≡ old
+  pub kept : IsErr result → (result ≡ Err writing.DiskFailed → ⊥) → Stays old new
+  pub later : old.faults ≤ new.faults
+  pub cause : result ≡ Err writing.DiskFailed → Rose old.faults new.faults
   pub done : IsOk result → new.store ≡ done_by (Writes file off bytes) old.store
   pub failed : result ≡ Err writing.DiskFailed → new.store ≡ failed_by (Writes file off bytes) old.store
   pub there : file < length old.store.volume.files
@@ -150,29 +163,40 @@ writes_make result file off bytes old new used more facts is choice agrees =
     (agrees_last used more (call_of (Writes file off bytes) old.store) (write_answer result) is choice agrees)
     ∙ write_cases (write_fault v off bytes) result (Writes file off bytes) used old.store new.store
     (refusal_tests v.broken v.writes v.capacity off (length bytes)) facts.tested facts.passed
-    (λ err other. ap (λ (x : Seat). x.store) (facts.kept err other)) facts.done facts.failed
+    (λ err other. (facts.kept err other).store) facts.done facts.failed
     ∙ ap (λ (us : List Used). given new.store us (fault_in result)) (sym is)
 
 -- ---- what a crash inside a call may leave
 
-still_passes : (old new : Seat) (stores : List Store) → new ≡ old → NowLeft old.timeline stores
+still_passes : (old new : Seat) (stores : List Store) → Stays old new → NowLeft old.timeline stores
     → Passes old.fuse new.fuse old.timeline new.timeline (LeftBy stores)
 still_passes old new stores same now =
-    subst (λ (x : Seat). Passes old.fuse x.fuse old.timeline x.timeline (LeftBy stores)) (sym same) (passes_none (LeftBy stores) old.fuse old.timeline now)
+    subst (λ (f : Fuse). Passes old.fuse f old.timeline new.timeline (LeftBy stores)) (sym same.fuse)
+    (subst (λ (t : Timeline). Passes old.fuse old.fuse old.timeline t (LeftBy stores)) (sym same.timeline)
+    (passes_none (LeftBy stores) old.fuse old.timeline now))
 
 -- one call
 ran_one : (asked : Asked) (answer : CallAnswer) (old new : Seat) (used more : List Used)
     → more ≡ noted used (call_of asked old.store) answer → IsTaken answer old.store asked → new.store ≡ left_by asked answer old.store
     → ((stores : List Store) → NowLeft old.timeline stores → IsCovered (within asked answer old.store ∷ []) stores
     → Passes old.fuse new.fuse old.timeline new.timeline (LeftBy stores))
+    → RoseBy (failed_in answer + 0) old.faults new.faults
     → Ran old new used more
-ran_one asked answer old new used more is taken store moments = record {
+ran_one asked answer old new used more is taken store moments rose = record {
   calls = record { asked = asked; answer = answer } ∷ [];
   noted = is;
   taken = (taken, tt);
   store = store;
   moments = moments;
+  rose = rose;
 }
+
+-- a count that didn't fall, and one that rose
+not_fell : (before now : ℕ) → before ≤ now → RoseBy (0 + 0) before now
+not_fell before now later = omega (arith, later)
+
+rose_once : (before now : ℕ) → Rose before now → RoseBy (1 + 0) before now
+rose_once before now rose = omega (arith, rose)
 
 within_same : (asked : Asked) (s : Store) → within asked DiskFailed s ≡ within asked Done s
 within_same (Reads file off len) s = refl
@@ -187,14 +211,15 @@ pub reads_ran : {A : Type 0} (result : Result A ReadFault) (asked : Asked) (old 
     → ReadFacts result asked old new → more ≡ noted used (call_of asked old.store) (read_answer result) → Ran old new used more
 reads_ran (Ok a) asked old new used more facts is =
     let whole = whole_unless old.store.volume.broken facts.broken (λ e. cc) in
-    ran_one asked Done old new used more is (facts.serves whole) (facts.done refl) (facts.moments whole)
+    ran_one asked Done old new used more is (facts.serves whole) (facts.done refl) (facts.moments whole) (not_fell old.faults new.faults facts.later)
 reads_ran (Err reading.DiskFailed) asked old new used more facts is =
     let whole = whole_unless old.store.volume.broken facts.broken (λ e. cc) in
     ran_one asked DiskFailed old new used more is (facts.serves whole) (facts.failed refl)
     (λ stores now covered. facts.moments whole stores now (subst (λ (s : Store). IsCovered (s ∷ []) stores) (within_same asked old.store) covered))
+    (rose_once old.faults new.faults (facts.cause refl))
 reads_ran (Err reading.Broken) asked old new used more facts is =
-    ran_one asked Refused old new used more is tt (ap (λ (x : Seat). x.store) (facts.kept refl))
-    (λ stores now covered. still_passes old new stores (facts.kept refl) now)
+    ran_one asked Refused old new used more is tt (facts.kept refl).store
+    (λ stores now covered. still_passes old new stores (facts.kept refl) now) (not_fell old.faults new.faults facts.later)
 
 passed_by : {A : Type 0} (refusal : Option WriteFault) (result : Result A WriteFault)
     → ((fault : WriteFault) → refusal ≡ Some fault → (result ≡ Err fault → ⊥)) → ((fault : WriteFault) → refusal ≡ Some fault → result ≡ Err fault)
@@ -210,18 +235,23 @@ writes_ran (Ok a) file off bytes old new used more facts is =
     let passed = passed_by (write_fault v off bytes) (Ok a) (λ fault e h. cc) facts.tested in
     let whole = whole_by v.broken v.writes v.capacity off (length bytes) passed in
     ran_one (Writes file off bytes) Done old new used more is (record { there = facts.there; whole = whole }, passed) (facts.done refl) (facts.moments whole)
+    (not_fell old.faults new.faults facts.later)
 writes_ran (Err writing.DiskFailed) file off bytes old new used more facts is =
     let v = old.store.volume in
     let passed = passed_by (write_fault v off bytes) (Err writing.DiskFailed)
     (λ fault e h. refusal_tests v.broken v.writes v.capacity off (length bytes) (e ∙ sym (ap fault_in h))) facts.tested in
     let whole = whole_by v.broken v.writes v.capacity off (length bytes) passed in
     ran_one (Writes file off bytes) DiskFailed old new used more is (record { there = facts.there; whole = whole }, passed) (facts.failed refl) (facts.moments whole)
+    (rose_once old.faults new.faults (facts.cause refl))
 writes_ran (Err writing.TooFar) file off bytes old new used more facts is =
     let same = facts.kept refl (λ e. cc) in
-    ran_one (Writes file off bytes) Refused old new used more is tt (ap (λ (x : Seat). x.store) same) (λ stores now covered. still_passes old new stores same now)
+    ran_one (Writes file off bytes) Refused old new used more is tt same.store (λ stores now covered. still_passes old new stores same now)
+    (not_fell old.faults new.faults facts.later)
 writes_ran (Err writing.Worn) file off bytes old new used more facts is =
     let same = facts.kept refl (λ e. cc) in
-    ran_one (Writes file off bytes) Refused old new used more is tt (ap (λ (x : Seat). x.store) same) (λ stores now covered. still_passes old new stores same now)
+    ran_one (Writes file off bytes) Refused old new used more is tt same.store (λ stores now covered. still_passes old new stores same now)
+    (not_fell old.faults new.faults facts.later)
 writes_ran (Err writing.Broken) file off bytes old new used more facts is =
     let same = facts.kept refl (λ e. cc) in
-    ran_one (Writes file off bytes) Refused old new used more is tt (ap (λ (x : Seat). x.store) same) (λ stores now covered. still_passes old new stores same now)
+    ran_one (Writes file off bytes) Refused old new used more is tt same.store (λ stores now covered. still_passes old new stores same now)
+    (not_fell old.faults new.faults facts.later)

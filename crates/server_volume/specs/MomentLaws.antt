@@ -1,11 +1,11 @@
 -- Calls one after the other: what they leave, how they are noted, and what a crash inside them may leave.
-use Rattle.std.proofs.Common.{◌≡◌, List, [], ◌∷◌, ◌++◌, refl, sym, ap, subst, ◌∙◌, append_assoc, append-nil, inl, inr, arith}
+use Rattle.std.proofs.Common.{◌≡◌, List, [], ◌∷◌, ◌++◌, ◌+◌, refl, sym, ap, subst, ◌∙◌, append_assoc, append-nil, inl, inr, arith}
 use Rattle.disk_model.specs.Disk.{Image}
 use Rattle.disk_model.specs.Passes.{passes_none, passes_on}
 use Rattle.server_volume.specs.declared.used.Used.{Used}
 use Rattle.server_volume.specs.Calls.{left_by, call_of}
 use Rattle.server_volume.specs.Store.{Store, Seat}
-use Rattle.server_volume.specs.Moments.{Made, Ran, after_calls, stores_within, uses_of, AreTaken, NowLeft, LeftBy}
+use Rattle.server_volume.specs.Moments.{Made, Ran, after_calls, failed_in, failures, stores_within, uses_of, AreTaken, NowLeft, LeftBy}
 
 -- no call
 pub ran_none : (seat : Seat) (used : List Used) → Ran seat seat used used
@@ -15,6 +15,7 @@ ran_none seat used = record {
   taken = tt;
   store = refl;
   moments = λ stores now covered. passes_none (LeftBy stores) seat.fuse seat.timeline now;
+  rose = omega arith;
 }
 
 after_both : (s : Store) (first second : List Made) → after_calls s (first ++ second) ≡ after_calls (after_calls s first) second
@@ -29,6 +30,10 @@ uses_both s (m ∷ ms) second =
 taken_both : (s : Store) (first second : List Made) → AreTaken s first → AreTaken (after_calls s first) second → AreTaken s (first ++ second)
 taken_both s [] second before after = after
 taken_both s (m ∷ ms) second before after = (before.0, taken_both (left_by m.asked m.answer s) ms second before.1 after)
+
+failures_both : (first second : List Made) → failures (first ++ second) ≡ failures first + failures second
+failures_both [] second = omega arith
+failures_both (m ∷ ms) second = omega (arith, failures_both ms second)
 
 -- what a crash inside the calls of one part may leave, one inside all of them may
 covered_first : (s : Store) (first second : List Made) (image : Image) → LeftBy (stores_within s first) image → LeftBy (stores_within s (first ++ second)) image
@@ -63,4 +68,5 @@ ran_on old middle new used some more before after =
           (λ image left. covered image (covered_second old.store before.calls after.calls image
           (subst (λ (s : Store). LeftBy (stores_within s after.calls) image) stores_are left))) in
           passes_on (LeftBy stores) old.fuse middle.fuse new.fuse old.timeline middle.timeline new.timeline first second;
+      rose = omega (arith, before.rose, after.rose, failures_both before.calls after.calls);
     }

@@ -1,6 +1,7 @@
 -- What a crash at any moment of a step may leave of the server's volume, by the calls that the step makes. Own
 -- definitions; the calls are those of RFC 8881 sections 18.3, 18.22 and 18.32.
-use Rattle.std.specs.Prelude.{◌≡◌, ◌⊎◌, ℕ, ◌<◌, false, None, List, [], ◌∷◌, ◌++◌, length}
+use Rattle.std.specs.Prelude.{◌≡◌, ◌⊎◌, ℕ, ◌<◌, ◌+◌, false, None, List, [], ◌∷◌, ◌++◌, length}
+use Rattle.outcome.specs.Causes.{RoseBy}
 use Rattle.copy_model.specs.Volume.{fail_commit}
 use Rattle.disk_model.specs.Disk.{Image, MayLeave}
 use Rattle.disk_model.specs.Elapsed.{Timeline, present}
@@ -64,6 +65,16 @@ abbrev pub AreTaken : Store → List Made → Type 0
 AreTaken s [] = Unit {0}
 AreTaken s (m ∷ ms) = IsTaken m.answer s m.asked × AreTaken (left_by m.asked m.answer s) ms
 
+-- how many of them failed on the disk
+abbrev pub failed_in : CallAnswer → ℕ
+failed_in Done = 0
+failed_in DiskFailed = 1
+failed_in Refused = 0
+
+abbrev pub failures : List Made → ℕ
+failures [] = 0
+failures (m ∷ ms) = failed_in m.answer + failures ms
+
 -- ---- what a crash may leave
 
 -- an image that a crash may leave of a store
@@ -85,7 +96,7 @@ IsCovered those these = (image : Image) → LeftBy those image → LeftBy these 
 
 -- What was done to a volume in some calls, which are noted behind those before. Whatever a crash at any moment of
 -- them may leave is left by one of these stores, where they have what a crash before the calls may leave and what one
--- inside a call may.
+-- inside a call may. The disk's count of faults rose by one at least for each call that failed on it.
 pub record Ran (old new : Seat) (used more : List Used) : Type 0 where
   pub calls : List Made
   pub noted : more ≡ used ++ uses_of old.store calls
@@ -93,3 +104,4 @@ pub record Ran (old new : Seat) (used more : List Used) : Type 0 where
   pub store : new.store ≡ after_calls old.store calls
   pub moments : (stores : List Store) → NowLeft old.timeline stores → IsCovered (stores_within old.store calls) stores
       → Passes old.fuse new.fuse old.timeline new.timeline (LeftBy stores)
+  pub rose : RoseBy (failures calls) old.faults new.faults

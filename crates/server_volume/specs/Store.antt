@@ -17,11 +17,13 @@ pub record Store : Type 0 where
 abbrev pub store_of : {D : Type 0} → (D → ℕ) → Opened D → Store
 store_of size v = record { volume = v.volume; tag = v.tag; homes = v.homes; size = size v.disk }
 
--- the same, with the disk's fuse and moments
+-- the same, with the disk's fuse and moments, and how many faults it counted
 pub record Seat : Type 0 where
   pub store : Store
   pub fuse : Fuse
   pub timeline : Timeline
+  pub faults : ℕ
 
-abbrev pub seat_of : {D : Type 0} → (D → ℕ) → (D → Fuse) → (D → Timeline) → Opened D → Seat
-seat_of size fuse timeline v = record { store = store_of size v; fuse = fuse v.disk; timeline = timeline v.disk }
+abbrev pub seat_of : {D : Type 0} → (D → ℕ) → (D → Fuse) → (D → Timeline) → (D → ℕ) → Opened D → Seat
+seat_of size fuse timeline faults v =
+    record { store = store_of size v; fuse = fuse v.disk; timeline = timeline v.disk; faults = faults v.disk }

@@ -1,6 +1,6 @@
 //! Calls that aren't a COMPOUND, under a context or not.
 
-ghost use Rattle.std.specs.Prelude.{◌≡◌, ◌≢◌, ◌<◌, ◌≤◌, ℕ, true, false, [], IfOk, OnErr};
+ghost use Rattle.std.specs.Prelude.{◌≡◌, ◌≢◌, ◌+◌, ◌<◌, ◌≤◌, ℕ, true, false, [], IfOk, OnErr};
 ghost use Rattle.outcome.specs.Causes.{Rose};
 ghost use Rattle.rpc_msg.specs.Heads.{denial, stat};
 ghost use Rattle.rpc_calls.specs.Answers.{counted};
@@ -47,6 +47,7 @@ impl<D: Disk, X, C: Drop> Host<D, X, C> {
         ensures unused { IfOk result (λ out. out.used ≡ []) }
         ensures short { IfOk result (λ out. AreShort out.sent) }
         ensures drawn { IfOk result (λ out. out.undrawn ≡ false) }
+        ensures steps { IfOk result (λ _. self.new.steps ≡ self.old.steps + 1) }
         ensures err { OnErr result (self.new ≡ self.old) }
         ensures counted { IsCounted X.given self.new }
     {
@@ -76,6 +77,7 @@ impl<D: Disk, X, C: Drop> Host<D, X, C> {
         ensures unused { IfOk result (λ out. out.used ≡ []) }
         ensures short { IfOk result (λ out. AreShort out.sent) }
         ensures drawn { IfOk result (λ out. out.undrawn ≡ false) }
+        ensures steps { IfOk result (λ _. self.new.steps ≡ self.old.steps + 1) }
         ensures err { OnErr result (self.new ≡ self.old) }
         ensures counted { IsCounted X.given self.new }
     {
@@ -107,6 +109,7 @@ impl<D: Disk, X, C: Drop> Host<D, X, C> {
         ensures unused { IfOk result (λ out. out.used ≡ []) }
         ensures short { IfOk result (λ out. AreShort out.sent) }
         ensures drawn { IfOk result (λ out. out.undrawn ≡ false) }
+        ensures steps { IfOk result (λ _. self.new.steps ≡ self.old.steps + 1) }
         ensures err { OnErr result (self.new ≡ self.old) }
         ensures counted { IsCounted X.given self.new }
     {
@@ -145,6 +148,7 @@ impl<D: Disk, X, C: Drop> Host<D, X, C> {
         ensures unused { IfOk result (λ out. out.used ≡ []) }
         ensures short { IfOk result (λ out. AreShort out.sent) }
         ensures drawn { IfOk result (λ out. out.undrawn ≡ false) }
+        ensures steps { IfOk result (λ _. self.new.steps ≡ self.old.steps + 1) }
         ensures err { OnErr result (self.new ≡ self.old) }
         ensures counted { IsCounted X.given self.new }
     {
@@ -183,6 +187,7 @@ impl<D: Disk, X, C: Drop> Host<D, X, C> {
         ensures unused { IfOk result (λ out. out.used ≡ []) }
         ensures short { IfOk result (λ out. AreShort out.sent) }
         ensures drawn { IfOk result (λ out. out.undrawn ≡ false) }
+        ensures steps { IfOk result (λ _. self.new.steps ≡ self.old.steps + 1) }
         ensures err { OnErr result (self.new ≡ self.old) }
         ensures counted { IsCounted X.given self.new }
     {
@@ -220,6 +225,7 @@ impl<D: Disk, X, C: Drop> Host<D, X, C> {
         ensures volume { self.new.server.files.volume ≡ self.old.server.files.volume }
         ensures unused { IfOk result (λ out. out.used ≡ []) }
         ensures short { IfOk result (λ out. AreShort out.sent) }
+        ensures steps { IfOk result (λ _. self.new.steps ≡ self.old.steps + 1) }
         ensures err { OnErr result (self.new ≡ self.old) }
         ensures counted { IsCounted X.given self.new }
         ensures later { W.faults draws.old ≤ W.faults draws.new }
@@ -270,6 +276,7 @@ impl<D: Disk, X, C: Drop> Host<D, X, C> {
         ensures unused { IfOk result (λ out. out.used ≡ []) }
         ensures short { IfOk result (λ out. AreShort out.sent) }
         ensures drawn { IfOk result (λ out. out.undrawn ≡ false) }
+        ensures steps { IfOk result (λ _. self.new.steps ≡ self.old.steps + 1) }
         ensures err { OnErr result (self.new ≡ self.old) }
         ensures counted { IsCounted X.given self.new }
     {
@@ -305,6 +312,7 @@ impl<D: Disk, X, C: Drop> Host<D, X, C> {
         ensures unused { IfOk result (λ out. out.used ≡ []) }
         ensures short { IfOk result (λ out. AreShort out.sent) }
         ensures drawn { IfOk result (λ out. out.undrawn ≡ false) }
+        ensures steps { IfOk result (λ _. self.new.steps ≡ self.old.steps + 1) }
         ensures err { OnErr result (self.new ≡ self.old) }
         ensures counted { IsCounted X.given self.new }
     {

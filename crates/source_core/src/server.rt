@@ -3,7 +3,7 @@
 ghost use Rattle.std.specs.Prelude.{true, ◌≡◌, ◌↔◌, ◌≤◌, ◌<◌, ◌+◌, ℕ, [], length, None, IfOk, IsOk, IsTrue, OnErr, Ok, Err, MatchResult};
 ghost use Rattle.block_file.specs.declared.faults.OpenFault.{OpenFault};
 ghost use Rattle.block_file.specs.declared.faults.ReadFault.{ReadFault};
-ghost use Rattle.block_file.specs.Opened.{homes_by, CanBeOpened, RefusedFor};
+ghost use Rattle.block_file.specs.Opened.{homes_by, CanBeOpened, MayBeLeft, RefusedFor};
 ghost use Rattle.block_file.specs.Stored.{flaw_of, reopened, tag_of};
 ghost use Rattle.copy_model.specs.Volume.{bytes_at, file_at};
 ghost use Rattle.disk_model.specs.Disk.{Image, MayLeave};
@@ -82,6 +82,8 @@ impl<D: Disk + Drop, M: Mechanism> SourceCore<D, M> {
         ensures new { IfOk result (λ answer. IfOk answer (IsNew mech peers own)) }
         ensures cause { IfOk result (λ answer. MatchResult answer (λ _. Unit {0})
             (λ fault. fault.1 ≡ OpenFault.DiskFailed → Rose (D.faults disk) (D.faults fault.0))) }
+        ensures size { IfOk result (λ answer. MatchResult answer (λ core. D.size core.server.files.volume.disk ≡ D.size disk) (λ fault. D.size fault.0 ≡ D.size disk)) }
+        ensures faults { IfOk result (λ answer. MatchResult answer (λ core. D.faults disk ≤ D.faults core.server.files.volume.disk) (λ fault. D.faults disk ≤ D.faults fault.0)) }
     {
         let own = OwnLocation::new(own);
         match Volume::open(alloc, disk)? {
@@ -140,9 +142,10 @@ impl<D: Disk, M: Mechanism> SourceCore<D, M> {
     ) -> Mem<Outbox>
         requires few { self.old.steps < MOST_STEPS }
         ensures turn { D.Told → IfOk result (λ out. IsTurn (source_rules M.mic_of) (record { mic = M.mic_of; derived = M.derived }) (M.accepted self.old.server.files.extra.mech) W.gives conn record_.now now (host_of D.size self.old) draws.old draws.new (stepped_of D.size self.new out)) }
-        ensures ran { D.Told → IfOk result (λ out. Ran (seat_of D.size D.fuse D.timeline self.old.server.files.volume) (seat_of D.size D.fuse D.timeline self.new.server.files.volume) [] out.used) }
+        ensures ran { D.Told → IfOk result (λ out. Ran (seat_of D.size D.fuse D.timeline D.faults self.old.server.files.volume) (seat_of D.size D.fuse D.timeline D.faults self.new.server.files.volume) [] out.used) }
         ensures short { IfOk result (λ out. AreShort out.sent) }
         ensures undrawn { IfOk result (λ out. out.undrawn ≡ true → Rose (W.faults draws.old) (W.faults draws.new)) }
+        ensures counted { IfOk result (λ _. self.new.steps ≡ self.old.steps + 1) }
         ensures err { OnErr result (self.new ≡ self.old) }
         ensures later { W.faults draws.old ≤ W.faults draws.new }
         ensures failing { W.failing draws.new ≡ W.failing draws.old }
@@ -156,6 +159,7 @@ impl<D: Disk, M: Mechanism> SourceCore<D, M> {
         ensures out { IfOk result (λ out. out ≡ nothing) }
         ensures is { IsOk result → host_of D.size self.new ≡ ticked (source_rules M.mic_of) now (host_of D.size self.old) }
         ensures volume { self.new.server.files.volume ≡ self.old.server.files.volume }
+        ensures counted { IfOk result (λ _. self.new.steps ≡ self.old.steps + 1) }
         ensures err { OnErr result (self.new ≡ self.old) }
     {
         let out = Outbox {
@@ -176,6 +180,13 @@ impl<D: Disk, M> SourceCore<D, M> {
         ensures { result ≡ self.now.steps }
     {
         self.host.steps
+    }
+
+    /// The number of the volume's opening.
+    pub fn boot(&self) -> u32
+        ensures { result ≡ self.now.server.files.volume.volume.boot }
+    {
+        self.host.server.files.volume.boot()
     }
 
     /// How many files there are, but for the root directory.
@@ -210,6 +221,10 @@ impl<D: Disk, M> SourceCore<D, M> {
         ensures broken { (result ≡ Err ReadFault.Broken) ↔ (self.old.server.files.volume.volume.broken ≡ true) }
         ensures bytes { D.Told → IsOk result → out.new ≡ bytes_at (file_at self.old.server.files.volume.volume file).now off (length out.old) }
         ensures still { D.Told → host_of D.size self.new ≡ host_of D.size self.old }
+        ensures counted { self.new.steps ≡ self.old.steps }
+        ensures size { D.size self.new.server.files.volume.disk ≡ D.size self.old.server.files.volume.disk }
+        ensures faults { D.faults self.old.server.files.volume.disk ≤ D.faults self.new.server.files.volume.disk }
+        ensures cause { result ≡ Err ReadFault.DiskFailed → Rose (D.faults self.old.server.files.volume.disk) (D.faults self.new.server.files.volume.disk) }
     {
         self.host.server.files.volume.read(file, off, out)
     }
@@ -219,6 +234,7 @@ impl<D: Disk, M> SourceCore<D, M> {
     where
         M: Drop,
         ensures disk { result ≡ self.server.files.volume.disk }
+        ensures left { D.Told → (image : Image) → MayLeave (present (D.timeline result)) image → MayBeLeft (D.size result) self.server.files.volume.tag (homes_by self.server.files.volume.homes) self.server.files.volume.volume image }
         ensures again { D.Told → (image : Image) → MayLeave (present (D.timeline result)) image → CanBeOpened (D.size result) image }
     {
         let SourceCore { host } = self;

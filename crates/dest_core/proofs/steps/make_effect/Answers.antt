@@ -22,5 +22,5 @@ pub returns-clause-ran : goal.returns-clause-ran
 returns-clause-ran g c = λ told.
     let D = g.D.Disk in
     let made = c.make_effect_on-sent in
-    ran_within (seat_of D.size D.fuse D.timeline) c.args.host.now.server.files.volume c.tick.new.self.server.files.volume made.new.files.volume c.finish.new.host.server.files.volume
+    ran_within (seat_of D.size D.fuse D.timeline D.faults) c.args.host.now.server.files.volume c.tick.new.self.server.files.volume made.new.files.volume c.finish.new.host.server.files.volume
     _ made.new.used c.finish.result.used c.tick.ensures.volume c.finish.ensures.volume (cc) c.finish.ensures.used (made.ensures.ran told)

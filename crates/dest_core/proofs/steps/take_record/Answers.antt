@@ -8,5 +8,5 @@ pub returns-in-Reply-clause-ran : goal.returns-in-Reply-clause-ran
 returns-in-Reply-clause-ran g c = λ told.
     let D = g.D.Disk in
     IfOk-weaker c.take_answer.result _ _
-    (λ out unused. ran_kept (seat_of D.size D.fuse D.timeline) c.args.host.now.server.files.volume c.take_answer.new.host.server.files.volume [] out.used c.take_answer.ensures.volume unused)
+    (λ out unused. ran_kept (seat_of D.size D.fuse D.timeline D.faults) c.args.host.now.server.files.volume c.take_answer.new.host.server.files.volume [] out.used c.take_answer.ensures.volume unused)
     c.take_answer.ensures.unused

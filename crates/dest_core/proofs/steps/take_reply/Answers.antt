@@ -19,5 +19,5 @@ returns-clause-is g c = λ told.
 pub returns-clause-ran : goal.returns-clause-ran
 returns-clause-ran g c = λ told.
     let D = g.D.Disk in
-    let seat = seat_of D.size D.fuse D.timeline in
+    let seat = seat_of D.size D.fuse D.timeline D.faults in
     subst (λ s. Ran (seat s.files.volume) (seat c.make_effect.new.host.server.files.volume) [] c.make_effect.result.used) c.hear.ensures.same (c.make_effect.ensures.ran told)

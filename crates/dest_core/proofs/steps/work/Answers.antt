@@ -19,7 +19,7 @@ returns-clause-is g c = λ told.
 pub returns-clause-ran : goal.returns-clause-ran
 returns-clause-ran g c = λ told.
     let D = g.D.Disk in
-    let seat = seat_of D.size D.fuse D.timeline in
+    let seat = seat_of D.size D.fuse D.timeline D.faults in
     subst (λ s. Ran (seat s.files.volume) (seat c.make_turn.new.host.server.files.volume) [] c.make_turn.result.used) c.turn_due.ensures.same (c.make_turn.ensures.ran told)
 
 pub returns-clause-undrawn : goal.returns-clause-undrawn

@@ -16,9 +16,9 @@ returns-clause-makes g c = λ told choice agrees.
     let old = c.args.volume.now in
     let new = c.commit-result.new.self in
     let e = c.commit-result.ensures in
-    let facts = commit_facts D.size D.fuse D.timeline c.args.file c.commit-result.result old new c.requires.there e.broken e.refused
-    (e.committed told) (e.failed told) e.homes e.homes_kept (e.any_moment told) e.tag e.size in
-    reads_make c.commit-result.result (Commits c.args.file) (seat_of D.size D.fuse D.timeline old) (seat_of D.size D.fuse D.timeline new)
+    let facts = commit_facts D.size D.fuse D.timeline D.faults c.args.file c.commit-result.result old new c.requires.there e.broken e.refused
+    (e.committed told) (e.failed told) e.homes e.homes_kept (e.any_moment told) e.tag e.size e.faults e.cause in
+    reads_make c.commit-result.result (Commits c.args.file) (seat_of D.size D.fuse D.timeline D.faults old) (seat_of D.size D.fuse D.timeline D.faults new)
     c.args.used.now c.note.new.self facts
     (c.note.ensures ∙ ap (λ (n : ℕ). noted c.args.used.now (calls.Commit c.args.file (1 - n)) c.read_answer.result) c.home-home.ensures.home
     ∙ ap (λ (a : CallAnswer). noted c.args.used.now (calls.Commit c.args.file (1 - homes_by c.args.volume.now.homes c.args.file)) a) c.read_answer.ensures) choice agrees
@@ -29,9 +29,9 @@ returns-clause-ran g c = λ told.
     let old = c.args.volume.now in
     let new = c.commit-result.new.self in
     let e = c.commit-result.ensures in
-    let facts = commit_facts D.size D.fuse D.timeline c.args.file c.commit-result.result old new c.requires.there e.broken e.refused
-    (e.committed told) (e.failed told) e.homes e.homes_kept (e.any_moment told) e.tag e.size in
-    reads_ran c.commit-result.result (Commits c.args.file) (seat_of D.size D.fuse D.timeline old) (seat_of D.size D.fuse D.timeline new)
+    let facts = commit_facts D.size D.fuse D.timeline D.faults c.args.file c.commit-result.result old new c.requires.there e.broken e.refused
+    (e.committed told) (e.failed told) e.homes e.homes_kept (e.any_moment told) e.tag e.size e.faults e.cause in
+    reads_ran c.commit-result.result (Commits c.args.file) (seat_of D.size D.fuse D.timeline D.faults old) (seat_of D.size D.fuse D.timeline D.faults new)
     c.args.used.now c.note.new.self facts
     (c.note.ensures ∙ ap (λ (n : ℕ). noted c.args.used.now (calls.Commit c.args.file (1 - n)) c.read_answer.result) c.home-home.ensures.home
     ∙ ap (λ (a : CallAnswer). noted c.args.used.now (calls.Commit c.args.file (1 - homes_by c.args.volume.now.homes c.args.file)) a) c.read_answer.ensures)

@@ -15,9 +15,9 @@ returns-clause-makes g c = λ told choice agrees.
     let old = c.args.volume.now in
     let new = c.read-result.new.self in
     let e = c.read-result.ensures in
-    let facts = read_facts D.size D.fuse D.timeline c.args.file c.args.off (length c.args.out.now) c.read-result.result old new c.requires.there e.broken
-    (e.volume told) e.tag e.homes e.size e.fuse (e.timeline told) in
-    reads_make c.read-result.result (Reads c.args.file c.args.off (length c.args.out.now)) (seat_of D.size D.fuse D.timeline old) (seat_of D.size D.fuse D.timeline new)
+    let facts = read_facts D.size D.fuse D.timeline D.faults c.args.file c.args.off (length c.args.out.now) c.read-result.result old new c.requires.there e.broken
+    (e.volume told) e.tag e.homes e.size e.fuse (e.timeline told) e.faults e.cause in
+    reads_make c.read-result.result (Reads c.args.file c.args.off (length c.args.out.now)) (seat_of D.size D.fuse D.timeline D.faults old) (seat_of D.size D.fuse D.timeline D.faults new)
     c.args.used.now c.note.new.self facts
     (c.note.ensures ∙ ap (λ (a : CallAnswer). noted c.args.used.now (calls.Read c.args.file c.args.off (length c.args.out.now)) a) c.read_answer.ensures) choice agrees
 
@@ -27,8 +27,8 @@ returns-clause-ran g c = λ told.
     let old = c.args.volume.now in
     let new = c.read-result.new.self in
     let e = c.read-result.ensures in
-    let facts = read_facts D.size D.fuse D.timeline c.args.file c.args.off (length c.args.out.now) c.read-result.result old new c.requires.there e.broken
-    (e.volume told) e.tag e.homes e.size e.fuse (e.timeline told) in
-    reads_ran c.read-result.result (Reads c.args.file c.args.off (length c.args.out.now)) (seat_of D.size D.fuse D.timeline old) (seat_of D.size D.fuse D.timeline new)
+    let facts = read_facts D.size D.fuse D.timeline D.faults c.args.file c.args.off (length c.args.out.now) c.read-result.result old new c.requires.there e.broken
+    (e.volume told) e.tag e.homes e.size e.fuse (e.timeline told) e.faults e.cause in
+    reads_ran c.read-result.result (Reads c.args.file c.args.off (length c.args.out.now)) (seat_of D.size D.fuse D.timeline D.faults old) (seat_of D.size D.fuse D.timeline D.faults new)
     c.args.used.now c.note.new.self facts
     (c.note.ensures ∙ ap (λ (a : CallAnswer). noted c.args.used.now (calls.Read c.args.file c.args.off (length c.args.out.now)) a) c.read_answer.ensures)

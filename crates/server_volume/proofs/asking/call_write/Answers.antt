@@ -15,9 +15,9 @@ returns-clause-makes g c = λ told choice agrees.
     let old = c.args.volume.now in
     let new = c.write-result.new.self in
     let e = c.write-result.ensures in
-    let facts = write_facts D.size D.fuse D.timeline c.args.file c.args.off c.args.bytes.now c.write-result.result old new c.requires.there e.tested e.passed
-    e.refused (e.written told) (e.failed told) (e.any_moment told) e.tag e.homes e.size in
-    writes_make c.write-result.result c.args.file c.args.off c.args.bytes.now (seat_of D.size D.fuse D.timeline old) (seat_of D.size D.fuse D.timeline new)
+    let facts = write_facts D.size D.fuse D.timeline D.faults c.args.file c.args.off c.args.bytes.now c.write-result.result old new c.requires.there e.tested e.passed
+    e.refused (e.written told) (e.failed told) (e.any_moment told) e.tag e.homes e.size e.faults e.cause in
+    writes_make c.write-result.result c.args.file c.args.off c.args.bytes.now (seat_of D.size D.fuse D.timeline D.faults old) (seat_of D.size D.fuse D.timeline D.faults new)
     c.args.used.now c.note.new.self facts
     (c.note.ensures ∙ ap (λ (a : CallAnswer). noted c.args.used.now (calls.Write c.args.file c.args.off (length c.args.bytes.now)) a) c.write_answer.ensures) choice agrees
 
@@ -27,8 +27,8 @@ returns-clause-ran g c = λ told.
     let old = c.args.volume.now in
     let new = c.write-result.new.self in
     let e = c.write-result.ensures in
-    let facts = write_facts D.size D.fuse D.timeline c.args.file c.args.off c.args.bytes.now c.write-result.result old new c.requires.there e.tested e.passed
-    e.refused (e.written told) (e.failed told) (e.any_moment told) e.tag e.homes e.size in
-    writes_ran c.write-result.result c.args.file c.args.off c.args.bytes.now (seat_of D.size D.fuse D.timeline old) (seat_of D.size D.fuse D.timeline new)
+    let facts = write_facts D.size D.fuse D.timeline D.faults c.args.file c.args.off c.args.bytes.now c.write-result.result old new c.requires.there e.tested e.passed
+    e.refused (e.written told) (e.failed told) (e.any_moment told) e.tag e.homes e.size e.faults e.cause in
+    writes_ran c.write-result.result c.args.file c.args.off c.args.bytes.now (seat_of D.size D.fuse D.timeline D.faults old) (seat_of D.size D.fuse D.timeline D.faults new)
     c.args.used.now c.note.new.self facts
     (c.note.ensures ∙ ap (λ (a : CallAnswer). noted c.args.used.now (calls.Write c.args.file c.args.off (length c.args.bytes.now)) a) c.write_answer.ensures)

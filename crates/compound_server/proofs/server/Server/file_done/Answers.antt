@@ -23,14 +23,14 @@ unfolding file_done
 returns-in-Close-clause-performs g c = λ told choice agrees. performs_known (record { gate = g.X.Extension.gated; serve = g.X.Serving.serves }) choice _ _ _ _ _ _ _ _ _ c.in-Close.is (c.close.ensures.does choice agrees) refl
 
 pub returns-in-Close-clause-ran : goal.returns-in-Close-clause-ran
-returns-in-Close-clause-ran g c = λ told. ran_kept (seat_of g.D.Disk.size g.D.Disk.fuse g.D.Disk.timeline) c.close.ensures.volume c.close.ensures.used
+returns-in-Close-clause-ran g c = λ told. ran_kept (seat_of g.D.Disk.size g.D.Disk.fuse g.D.Disk.timeline g.D.Disk.faults) c.close.ensures.volume c.close.ensures.used
 
 pub returns-in-Open-clause-performs : goal.returns-in-Open-clause-performs
 unfolding file_done
 returns-in-Open-clause-performs g c = λ told choice agrees. performs_known (record { gate = g.X.Extension.gated; serve = g.X.Serving.serves }) choice _ _ _ _ _ _ _ _ _ c.in-Open.is (c.open_by_name.ensures.does choice agrees) refl
 
 pub returns-in-Open-clause-ran : goal.returns-in-Open-clause-ran
-returns-in-Open-clause-ran g c = λ told. ran_kept (seat_of g.D.Disk.size g.D.Disk.fuse g.D.Disk.timeline) c.open_by_name.ensures.volume c.open_by_name.ensures.used
+returns-in-Open-clause-ran g c = λ told. ran_kept (seat_of g.D.Disk.size g.D.Disk.fuse g.D.Disk.timeline g.D.Disk.faults) c.open_by_name.ensures.volume c.open_by_name.ensures.used
 
 pub returns-in-GetFh-clause-performs : goal.returns-in-GetFh-clause-performs
 unfolding file_done
@@ -97,7 +97,7 @@ returns-in-GetAttr-clause-performs g c = λ told choice agrees.
     (ap (λ (mask : List ℕ). of_file c.args.self.now.sessions (get_attributes (record { gate = g.X.Extension.gated }) c.args.caller.now c.args.carry.now mask going)) (sym c.as_slice.ensures))
 
 pub returns-in-GetAttr-clause-ran : goal.returns-in-GetAttr-clause-ran
-returns-in-GetAttr-clause-ran g c = λ told. ran_kept (seat_of g.D.Disk.size g.D.Disk.fuse g.D.Disk.timeline) c.get_attributes.ensures.volume c.get_attributes.ensures.used
+returns-in-GetAttr-clause-ran g c = λ told. ran_kept (seat_of g.D.Disk.size g.D.Disk.fuse g.D.Disk.timeline g.D.Disk.faults) c.get_attributes.ensures.volume c.get_attributes.ensures.used
 
 -- ---- operations that are refused
 

@@ -39,6 +39,6 @@ returns-in-Ok-clause-keeps g c =
 pub returns-in-Ok-clause-ran : goal.returns-in-Ok-clause-ran
 returns-in-Ok-clause-ran g c = λ told.
     let D = g.D.Disk in
-    ran_on (seat_of D.size D.fuse D.timeline c.args.self.now.volume) (seat_of D.size D.fuse D.timeline c.call_write.new.volume)
-    (seat_of D.size D.fuse D.timeline c.settle.new.self.volume) c.args.p.now.used c.call_write.new.used c.settle.new.p.used
+    ran_on (seat_of D.size D.fuse D.timeline D.faults c.args.self.now.volume) (seat_of D.size D.fuse D.timeline D.faults c.call_write.new.volume)
+    (seat_of D.size D.fuse D.timeline D.faults c.settle.new.self.volume) c.args.p.now.used c.call_write.new.used c.settle.new.p.used
     (c.call_write.ensures.ran told) (c.settle.ensures.ran told)

@@ -10,7 +10,7 @@ use Rattle.file_server.proofs.files.Files.write_file.Goals as goal
 pub returns-in-Err-clause-ran : goal.returns-in-Err-clause-ran
 returns-in-Err-clause-ran g c = λ told.
     let D = g.D.Disk in
-    ran_still (seat_of D.size D.fuse D.timeline c.args.self.now.volume) c.args.p.now.used c.refuse.new.self.used c.refuse.ensures.says.used
+    ran_still (seat_of D.size D.fuse D.timeline D.faults c.args.self.now.volume) c.args.p.now.used c.refuse.new.self.used c.refuse.ensures.says.used
 
 pub returns-in-Ok-clause-does : goal.returns-in-Ok-clause-does
 returns-in-Ok-clause-does g c = λ told choice agrees.

@@ -24,17 +24,17 @@ returns-in-Copy-clause-serves g c = λ told choice agrees.
 pub returns-in-Copy-clause-ran : goal.returns-in-Copy-clause-ran
 returns-in-Copy-clause-ran g c = λ told.
     let D = g.D.Disk in
-    ran_kept (seat_of D.size D.fuse D.timeline) c.args.files.now.volume c.args.files.now.volume c.args.p.now.used c.refuse.new.self.used refl c.refuse.ensures.says.used
+    ran_kept (seat_of D.size D.fuse D.timeline D.faults) c.args.files.now.volume c.args.files.now.volume c.args.p.now.used c.refuse.new.self.used refl c.refuse.ensures.says.used
 
 pub returns-in-CopyNotify-clause-ran : goal.returns-in-CopyNotify-clause-ran
 returns-in-CopyNotify-clause-ran g c = λ told.
     let D = g.D.Disk in
-    ran_kept (seat_of D.size D.fuse D.timeline) c.args.files.now.volume c.notify.new.files.volume c.args.p.now.used c.notify.new.p.used c.notify.ensures.volume c.notify.ensures.used
+    ran_kept (seat_of D.size D.fuse D.timeline D.faults) c.args.files.now.volume c.notify.new.files.volume c.args.p.now.used c.notify.new.p.used c.notify.ensures.volume c.notify.ensures.used
 
 pub returns-in-OffloadCancel-clause-ran : goal.returns-in-OffloadCancel-clause-ran
 returns-in-OffloadCancel-clause-ran g c = λ told.
     let D = g.D.Disk in
-    ran_kept (seat_of D.size D.fuse D.timeline) c.args.files.now.volume c.cancel.new.files.volume c.args.p.now.used c.cancel.new.p.used c.cancel.ensures.volume c.cancel.ensures.used
+    ran_kept (seat_of D.size D.fuse D.timeline D.faults) c.args.files.now.volume c.cancel.new.files.volume c.args.p.now.used c.cancel.new.p.used c.cancel.ensures.volume c.cancel.ensures.used
 
 pub returns-in-OffloadStatus-clause-serves : goal.returns-in-OffloadStatus-clause-serves
 unfolding serves
@@ -49,7 +49,7 @@ returns-in-OffloadStatus-clause-serves g c = λ told choice agrees.
 pub returns-in-OffloadStatus-clause-ran : goal.returns-in-OffloadStatus-clause-ran
 returns-in-OffloadStatus-clause-ran g c = λ told.
     let D = g.D.Disk in
-    ran_kept (seat_of D.size D.fuse D.timeline) c.args.files.now.volume c.args.files.now.volume c.args.p.now.used c.refuse-in-OffloadStatus.new.self.used refl c.refuse-in-OffloadStatus.ensures.says.used
+    ran_kept (seat_of D.size D.fuse D.timeline D.faults) c.args.files.now.volume c.args.files.now.volume c.args.p.now.used c.refuse-in-OffloadStatus.new.self.used refl c.refuse-in-OffloadStatus.ensures.says.used
 
 pub returns-clause-serves : goal.returns-clause-serves
 unfolding serves
@@ -64,4 +64,4 @@ returns-clause-serves g c = λ told choice agrees.
 pub returns-clause-ran : goal.returns-clause-ran
 returns-clause-ran g c = λ told.
     let D = g.D.Disk in
-    ran_kept (seat_of D.size D.fuse D.timeline) c.args.files.now.volume c.args.files.now.volume c.args.p.now.used c.refuse-in-Clone.new.self.used refl c.refuse-in-Clone.ensures.says.used
+    ran_kept (seat_of D.size D.fuse D.timeline D.faults) c.args.files.now.volume c.args.files.now.volume c.args.p.now.used c.refuse-in-Clone.new.self.used refl c.refuse-in-Clone.ensures.says.used

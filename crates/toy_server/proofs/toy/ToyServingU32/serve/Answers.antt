@@ -24,7 +24,7 @@ returns-in-Copy-clause-serves g c = λ told choice agrees.
 pub returns-in-Copy-clause-ran : goal.returns-in-Copy-clause-ran
 returns-in-Copy-clause-ran g c = λ told.
     let D = g.D.Disk in
-    ran_kept (seat_of D.size D.fuse D.timeline) c.args.files.now.volume c.args.files.now.volume c.args.p.now.used c.refuse.new.self.used refl c.refuse.ensures.says.used
+    ran_kept (seat_of D.size D.fuse D.timeline D.faults) c.args.files.now.volume c.args.files.now.volume c.args.p.now.used c.refuse.new.self.used refl c.refuse.ensures.says.used
 
 pub returns-in-CopyNotify-clause-serves : goal.returns-in-CopyNotify-clause-serves
 unfolding serves
@@ -40,7 +40,7 @@ returns-in-CopyNotify-clause-serves g c = λ told choice agrees.
 pub returns-in-CopyNotify-clause-ran : goal.returns-in-CopyNotify-clause-ran
 returns-in-CopyNotify-clause-ran g c = λ told.
     let D = g.D.Disk in
-    ran_kept (seat_of D.size D.fuse D.timeline) c.args.files.now.volume c.args.files.now.volume c.args.p.now.used c.say_wide.new.p.used refl c.say_wide.ensures.says.used
+    ran_kept (seat_of D.size D.fuse D.timeline D.faults) c.args.files.now.volume c.args.files.now.volume c.args.p.now.used c.say_wide.new.p.used refl c.say_wide.ensures.says.used
 
 pub returns-in-OffloadCancel-clause-serves : goal.returns-in-OffloadCancel-clause-serves
 unfolding serves
@@ -56,7 +56,7 @@ returns-in-OffloadCancel-clause-serves g c = λ told choice agrees.
 pub returns-in-OffloadCancel-clause-ran : goal.returns-in-OffloadCancel-clause-ran
 returns-in-OffloadCancel-clause-ran g c = λ told.
     let D = g.D.Disk in
-    ran_kept (seat_of D.size D.fuse D.timeline) c.args.files.now.volume c.args.files.now.volume c.args.p.now.used c.refuse-in-OffloadCancel.new.self.used refl c.refuse-in-OffloadCancel.ensures.says.used
+    ran_kept (seat_of D.size D.fuse D.timeline D.faults) c.args.files.now.volume c.args.files.now.volume c.args.p.now.used c.refuse-in-OffloadCancel.new.self.used refl c.refuse-in-OffloadCancel.ensures.says.used
 
 pub returns-in-OffloadStatus-clause-serves : goal.returns-in-OffloadStatus-clause-serves
 unfolding serves
@@ -71,7 +71,7 @@ returns-in-OffloadStatus-clause-serves g c = λ told choice agrees.
 pub returns-in-OffloadStatus-clause-ran : goal.returns-in-OffloadStatus-clause-ran
 returns-in-OffloadStatus-clause-ran g c = λ told.
     let D = g.D.Disk in
-    ran_kept (seat_of D.size D.fuse D.timeline) c.args.files.now.volume c.args.files.now.volume c.args.p.now.used c.refuse-in-OffloadStatus.new.self.used refl c.refuse-in-OffloadStatus.ensures.says.used
+    ran_kept (seat_of D.size D.fuse D.timeline D.faults) c.args.files.now.volume c.args.files.now.volume c.args.p.now.used c.refuse-in-OffloadStatus.new.self.used refl c.refuse-in-OffloadStatus.ensures.says.used
 
 pub returns-clause-serves : goal.returns-clause-serves
 unfolding serves
@@ -86,4 +86,4 @@ returns-clause-serves g c = λ told choice agrees.
 pub returns-clause-ran : goal.returns-clause-ran
 returns-clause-ran g c = λ told.
     let D = g.D.Disk in
-    ran_kept (seat_of D.size D.fuse D.timeline) c.args.files.now.volume c.args.files.now.volume c.args.p.now.used c.refuse-in-Clone.new.self.used refl c.refuse-in-Clone.ensures.says.used
+    ran_kept (seat_of D.size D.fuse D.timeline D.faults) c.args.files.now.volume c.args.files.now.volume c.args.p.now.used c.refuse-in-Clone.new.self.used refl c.refuse-in-Clone.ensures.says.used
