@@ -1,0 +1,4 @@
+pub mod Answered
+pub mod Broken
+pub mod Kept
+pub mod Risen
