@@ -10,7 +10,7 @@ ghost use Rattle.dest_jobs.specs.declared.carried.Carried.{Carried};
 ghost use Rattle.dest_jobs.specs.declared.copies.Copies.{Copies};
 ghost use Rattle.dest_jobs.specs.declared.copying.CopyRoom.{CopyRoom};
 ghost use Rattle.dest_jobs.specs.declared.copying.Ends.{Ends};
-ghost use Rattle.dest_laws.specs.Deeds.{book_in, ByDeeds};
+ghost use Rattle.dest_laws.specs.Deeds.{book_in, ByDeeds, GoesWithin};
 ghost use Rattle.dest_laws.specs.Going.{is_rest, CanAskAll, CanCall};
 ghost use Rattle.dest_steps.specs.Copier.{Around, Codes};
 ghost use Rattle.dest_steps.specs.Failing.{link_failed};
@@ -48,8 +48,7 @@ ghost use Rattle.server_volume.specs.Calls.{commit_call, write_call};
 ghost use Rattle.server_volume.specs.Choices.{Choice};
 ghost use Rattle.sess_slots.specs.Table.{SessionTable};
 
-/// Whatever a part of a destination's step does to its jobs is a list of deeds: a worker's turn, a record of the source, a failed
-/// link, a client's reply, an operation of a client, the end of clients and of leases.
+/// Whatever a step of a destination does to its jobs is a list of deeds.
 pub fn steps_are_deeds()
     // A worker's turn: what is due, by which a chunk is claimed, and what is done.
     ensures due { (mic : Mic) (at : SendAt) (me : List ℕ) (sessions : SessionTable) (w : Work) (b : BookView) → ByDeeds b (turn mic at me sessions w b).book }
@@ -66,6 +65,24 @@ pub fn steps_are_deeds()
         → ByDeeds x.book (copied client carry args ends room closed boot x).0.book }
     ensures cancel { (job : Option JobName) (x : Copies) → ByDeeds x.book (after_cancel job x).book }
     ensures clients { (test : ℕ → Bool) (cause : Stop) (x : Copies) → ByDeeds x.book (end_all test cause x).book }
+{
+    dest_tasks::chunks_are_next();
+}
+
+/// No step of a destination gives more than one entry to its jobs, and none but COPY takes a copy: in a worker's turn what is due
+/// gives none and what is done one at most, and a record of the source, heard and done, one at most.
+pub fn steps_give_one_entry()
+    ensures due { (mic : Mic) (at : SendAt) (me : List ℕ) (sessions : SessionTable) (w : Work) (b : BookView) → GoesWithin 0 0 b (turn mic at me sessions w b).book }
+    ensures turn { (choice : Choice) (place : ℕ) (turn : Turn) (d : Doing) → GoesWithin 0 1 (book_in d) (book_in (turn_made choice place turn d).doing) }
+    ensures heard { (choice : Choice) (codes : Codes) (finished : List ℕ → List ℕ → Option (List ℕ)) (around : Around) (place : ℕ) (message : List ℕ) (old : Copier) (heard : Heard) (new : Copier) (d : Doing)
+        → IsHeard codes finished around place message old heard new → d.copier ≡ new
+        → GoesWithin 0 1 old.copies.book (book_in (effect_done choice place heard.effect d).doing) }
+    ensures failure { (place : ℕ) (failing : Failing) (x : Copier) → GoesWithin 0 1 x.copies.book (link_failed place failing x).0.copies.book }
+    ensures reply { (boot : ℕ) (hearing : Hearing) (x : Copier) → GoesWithin 0 0 x.copies.book (hearing_done boot hearing x).0.copies.book }
+    ensures copy { (client : ℕ) (carry : Option Carried) (args : CopyArgs) (ends : Ends) (room : CopyRoom) (closed : Option Status) (boot : ℕ) (x : Copies)
+        → GoesWithin 1 0 x.book (copied client carry args ends room closed boot x).0.book }
+    ensures cancel { (job : Option JobName) (x : Copies) → GoesWithin 0 0 x.book (after_cancel job x).book }
+    ensures clients { (test : ℕ → Bool) (cause : Stop) (x : Copies) → GoesWithin 0 0 x.book (end_all test cause x).book }
 {
     dest_tasks::chunks_are_next();
 }

@@ -1,11 +1,14 @@
 //! What the steps of a destination do to its jobs (RFC 7862 sections 4.2 and 15.2).
 //!
-//! There is no code here. [`steps_are_deeds`] says that each part of a step changes the jobs by what is done to a book, one thing
-//! after another, as `dest_tasks` has it: so its law on how a sized job completes is one on every such part, and so is
-//! [`chunks_left_never_rise`]. That a whole record of a client is such a list, operation by operation, isn't said here. [`chunks_land`] says that a chunk which the source brought lands, also later, and that a whole
-//! job is committed; [`found_tasks_go_out`] that a worker isn't idle where there is a task.
+//! There is no code here. [`steps_are_deeds`] says that each step changes the jobs by what is done to a book, one thing after
+//! another, as `dest_tasks` has it: so its law on how a sized job completes is one on every such step, and so is
+//! [`chunks_left_never_rise`]. [`steps_give_one_entry`] says that these give jobs one entry at most. [`chunks_land`] says that a
+//! chunk which the source brought lands, also later, and that a whole job is committed; [`found_tasks_go_out`] that a worker
+//! isn't idle where there is a task.
 #![tactic(auto)]
 
 mod laws;
 
-pub use laws::{chunks_land, chunks_left_never_rise, found_tasks_go_out, steps_are_deeds};
+pub use laws::{
+    chunks_land, chunks_left_never_rise, found_tasks_go_out, steps_are_deeds, steps_give_one_entry,
+};

@@ -1,7 +1,7 @@
 //! How what a particular server adds goes on, in every step of the server.
 //!
-//! There is no code here. `specs/Following.antt` says what it is to go along a relation; a server's extension that does in each of
-//! its own rules is [`Following`], and then it does in every step ([`own_parts_go_on`]), whatever the record is.
+//! There is no code here. `specs/Following.antt` says what it is to go along a relation; one along which a server's extension goes
+//! in each of its own rules is [`Following`], and then it does in every step ([`own_parts_go_on`]), whatever the record is.
 #![tactic(auto)]
 
 mod following;

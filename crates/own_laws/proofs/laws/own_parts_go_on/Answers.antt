@@ -3,6 +3,6 @@ use Rattle.own_laws.proofs.laws.own_parts_go_on.Goals as goal
 
 pub returns : goal.returns
 returns g c = record {
-  step = λ mech. turn_goes _ _ g.met.X.Following.follows _ _ _;
-  second = λ now s. g.met.X.Following.follows.lapse _ _;
+  step = λ mech. turn_goes _ _ g.met.R.Following.follows _ _ _;
+  second = λ now s. g.met.R.Following.follows.lapse _ _;
 }
