@@ -1,34 +1,33 @@
 -- What a copy's calls ask by stays while the client goes on of itself.
 use Rattle.std.proofs.Common.{◌≡◌, ◌≢◌, ◌∙◌, ℕ, Bool, true, false, Option, Some, None, refl, sym, ap, arith}
-use Rattle.std.specs.Prelude.{◌==◌}
-use Rattle.client_copies.specs.Copies.{is_stable, side_of}
-use Rattle.client_copies.specs.Steps.{after, fails_if, is_going, is_side, lost_by, moves, on_opened, on_queried, on_sent, opened_to, query_down, stage_down}
+use Rattle.std.specs.Prelude.{◌==◌, is_some}
+use Rattle.client_copies.specs.Copies.{is_stable}
+use Rattle.client_copies.specs.Steps.{after, is_going, moves, on_opened, on_queried, on_sent, opened_to}
 use Rattle.client_copies.specs.Table.{Copies, copy_after, copy_at, told_at}
+use Rattle.client_copies.specs.Words.{phase_by, phase_of}
 use Rattle.client_copies.specs.declared.copy.ClientCopy.{ClientCopy}
+use Rattle.client_copies.specs.declared.copy.First.{First}
 use Rattle.client_copies.specs.declared.copy.Query.{Query}
 use Rattle.client_copies.specs.declared.copy.Stage.{Stage}
 use Rattle.client_copies.specs.declared.copy.Stage.TheVariants.{Due, Asked, Accepted, Over}
 use Rattle.client_copies.specs.declared.copy.Step.{Step}
-use Rattle.client_copies.specs.declared.copy.Verdict.{Verdict}
-use Rattle.client_copies.specs.declared.copy.Verdict.TheVariants as verdicts
+use Rattle.client_copies.specs.declared.copy.Step.TheVariants as steps
 use Rattle.client_copies.specs.declared.event.Event.{Event}
 use Rattle.client_copies.specs.declared.event.Event.TheVariants as events
-use Rattle.caller_laws.specs.Moves.{Again, Begin, BeginAnew, Falls, Finish, Forgets, GivesUp, InSlot, Make, Move, Reclaim, Rests, Sends, SetUp, Takes}
 use Rattle.nfs_base.specs.declared.side.Side.{Side}
-use Rattle.nfs_base.specs.declared.side.Side.TheVariants.{Dest}
-use Rattle.nfs_base.specs.declared.status.Status.{Status}
+use Rattle.nfs_base.specs.declared.side.Side.TheVariants.{Source, Dest}
 use Rattle.session_calls.specs.declared.slot_call.FileCall.TheVariants as asks
 use Rattle.session_calls.specs.declared.slot_call.SlotCall.{SlotCall}
 use Rattle.session_calls.specs.declared.slot_call.SlotCall.TheVariants as calls
 use Rattle.client_laws.proofs.Changed.{copy_kept, copy_written}
-use Rattle.client_laws.specs.CallerLaws.{AsksCopy, AsksIn, AsksLast, AsksName, AsksOf, IsOf, range_of}
-use Rattle.client_laws.specs.Changes.{is_own}
+use Rattle.client_laws.specs.CallerLaws.{AsksCopy, AsksLast, AsksName, AsksOf, IsOf, is_safe, is_said_stable, knows_first, purpose_for, range_of, ready_in}
 
--- the same is known of a copy
+-- the same is known of a copy, and where it was said to be stable, nothing more was said
 pub record IsSame (c d : ClientCopy) : Type 0 where
   pub first : d.first ≡ c.first
   pub id : d.id ≡ c.id
   pub spec : d.spec ≡ c.spec
+  pub safe : is_safe (phase_of c.stage) ≡ true → is_safe (phase_of d.stage) ≡ true
 
 pub record StaysAs (c : ClientCopy) (o : Option ClientCopy) : Type 0 where
   pub now : ClientCopy
@@ -40,7 +39,7 @@ pub record Stays (t u : Copies) : Type 0 where
 
 pub stays_same : (t u : Copies) → u ≡ t → Stays t u
 stays_same t u same = record {
-  each = λ j c there. record { now = c; now_is = ap (copy_at j) same ∙ there; same = record { first = refl; id = refl; spec = refl } };
+  each = λ j c there. record { now = c; now_is = ap (copy_at j) same ∙ there; same = record { first = refl; id = refl; spec = refl; safe = λ e. e } };
 }
 
 pub stays_then : (t u v : Copies) → Stays t u → Stays u v → Stays t v
@@ -51,61 +50,106 @@ stays_then t u v x y = record {
       record {
         now = b.now;
         now_is = b.now_is;
-        same = record { first = b.same.first ∙ a.same.first; id = b.same.id ∙ a.same.id; spec = b.same.spec ∙ a.same.spec };
+        same = record {
+          first = b.same.first ∙ a.same.first;
+          id = b.same.id ∙ a.same.id;
+          spec = b.same.spec ∙ a.same.spec;
+          safe = λ e. b.same.safe (a.same.safe e);
+        };
       };
 }
 
--- ---- what the client does of itself leaves it
+-- ---- a file that is found open, a call that goes out and a question to the destination leave it
 
-moves_same : (o : Option Step) (c : ClientCopy) → IsSame c (moves o c).1
+abbrev pub is_gentle : Event → Bool
+is_gentle (events.Opened side) = true
+is_gentle events.Sent = true
+is_gentle (events.Queried query) = true
+is_gentle _ = false
+
+unsafe : {A : Type 0} → false ≡ true → A
+unsafe e = absurd cc
+
+stays_safe : (old : Stage) (c : ClientCopy) → c.stage ≡ old → is_safe (phase_of old) ≡ true → is_safe (phase_of c.stage) ≡ true
+stays_safe old c was safe = ap (λ (st : Stage). is_safe (phase_of st)) was ∙ safe
+
+moved_safe : (side : Side) (step : Step) (c : ClientCopy) → (is_safe (phase_by (is_stable step)) ≡ true → is_safe (phase_of c.stage) ≡ true)
+    → is_safe (phase_by (is_stable step)) ≡ true → is_safe (phase_of (moves (opened_to side step) c).1.stage) ≡ true
+moved_safe Source steps.OpenSource c was safe = unsafe safe
+moved_safe Source steps.AllowSource c was safe = unsafe safe
+moved_safe Source steps.Notify c was safe = unsafe safe
+moved_safe Source steps.OpenDest c was safe = unsafe safe
+moved_safe Source steps.AllowDest c was safe = unsafe safe
+moved_safe Source steps.Copy c was safe = unsafe safe
+moved_safe Source steps.OpenAgain c was safe = refl
+moved_safe Source steps.Last c was safe = was safe
+moved_safe Dest steps.OpenSource c was safe = unsafe safe
+moved_safe Dest steps.AllowSource c was safe = unsafe safe
+moved_safe Dest steps.Notify c was safe = unsafe safe
+moved_safe Dest steps.OpenDest c was safe = unsafe safe
+moved_safe Dest steps.AllowDest c was safe = unsafe safe
+moved_safe Dest steps.Copy c was safe = unsafe safe
+moved_safe Dest steps.OpenAgain c was safe = was safe
+moved_safe Dest steps.Last c was safe = was safe
+
+opened_safe : (side : Side) (st : Stage) (c : ClientCopy) → c.stage ≡ st → is_safe (phase_of st) ≡ true → is_safe (phase_of (on_opened side st c).1.stage) ≡ true
+opened_safe side (Due step) c was safe = moved_safe side step c (λ e. stays_safe (Due step) c was e) safe
+opened_safe side (Asked step) c was safe = moved_safe side step c (λ e. stays_safe (Asked step) c was e) safe
+opened_safe side Accepted c was safe = stays_safe Accepted c was safe
+opened_safe side (Over v) c was safe = stays_safe (Over v) c was safe
+
+sent_safe : (st : Stage) (c : ClientCopy) → c.stage ≡ st → is_safe (phase_of st) ≡ true → is_safe (phase_of (on_sent st c).1.stage) ≡ true
+sent_safe (Due step) c was safe = safe
+sent_safe (Asked step) c was safe = stays_safe (Asked step) c was safe
+sent_safe Accepted c was safe = stays_safe Accepted c was safe
+sent_safe (Over v) c was safe = stays_safe (Over v) c was safe
+
+-- but for where the copy is
+record IsSameBut (c d : ClientCopy) : Type 0 where
+  first : d.first ≡ c.first
+  id : d.id ≡ c.id
+  spec : d.spec ≡ c.spec
+
+moves_same : (o : Option Step) (c : ClientCopy) → IsSameBut c (moves o c).1
 moves_same None c = record { first = refl; id = refl; spec = refl }
 moves_same (Some step) c = record { first = refl; id = refl; spec = refl }
 
-opened_same : (side : Side) (st : Stage) (c : ClientCopy) → IsSame c (on_opened side st c).1
+opened_same : (side : Side) (st : Stage) (c : ClientCopy) → IsSameBut c (on_opened side st c).1
 opened_same side (Due step) c = moves_same (opened_to side step) c
 opened_same side (Asked step) c = moves_same (opened_to side step) c
 opened_same side Accepted c = record { first = refl; id = refl; spec = refl }
 opened_same side (Over v) c = record { first = refl; id = refl; spec = refl }
 
-sent_same : (st : Stage) (c : ClientCopy) → IsSame c (on_sent st c).1
+sent_same : (st : Stage) (c : ClientCopy) → IsSameBut c (on_sent st c).1
 sent_same (Due step) c = record { first = refl; id = refl; spec = refl }
 sent_same (Asked step) c = record { first = refl; id = refl; spec = refl }
 sent_same Accepted c = record { first = refl; id = refl; spec = refl }
 sent_same (Over v) c = record { first = refl; id = refl; spec = refl }
 
 queried_same : (query : Query) (b : Bool) (c : ClientCopy) → IsSame c (on_queried query b c).1
-queried_same query true c = record { first = refl; id = refl; spec = refl }
-queried_same query false c = record { first = refl; id = refl; spec = refl }
+queried_same query true c = record { first = refl; id = refl; spec = refl; safe = λ e. e }
+queried_same query false c = record { first = refl; id = refl; spec = refl; safe = λ e. e }
 
-fails_same : (b : Bool) (v : Verdict) (c : ClientCopy) → IsSame c (fails_if b v c).1
-fails_same true v c = record { first = refl; id = refl; spec = refl }
-fails_same false v c = record { first = refl; id = refl; spec = refl }
+with_safe : (c d : ClientCopy) → IsSameBut c d → (is_safe (phase_of c.stage) ≡ true → is_safe (phase_of d.stage) ≡ true) → IsSame c d
+with_safe c d same safe = record { first = same.first; id = same.id; spec = same.spec; safe = safe }
 
-down_same : (side : Side) (status : Status) (st : Stage) (c : ClientCopy) → IsSame c (stage_down side status st c).1
-down_same side status (Due step) c = fails_same (is_side side (side_of step)) (lost_by (is_stable step) status) c
-down_same side status (Asked step) c = fails_same (is_side side (side_of step)) (lost_by (is_stable step) status) c
-down_same side status Accepted c = fails_same (is_side side Dest) (verdicts.Failed status) c
-down_same side status (Over v) c = record { first = refl; id = refl; spec = refl }
-
-own_same : (event : Event) (c : ClientCopy) → is_own event ≡ true → IsSame c (after event c).1
+gentle_same : (event : Event) (c : ClientCopy) → is_gentle event ≡ true → IsSame c (after event c).1
 unfolding after
-own_same (events.Opened side) c own = opened_same side c.stage c
-own_same events.Sent c own = sent_same c.stage c
-own_same (events.Queried query) c own = queried_same query (is_going c.stage) c
-own_same (events.Down side status) c own =
-    let same = down_same side status c.stage (record c { query = query_down side c.query }) in
-    record { first = same.first; id = same.id; spec = same.spec }
-own_same events.Allowed c own = absurd cc
-own_same (events.Granted known) c own = absurd cc
-own_same (events.Accepted id sent_at) c own = absurd cc
-own_same (events.Told change session) c own = absurd cc
-own_same (events.Refused why) c own = absurd cc
-own_same (events.Progressed count complete sent_at) c own = absurd cc
-own_same events.Cancelled c own = absurd cc
-own_same (events.QueryRefused why) c own = absurd cc
-own_same (events.Offloaded end) c own = absurd cc
+gentle_same (events.Opened side) c gentle = with_safe c (on_opened side c.stage c).1 (opened_same side c.stage c) (opened_safe side c.stage c refl)
+gentle_same events.Sent c gentle = with_safe c (on_sent c.stage c).1 (sent_same c.stage c) (sent_safe c.stage c refl)
+gentle_same (events.Queried query) c gentle = queried_same query (is_going c.stage) c
+gentle_same (events.Down side status) c gentle = absurd cc
+gentle_same events.Allowed c gentle = absurd cc
+gentle_same (events.Granted known) c gentle = absurd cc
+gentle_same (events.Accepted id sent_at) c gentle = absurd cc
+gentle_same (events.Told change session) c gentle = absurd cc
+gentle_same (events.Refused why) c gentle = absurd cc
+gentle_same (events.Progressed count complete sent_at) c gentle = absurd cc
+gentle_same events.Cancelled c gentle = absurd cc
+gentle_same (events.QueryRefused why) c gentle = absurd cc
+gentle_same (events.Offloaded end) c gentle = absurd cc
 
-told_one : (b : Bool) (i j : ℕ) (event : Event) (t : Copies) (c : ClientCopy) → (i == j) ≡ b → is_own event ≡ true → copy_at j t ≡ Some c
+told_one : (b : Bool) (i j : ℕ) (event : Event) (t : Copies) (c : ClientCopy) → (i == j) ≡ b → is_gentle event ≡ true → copy_at j t ≡ Some c
     → StaysAs c (copy_at j (told_at i event t).1)
 told_one true i j event t c e own there =
     let same : i ≡ j = grind (arith, e) in
@@ -114,17 +158,17 @@ told_one true i j event t c e own there =
       now = (after event c).1;
       now_is =
           ap (λ (n : ℕ). copy_at n (told_at i event t).1) (sym same) ∙ copy_written event i t ∙ ap (copy_after event) here;
-      same = own_same event c own;
+      same = gentle_same event c own;
     }
 told_one false i j event t c e own there =
     let other : j ≢ i = grind (arith, e) in
     record {
       now = c;
       now_is = copy_kept i j (copy_after event (copy_at i t)) t other ∙ there;
-      same = record { first = refl; id = refl; spec = refl };
+      same = record { first = refl; id = refl; spec = refl; safe = λ e. e };
     }
 
-pub stays_told : (i : ℕ) (event : Event) (t : Copies) → is_own event ≡ true → Stays t (told_at i event t).1
+pub stays_told : (i : ℕ) (event : Event) (t : Copies) → is_gentle event ≡ true → Stays t (told_at i event t).1
 stays_told i event t own = record { each = λ j c there. told_one (i == j) i j event t c refl own there }
 
 -- ---- so what was asked by it is
@@ -158,17 +202,32 @@ still_asks calls.ReclaimComplete o q stays_on a = tt
 still_asks (calls.Open client owner name) o q stays_on a = tt
 still_asks (calls.Notify file id destination) o q stays_on a = tt
 
-pub still_in : (t u : Copies) → Stays t u → (move : Move) → AsksIn t move → AsksIn u move
-still_in t u s (Sends at (InSlot under call)) a = still_asks call (copy_at at.place t) (copy_at at.place u) (s.each at.place) a
-still_in t u s (Sends at (Begin nonce token)) a = tt
-still_in t u s (Sends at BeginAnew) a = tt
-still_in t u s (Sends at (SetUp principal back)) a = tt
-still_in t u s (Sends at Reclaim) a = tt
-still_in t u s (Sends at (Make child name privilege)) a = tt
-still_in t u s (Sends at (Finish ending)) a = tt
-still_in t u s (Sends at Again) a = tt
-still_in t u s (Takes place message) a = tt
-still_in t u s (GivesUp place) a = tt
-still_in t u s (Forgets child) a = tt
-still_in t u s Falls a = tt
-still_in t u s Rests a = tt
+known_by : (o q : Option ClientCopy) → ((c : ClientCopy) → o ≡ Some c → StaysAs c q) → knows_first o ≡ true → knows_first q ≡ true
+known_by None q stays_on ready = absurd cc
+known_by (Some c) q stays_on ready =
+    let s = stays_on c refl in
+    ap knows_first s.now_is ∙ ap (λ (o : Option First). is_some o) s.same.first ∙ ready
+
+stable_by : (o q : Option ClientCopy) → ((c : ClientCopy) → o ≡ Some c → StaysAs c q) → is_said_stable o ≡ true → is_said_stable q ≡ true
+stable_by None q stays_on ready = absurd cc
+stable_by (Some c) q stays_on ready =
+    let s = stays_on c refl in
+    ap is_said_stable s.now_is ∙ s.same.safe ready
+
+still_ready : (call : SlotCall) (j : ℕ) (t u : Copies) → Stays t u → ready_in t (purpose_for j call) ≡ true → ready_in u (purpose_for j call) ≡ true
+still_ready (calls.Copy source_file source_id file id range source) j t u s ready = known_by (copy_at j t) (copy_at j u) (s.each j) ready
+still_ready (calls.OnFile file asks.Change) j t u s ready = stable_by (copy_at j t) (copy_at j u) (s.each j) ready
+still_ready (calls.OnFile file (asks.Status id)) j t u s ready = refl
+still_ready (calls.OnFile file (asks.Cancel id)) j t u s ready = refl
+still_ready (calls.OnFile file (asks.Close id)) j t u s ready = refl
+still_ready (calls.OnFile file (asks.Write id offset bytes)) j t u s ready = refl
+still_ready (calls.OnFile file asks.Commit) j t u s ready = refl
+still_ready (calls.OnFile file asks.ChangeAndSize) j t u s ready = refl
+still_ready (calls.OnFile file (asks.Read id offset count)) j t u s ready = refl
+still_ready calls.ReclaimComplete j t u s ready = refl
+still_ready (calls.Open client owner name) j t u s ready = refl
+still_ready (calls.Notify file id destination) j t u s ready = refl
+
+pub still_asked : (call : SlotCall) (j : ℕ) (t u : Copies) → Stays t u → (ready_in t (purpose_for j call) ≡ true) × AsksOf (copy_at j t) call
+    → (ready_in u (purpose_for j call) ≡ true) × AsksOf (copy_at j u) call
+still_asked call j t u s a = (still_ready call j t u s a.0, still_asks call (copy_at j t) (copy_at j u) (s.each j) a.1)

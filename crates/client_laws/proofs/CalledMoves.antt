@@ -118,7 +118,7 @@ abbrev pub Reports : (cause : ℕ → Event → Type 0) → Copies → CbOp → 
 Reports cause t (ops.Sequence args) = Unit {0}
 Reports cause t (ops.Offload args) = (j : ℕ) → names args.id (copy_at j t) ≡ true → cause j (events.Offloaded args.end)
 
-held_same : (b : Bool) (one : HeldOffload) (u : Copies) → (held_if b one u).1.copies ≡ u.copies
+pub held_same : (b : Bool) (one : HeldOffload) (u : Copies) → (held_if b one u).1.copies ≡ u.copies
 held_same true one u = refl
 held_same false one u = refl
 

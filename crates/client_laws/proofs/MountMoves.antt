@@ -1,13 +1,14 @@
 -- What is done over a desk, at one server: steps of its mount, each of which it may take, and what goes out there.
-use Rattle.std.proofs.Common.{◌≡◌, ◌≢◌, ◌∙◌, ℕ, ◌+◌, ◌<◌, ◌≤◌, Bool, true, false, List, [], ◌∷◌, ◌++◌, Option, Some, None, refl, sym, ap, subst, arith}
-use Rattle.std.specs.Prelude.{is_some, ◌==◌, ◌&&◌, min, nat_lt, not, is_none, if◌then◌else◌}
-use Rattle.std.specs.List.{flat_map}
+use Rattle.std.proofs.Common.{◌≡◌, ◌≢◌, ◌∙◌, ℕ, ◌+◌, ◌<◌, ◌≤◌, Bool, true, false, List, [], ◌∷◌, ◌++◌, Option, Some, None, refl, sym, ap, subst, inl, inr, ◌⊎◌, arith}
+use Rattle.std.specs.Prelude.{is_some, ◌==◌, ◌&&◌, min, nat_lt, not, is_none, if◌then◌else◌, ◌||◌, map}
+use Rattle.std.specs.List.{AllByRecursion, flat_map}
 use Rattle.std.proofs.lemmas.Bool.{ltb-true}
 use Rattle.std.proofs.lemmas.Grind.{flat_map-append}
 use Rattle.std.proofs.lemmas.List.{append-nil, append_assoc}
 use Rattle.caller_laws.specs.Good.{Identity}
 use Rattle.caller_laws.specs.Lawful.{Suits}
 use Rattle.caller_laws.specs.Moves.{Rests, Send, Sends, out_of, sent_by}
+use Rattle.caller_laws.specs.View.{Above}
 use Rattle.client_copies.specs.Table.{Copies}
 use Rattle.client_site.specs.Sending.{at_site, may_go, sent_if}
 use Rattle.client_site.specs.declared.site.Site.{Site}
@@ -33,19 +34,21 @@ use Rattle.session_calls.specs.declared.slot_call.SlotCall.{SlotCall}
 use Rattle.session_calls.specs.declared.sole_call.BackChannel.{BackChannel}
 use Rattle.wire_model.specs.Wire as wire
 use Rattle.wire_model.specs.Wire.{Acts, Purpose}
-use Rattle.client_laws.proofs.Asking.{Stays, stays_same, stays_then, still_in}
+use Rattle.client_laws.proofs.Asking.{Stays, stays_same, stays_then}
+use Rattle.client_laws.proofs.RunKinds.{Anew, IsOf, Joins, Kind, MayRest, anew_twice, count_append, is_loud, numbers_append, numbers_to_append, rest_is}
 use Rattle.client_laws.proofs.Changed.{all_behind}
 use Rattle.client_laws.proofs.MountRuns.{acts_append, run_append}
 use Rattle.client_laws.specs.CallerLaws.{AllAsk, AsksIn, IsMountRun, PurposesFit, MountStep, above_by, acts_in, call_if, calls_to, goes_to, is_call, purpose_after, taken_in}
+use Rattle.client_laws.specs.Order.{count_behind, numbers_in, numbers_to}
 
 abbrev pub mount_in : Side → Desk → Mounted
 mount_in side d = (site_at side d).mount
 
 -- what is sent and taken in a run
-abbrev outs_of : List Acts → List wire.Sent
+abbrev pub outs_of : List Acts → List wire.Sent
 outs_of acts = flat_map (λ (a : Acts). a.out) acts
 
-abbrev takes_of : List Acts → List (List ℕ × Option Seal)
+abbrev pub takes_of : List Acts → List (List ℕ × Option Seal)
 takes_of acts = flat_map taken_in acts
 
 calls_append : (side : Side) (xs ys : List Outgoing) → calls_to side (xs ++ ys) ≡ calls_to side xs ++ calls_to side ys
@@ -61,27 +64,35 @@ pub record Counted : Type 0 where
 
 -- ---- at one server
 
-pub record Ran (who : Identity) (means : Means) (boot : ℕ) (sends : Bool) (side : Side) (purpose : ℕ → Purpose) (taken : List (List ℕ × Option Seal)) (more : List Outgoing)
+pub record Ran (who : Identity) (means : Means) (boot : ℕ) (kind : Kind) (side : Side) (purpose : ℕ → Purpose) (taken : List (List ℕ × Option Seal)) (more : List Outgoing)
     (d e : Desk) : Type 0 where
   pub after : ℕ → Purpose
   pub steps : List MountStep
   pub run : IsMountRun who means steps (above_by boot d.calls purpose d.copies) (mount_in side d) (above_by boot e.calls after e.copies) (mount_in side e)
   pub outs : outs_of (acts_in means steps (mount_in side d)) ≡ calls_to side more
   pub takes : takes_of (acts_in means steps (mount_in side d)) ≡ taken
-  pub asks : (t : Copies) → (sends ≡ true → Stays e.copies t) → AllAsk t steps
+  pub asks : (t : Copies) → (is_loud kind ≡ true → Stays e.copies t) → AllAsk t steps
+  pub order : IsOf kind means steps (mount_in side d)
+  pub numbers : numbers_in means steps (mount_in side d) ≡ numbers_to side d.calls more
+
+-- what goes out is a call to a server, or as it should be
+abbrev pub IsPosted : (Outgoing → Type 0) → Outgoing → Type 0
+IsPosted post one = ((is_call one.label ≡ true) × ((goes_to Source one.to || goes_to Dest one.to) ≡ true)) ⊎ ((is_call one.label ≡ false) × post one)
 
 -- while there is an xid left
 -- whatever the slots are for
 abbrev pub any : (ℕ → Purpose) → Type 0
 any purpose = Unit {0}
 
-pub record Runs (who : Identity) (means : Means) (boot : ℕ) (pre : (ℕ → Purpose) → Type 0) (sends : Bool) (side : Side) (taken : List (List ℕ × Option Seal)) (seal : Option Seal → Option Seal)
-    (d e : Desk) : Type 0 where
+pub record Runs (who : Identity) (means : Means) (boot : ℕ) (post : Outgoing → Type 0) (pre : (ℕ → Purpose) → Type 0) (kind : Kind) (side : Side)
+    (taken : List (List ℕ × Option Seal)) (seal : Option Seal → Option Seal) (d e : Desk) : Type 0 where
   pub grows : e.calls < 4294967295 → d.calls ≤ e.calls
   pub accepted : e.out.accepted ≡ seal d.out.accepted
   pub more : List Outgoing
   pub sent : e.out.sent ≡ d.out.sent ++ more
-  pub ran : (purpose : ℕ → Purpose) → e.calls < 4294967295 → Ran who means boot sends side purpose taken more d e
+  pub posted : AllByRecursion (IsPosted post) more
+  pub counts : e.calls < 4294967295 → e.calls ≡ count_behind d.calls more
+  pub ran : (purpose : ℕ → Purpose) → e.calls < 4294967295 → Ran who means boot kind side purpose taken more d e
   pub fits : (purpose : ℕ → Purpose) (small : e.calls < 4294967295) → pre purpose → PurposesFit side purpose d.copies
       → PurposesFit side (ran purpose small).after e.copies
 
@@ -99,7 +110,7 @@ same_seal seal = seal
 fewer_calls : (e f : ℕ) → (f < 4294967295 → e ≤ f) → f < 4294967295 → e < 4294967295
 fewer_calls e f grows small = let later = grows small in omega arith
 
-no_calls : false ≡ true → ⊥
+pub no_calls : false ≡ true → ⊥
 no_calls e = absurd cc
 
 -- what goes out changes no copies
@@ -112,23 +123,50 @@ sent_copies Dest label (Some sent) s d = refl
 pub put_copies : (there : Side) (label : CallLabel) (o : Option Sent × Site) (d : Desk) → (put_out there label o d).1.copies ≡ d.copies
 put_copies there label o d = sent_copies there label o.0 o.1 d
 
--- what the client does of itself leaves what copies' calls ask by
-pub record Own (who : Identity) (means : Means) (boot : ℕ) (side : Side) (d e : Desk) : Type 0 where
-  pub runs : Runs who means boot any true side [] same_seal d e
-  pub stays : Stays d.copies e.copies
+-- what the client does of itself leaves what copies' calls ask by, where any goes out
+pub record Own (who : Identity) (means : Means) (boot : ℕ) (post : Outgoing → Type 0) (kind : Kind) (side : Side) (d e : Desk) : Type 0 where
+  pub runs : Runs who means boot post any kind side [] same_seal d e
+  pub stays : is_loud kind ≡ true → Stays d.copies e.copies
 
-module _ (who : Identity) (means : Means) (boot : ℕ) where
-  compose : (pre then_pre : (ℕ → Purpose) → Type 0) (a b c : Bool) (side : Side) (xs ys : List (List ℕ × Option Seal)) (first second : Option Seal → Option Seal) (d e f : Desk)
-      → ((t : Copies) → (c ≡ true → Stays f.copies t) → a ≡ true → Stays e.copies t)
-      → ((t : Copies) → (c ≡ true → Stays f.copies t) → b ≡ true → Stays f.copies t)
-      → (x : Runs who means boot pre a side xs first d e)
+pub silent_stays : {A : Type 0} (b : Bool) → b ≡ false → b ≡ true → A
+silent_stays b silent loud =
+    let e : false ≡ true = sym silent ∙ loud in
+    absurd (no_calls e)
+
+abbrev pub IsOther : Side → Side → Type 0
+IsOther Source Dest = Unit {0}
+IsOther Dest Source = Unit {0}
+IsOther _ _ = ⊥
+
+pub here_or_other : (side there : Side) → (side ≡ there) ⊎ IsOther side there
+here_or_other Source Source = inl refl
+here_or_other Dest Dest = inl refl
+here_or_other Source Dest = inr tt
+here_or_other Dest Source = inr tt
+
+pub other_apart : (side there : Side) → IsOther side there → side ≡ there → ⊥
+other_apart Source Source x e = x
+other_apart Dest Dest x e = x
+other_apart Source Dest x e = absurd cc
+other_apart Dest Source x e = absurd cc
+
+module _ (who : Identity) (means : Means) (boot : ℕ) (post : Outgoing → Type 0) where
+  compose : (pre then_pre : (ℕ → Purpose) → Type 0) (a b c : Kind) → Joins a b c → (side : Side) (xs ys : List (List ℕ × Option Seal)) (first second : Option Seal → Option Seal)
+      (d e f : Desk)
+      → ((t : Copies) → (is_loud c ≡ true → Stays f.copies t) → is_loud a ≡ true → Stays e.copies t)
+      → ((t : Copies) → (is_loud c ≡ true → Stays f.copies t) → is_loud b ≡ true → Stays f.copies t)
+      → (x : Runs who means boot post pre a side xs first d e)
       → ((purpose : ℕ → Purpose) (small : e.calls < 4294967295) → pre purpose → then_pre (x.ran purpose small).after)
-      → Runs who means boot then_pre b side ys second e f → Runs who means boot pre c side (xs ++ ys) (λ seal. second (first seal)) d f
-  compose pre then_pre a b c side xs ys first second d e f before behind x ready y = record {
+      → Runs who means boot post then_pre b side ys second e f → Runs who means boot post pre c side (xs ++ ys) (λ seal. second (first seal)) d f
+  compose pre then_pre a b c joins side xs ys first second d e f before behind x ready y = record {
     grows = λ small. let later = y.grows small in let sooner = x.grows (omega arith) in omega arith;
     accepted = y.accepted ∙ ap second x.accepted;
     more = x.more ++ y.more;
     sent = y.sent ∙ ap (λ (os : List Outgoing). os ++ y.more) x.sent ∙ append_assoc d.out.sent x.more y.more;
+    posted = all_behind (IsPosted post) x.more y.more x.posted y.posted;
+    counts = λ small.
+        let fewer = fewer_calls e.calls f.calls y.grows small in
+        y.counts small ∙ ap (λ (n : ℕ). count_behind n y.more) (x.counts fewer) ∙ sym (count_append d.calls x.more y.more);
     ran = λ purpose small.
         let fewer = fewer_calls e.calls f.calls y.grows small in
         let r = x.ran purpose fewer in
@@ -151,40 +189,54 @@ module _ (who : Identity) (means : Means) (boot : ℕ) where
               ∙ ap (λ (ts : List (List ℕ × Option Seal)). xs ++ ts) s.takes;
           asks = λ t stays.
               all_behind (λ (step : MountStep). AsksIn t step.move) r.steps s.steps (r.asks t (before t stays)) (s.asks t (behind t stays));
+          order = joins means r.steps s.steps (mount_in side d) (mount_in side e) r.order s.order;
+          numbers =
+              numbers_append who means r.steps s.steps (above_by boot d.calls purpose d.copies) (mount_in side d) b (mount_in side e) r.run
+              ∙ ap (λ (ns : List ℕ). ns ++ numbers_in means s.steps (mount_in side e)) r.numbers
+              ∙ ap (λ (ns : List ℕ). numbers_to side d.calls x.more ++ ns) (s.numbers ∙ ap (λ (n : ℕ). numbers_to side n y.more) (x.counts fewer))
+              ∙ sym (numbers_to_append side d.calls x.more y.more);
         };
     fits = λ purpose small given fit.
         let fewer = fewer_calls e.calls f.calls y.grows small in
         y.fits (x.ran purpose fewer).after small (ready purpose fewer given) (x.fits purpose fewer given fit);
   }
 
-  -- behind one that calls nothing in a slot
-  pub runs_then : (b : Bool) (side : Side) (xs ys : List (List ℕ × Option Seal)) (first second : Option Seal → Option Seal) (d e f : Desk)
-      → Runs who means boot any false side xs first d e → Runs who means boot any b side ys second e f → Runs who means boot any b side (xs ++ ys) (λ seal. second (first seal)) d f
-  runs_then b side xs ys first second d e f x y =
-      compose any any false b b side xs ys first second d e f (λ t stays calls. absurd (no_calls calls)) (λ t stays calls. stays calls) x (λ purpose small given. tt) y
+  -- behind one in which no copy's call goes out anew
+  pub runs_then : (a b c : Kind) → Joins a b c → is_loud a ≡ false → (is_loud b ≡ true → is_loud c ≡ true) → (side : Side) (xs ys : List (List ℕ × Option Seal))
+      (first second : Option Seal → Option Seal) (d e f : Desk)
+      → Runs who means boot post any a side xs first d e → Runs who means boot post any b side ys second e f
+      → Runs who means boot post any c side (xs ++ ys) (λ seal. second (first seal)) d f
+  runs_then a b c joins silent louder side xs ys first second d e f x y =
+      compose any any a b c joins side xs ys first second d e f (λ t stays loud. silent_stays (is_loud a) silent loud) (λ t stays loud. stays (louder loud)) x
+      (λ purpose small given. tt) y
 
-  -- behind any, where what copies' calls ask by stays
-  pub own_then : (side : Side) (xs ys : List (List ℕ × Option Seal)) (first second : Option Seal → Option Seal) (d e f : Desk) → Stays e.copies f.copies
-      → Runs who means boot any true side xs first d e → Runs who means boot any true side ys second e f → Runs who means boot any true side (xs ++ ys) (λ seal. second (first seal)) d f
-  own_then side xs ys first second d e f stay x y =
-      compose any any true true true side xs ys first second d e f (λ t stays calls. stays_then e.copies f.copies t stay (stays calls)) (λ t stays calls. stays calls) x
+  -- two of one kind, where what copies' calls ask by stays if any goes out
+  pub chain : (k : Kind) → Joins k k k → (side : Side) (xs ys : List (List ℕ × Option Seal)) (first second : Option Seal → Option Seal) (d e f : Desk)
+      → (is_loud k ≡ true → Stays e.copies f.copies) → Runs who means boot post any k side xs first d e → Runs who means boot post any k side ys second e f
+      → Runs who means boot post any k side (xs ++ ys) (λ seal. second (first seal)) d f
+  chain k twice side xs ys first second d e f stay x y =
+      compose any any k k k twice side xs ys first second d e f (λ t stays loud. stays_then e.copies f.copies t (stay loud) (stays loud)) (λ t stays loud. stays loud) x
       (λ purpose small given. tt) y
 
   -- a call went out, by which the copy is told so
-  pub sent_then : (then_pre : (ℕ → Purpose) → Type 0) (side : Side) (d e f : Desk) → Stays e.copies f.copies → (x : Runs who means boot any true side [] same_seal d e)
+  pub sent_then : (then_pre : (ℕ → Purpose) → Type 0) (side : Side) (d e f : Desk) → Stays e.copies f.copies → (x : Runs who means boot post any Anew side [] same_seal d e)
       → ((purpose : ℕ → Purpose) (small : e.calls < 4294967295) → then_pre (x.ran purpose small).after)
-      → Runs who means boot then_pre true side [] same_seal e f → Runs who means boot any true side [] same_seal d f
+      → Runs who means boot post then_pre Anew side [] same_seal e f → Runs who means boot post any Anew side [] same_seal d f
   sent_then then_pre side d e f stay x ready y =
-      compose any then_pre true true true side [] [] same_seal same_seal d e f (λ t stays calls. stays_then e.copies f.copies t stay (stays calls)) (λ t stays calls. stays calls) x
+      compose any then_pre Anew Anew Anew anew_twice side [] [] same_seal same_seal d e f (λ t stays loud. stays_then e.copies f.copies t stay (stays loud)) (λ t stays loud. stays loud) x
       (λ purpose small given. ready purpose small) y
 
-  pub loud : {pre : (ℕ → Purpose) → Type 0} (side : Side) (xs : List (List ℕ × Option Seal)) (seal : Option Seal → Option Seal) (d e : Desk) → Runs who means boot pre false side xs seal d e
-      → Runs who means boot pre true side xs seal d e
-  loud side xs seal d e x = record {
+  -- a run of one kind is one of another
+  pub reshaped : {pre : (ℕ → Purpose) → Type 0} (a b : Kind) → (is_loud a ≡ true → is_loud b ≡ true) → ((steps : List MountStep) (m : Mounted) → IsOf a means steps m → IsOf b means steps m)
+      → (side : Side) (xs : List (List ℕ × Option Seal)) (seal : Option Seal → Option Seal) (d e : Desk) → Runs who means boot post pre a side xs seal d e
+      → Runs who means boot post pre b side xs seal d e
+  reshaped a b louder shape side xs seal d e x = record {
     grows = x.grows;
     accepted = x.accepted;
     more = x.more;
     sent = x.sent;
+    posted = x.posted;
+    counts = x.counts;
     ran = λ purpose small.
         let r = x.ran purpose small in
         record {
@@ -193,21 +245,26 @@ module _ (who : Identity) (means : Means) (boot : ℕ) where
           run = r.run;
           outs = r.outs;
           takes = r.takes;
-          asks = λ t stays. r.asks t (λ calls. absurd (no_calls calls));
+          asks = λ t stays. r.asks t (λ loud. stays (louder loud));
+          order = shape r.steps (mount_in side d) r.order;
+          numbers = r.numbers;
         };
     fits = λ purpose small given fit. x.fits purpose small given fit;
   }
 
-  -- nothing happens to the mount, though calls may go out elsewhere
-  pub rests : (pre : (ℕ → Purpose) → Type 0) (side : Side) (seal : Option Seal → Option Seal) (d e : Desk) (more : List Outgoing) → mount_in side e ≡ mount_in side d
+  -- nothing happens to the mount, though calls may go out elsewhere, and answers
+  pub rests : (pre : (ℕ → Purpose) → Type 0) (k : Kind) → MayRest k → (side : Side) (seal : Option Seal → Option Seal) (d e : Desk) (more : List Outgoing) → mount_in side e ≡ mount_in side d
       → (e.calls < 4294967295 → d.calls ≤ e.calls) → e.out.sent ≡ d.out.sent ++ more → calls_to side more ≡ []
+      → AllByRecursion (IsPosted post) more → (e.calls < 4294967295 → e.calls ≡ count_behind d.calls more) → numbers_to side d.calls more ≡ []
       → e.out.accepted ≡ seal d.out.accepted
-      → ((purpose : ℕ → Purpose) → pre purpose → PurposesFit side purpose d.copies → PurposesFit side purpose e.copies) → Runs who means boot pre false side [] seal d e
-  rests pre side seal d e more same grows sent none accepted fits = record {
+      → ((purpose : ℕ → Purpose) → pre purpose → PurposesFit side purpose d.copies → PurposesFit side purpose e.copies) → Runs who means boot post pre k side [] seal d e
+  rests pre k may side seal d e more same grows sent none posted counts numbers accepted fits = record {
     grows = grows;
     accepted = accepted;
     more = more;
     sent = sent;
+    posted = posted;
+    counts = counts;
     ran = λ purpose small. record {
       after = purpose;
       steps = (record { move = Rests; above = above_by boot e.calls purpose e.copies }) ∷ [];
@@ -215,22 +272,24 @@ module _ (who : Identity) (means : Means) (boot : ℕ) where
       outs = sym none;
       takes = refl;
       asks = λ t stays. (tt, tt);
+      order = rest_is k may means (above_by boot e.calls purpose e.copies) (mount_in side d);
+      numbers = sym numbers;
     };
     fits = λ purpose small given fit. fits purpose given fit;
   }
 
-  pub kept_when : (pre : (ℕ → Purpose) → Type 0) (side : Side) (d e : Desk) → IsKept side d e
-      → ((purpose : ℕ → Purpose) → pre purpose → PurposesFit side purpose d.copies → PurposesFit side purpose e.copies) → Runs who means boot pre false side [] same_seal d e
-  kept_when pre side d e k fits =
-      let calls = k.calls in
-      rests pre side same_seal d e [] k.mount (λ small. omega arith) (k.sent ∙ sym (append-nil d.out.sent)) refl k.accepted fits
+  pub kept_when : (pre : (ℕ → Purpose) → Type 0) (k : Kind) → MayRest k → (side : Side) (d e : Desk) → IsKept side d e
+      → ((purpose : ℕ → Purpose) → pre purpose → PurposesFit side purpose d.copies → PurposesFit side purpose e.copies) → Runs who means boot post pre k side [] same_seal d e
+  kept_when pre k may side d e x fits =
+      let calls = x.calls in
+      rests pre k may side same_seal d e [] x.mount (λ small. omega arith) (x.sent ∙ sym (append-nil d.out.sent)) refl tt (λ small. calls) refl x.accepted fits
 
-  pub kept : (side : Side) (d e : Desk) → IsKept side d e → ((purpose : ℕ → Purpose) → PurposesFit side purpose d.copies → PurposesFit side purpose e.copies)
-      → Runs who means boot any false side [] same_seal d e
-  kept side d e k fits = kept_when any side d e k (λ purpose given fit. fits purpose fit)
+  pub kept : (k : Kind) → MayRest k → (side : Side) (d e : Desk) → IsKept side d e
+      → ((purpose : ℕ → Purpose) → PurposesFit side purpose d.copies → PurposesFit side purpose e.copies) → Runs who means boot post any k side [] same_seal d e
+  kept k may side d e x fits = kept_when any k may side d e x (λ purpose given fit. fits purpose fit)
 
-  pub none : (side : Side) (d : Desk) → Runs who means boot any false side [] same_seal d d
-  none side d = kept side d d (record { mount = refl; calls = refl; sent = refl; accepted = refl }) (λ purpose fit. fit)
+  pub none : (k : Kind) → MayRest k → (side : Side) (d : Desk) → Runs who means boot post any k side [] same_seal d d
+  none k may side d = kept k may side d d (record { mount = refl; calls = refl; sent = refl; accepted = refl }) (λ purpose fit. fit)
 
   -- ---- a call goes out
 
@@ -251,42 +310,51 @@ module _ (who : Identity) (means : Means) (boot : ℕ) where
   call_here Source label sent = refl
   call_here Dest label sent = refl
 
+  number_here : (side : Side) (label : CallLabel) (sent : Sent) (n : ℕ) → numbers_to side n (going side sent.bytes sent.seal (labels.Call label) ∷ []) ≡ (n + 1) ∷ []
+  number_here Source label sent n = refl
+  number_here Dest label sent n = refl
+
+  call_is_posted : (side : Side) (label : CallLabel) (sent : Sent) → AllByRecursion (IsPosted post) (going side sent.bytes sent.seal (labels.Call label) ∷ [])
+  call_is_posted Source label sent = (inl (refl, refl), tt)
+  call_is_posted Dest label sent = (inl (refl, refl), tt)
+
   kept_site : (side : Side) (s : Site) (d : Desk) → s.mount ≡ mount_in side d → IsKept side d (with_site side s d)
   kept_site Source s d same = record { mount = same; calls = refl; sent = refl; accepted = refl }
   kept_site Dest s d same = record { mount = same; calls = refl; sent = refl; accepted = refl }
 
   -- what a send wants, and that what is awaited stays for what it is
-  pub record MayGo (side : Side) (d : Desk) (place : ℕ) (send : Send) : Type 0 where
-    pub unused : (mount_in side d).calls < next_xid d.calls
+  pub record MayGo (k : Kind) (side there : Side) (d : Desk) (place : ℕ) (send : Send) : Type 0 where
+    pub unused : (mount_in there d).calls < next_xid d.calls
     pub suits : (purpose : ℕ → Purpose) (calls : ℕ)
-        → Suits who (above_by boot calls (purpose_after (Sends (send_at place d) send) purpose) d.copies) (mount_in side d) (send_at place d) send
-    pub stays : (purpose : ℕ → Purpose) (other : ℕ) (a : Awaiting) → awaited_at (mount_in side d) other ≡ Some a
+        → Suits who (above_by boot calls (purpose_after (Sends (send_at place d) send) purpose) d.copies) (mount_in there d) (send_at place d) send
+    pub stays : (purpose : ℕ → Purpose) (other : ℕ) (a : Awaiting) → awaited_at (mount_in there d) other ≡ Some a
         → purpose_after (Sends (send_at place d) send) purpose other ≡ purpose other
-    pub asks : AsksIn d.copies (Sends (send_at place d) send)
-    pub fits : (purpose : ℕ → Purpose) → PurposesFit side purpose d.copies → PurposesFit side (purpose_after (Sends (send_at place d) send) purpose) d.copies
+    pub asks : (t : Copies) → (is_loud k ≡ true → Stays d.copies t) → AsksIn t (Sends (send_at place d) send)
+    pub order : side ≡ there → (above : Above) (m : Mounted) → IsOf k means ((record { move = Sends (send_at place d) send; above = above }) ∷ []) m
+    pub fits : (purpose : ℕ → Purpose) → PurposesFit there purpose d.copies → PurposesFit there (purpose_after (Sends (send_at place d) send) purpose) d.copies
 
   -- it went out, or nothing did; where it did, the slot is for it
-  pub record Puts (side there : Side) (place : ℕ) (send : Send) (d : Desk) (e : Bool × Desk) : Type 0 where
-    pub runs : Runs who means boot any true side [] same_seal d e.1
+  pub record Puts (k : Kind) (side there : Side) (place : ℕ) (send : Send) (d : Desk) (e : Bool × Desk) : Type 0 where
+    pub runs : Runs who means boot post any k side [] same_seal d e.1
     pub for_it : side ≡ there → e.0 ≡ true → (purpose : ℕ → Purpose) (small : e.1.calls < 4294967295)
         → (runs.ran purpose small).after ≡ purpose_after (Sends (send_at place d) send) purpose
 
-  own_sent : (side : Side) (label : CallLabel) (place : ℕ) (send : Send) (d : Desk) (o : Option Sent) → place < PLACES → MayGo side d place send
+  own_sent : (k : Kind) → MayRest k → (side : Side) (label : CallLabel) (place : ℕ) (send : Send) (d : Desk) (o : Option Sent) → place < PLACES → MayGo k side side d place send
       → Went (send_at place d) (mount_in side d) (sent_by means.mic (send_at place d) send (mount_in side d))
       → (sent_by means.mic (send_at place d) send (mount_in side d)).0 ≡ o
-      → Puts side side place send d
+      → Puts k side side place send d
       (is_some o, sent_out side label o (with_site side (record (site_at side d) { mount = (sent_by means.mic (send_at place d) send (mount_in side d)).1 }) d))
-  own_sent side label place send d None within go went is =
+  own_sent k may side label place send d None within go went is =
       let w = (sent_by means.mic (send_at place d) send (mount_in side d)).1 in
       let same : w ≡ mount_in side d = subst (λ (o : Option Sent). Goes (send_at place d) (mount_in side d) o w) is went in
       let s : Site = record (site_at side d) { mount = w } in
       record {
-        runs = loud side [] same_seal d (with_site side s d)
-            (kept side d (with_site side s d) (kept_site side s d same)
-            (λ purpose fit. subst (PurposesFit side purpose) (sym (sent_copies side label None s d)) fit));
+        runs =
+            kept k may side d (with_site side s d) (kept_site side s d same)
+            (λ purpose fit. subst (PurposesFit side purpose) (sym (sent_copies side label None s d)) fit);
         for_it = λ here none. absurd (no_calls none);
       }
-  own_sent side label place send d (Some sent) within go went is =
+  own_sent k may side label place send d (Some sent) within go went is =
       let at = send_at place d in
       let w = (sent_by means.mic at send (mount_in side d)).1 in
       let s : Site = record (site_at side d) { mount = w } in
@@ -301,6 +369,8 @@ module _ (who : Identity) (means : Means) (boot : ℕ) where
               accepted = p.accepted;
               more = going side sent.bytes sent.seal (labels.Call label) ∷ [];
               sent = p.sent;
+              posted = call_is_posted side label sent;
+              counts = λ small. grind (arith, small, counted, next);
               ran = λ purpose small.
                   let above = above_by boot (next_xid d.calls) (purpose_after (Sends at send) purpose) d.copies in
                   let below : d.calls < 4294967295 = grind (arith, small, counted, next) in
@@ -329,8 +399,11 @@ module _ (who : Identity) (means : Means) (boot : ℕ) where
                     );
                     outs = ap (λ (o : Option Sent). out_of o ++ []) is ∙ call_here side label sent;
                     takes = refl;
-                    asks = λ t stays.
-                        (still_in d.copies t (stays_then d.copies e.copies t (stays_same d.copies e.copies p.copies) (stays refl)) (Sends at send) go.asks, tt);
+                    asks = λ t stays. (go.asks t (λ loud. stays_then d.copies e.copies t (stays_same d.copies e.copies p.copies) (stays loud)), tt);
+                    order = go.order refl above (mount_in side d);
+                    numbers =
+                        let xid : next_xid d.calls ≡ d.calls + 1 = grind (arith, below, next) in
+                        ap (λ (o : Option Sent). map (λ (one : wire.Sent). at.xid) (out_of o) ++ []) is ∙ ap (λ (n : ℕ). n ∷ []) xid ∙ sym (number_here side label sent d.calls);
                   };
               fits = λ purpose small given fit. subst (PurposesFit side (purpose_after (Sends at send) purpose)) (sym p.copies) (go.fits purpose fit);
             };
@@ -339,28 +412,30 @@ module _ (who : Identity) (means : Means) (boot : ℕ) where
 
   -- ---- the same at the other server: here nothing happens
 
-  abbrev IsOther : Side → Side → Type 0
-  IsOther Source Dest = Unit {0}
-  IsOther Dest Source = Unit {0}
-  IsOther _ _ = ⊥
-
   xid_grows : (calls : ℕ) → next_xid calls < 4294967295 → calls ≤ next_xid calls
   xid_grows calls small =
       let next : next_xid calls ≡ min (calls + 1) 4294967295 = refl in
       grind (arith, small, next)
 
-  other_sent : (side there : Side) (label : CallLabel) (o : Option Sent) (s : Site) (d : Desk) → IsOther side there
-      → Runs who means boot any true side [] same_seal d (sent_out there label o (with_site there s d))
-  other_sent Source Dest label None s d x = loud Source [] same_seal d _ (kept Source d _ (record { mount = refl; calls = refl; sent = refl; accepted = refl }) (λ purpose fit. fit))
-  other_sent Source Dest label (Some sent) s d x =
-      loud Source [] same_seal d _
-      (rests any Source same_seal d _ (going Dest sent.bytes sent.seal (labels.Call label) ∷ []) refl (λ small. xid_grows d.calls small) refl refl refl (λ purpose given fit. fit))
-  other_sent Dest Source label None s d x = loud Dest [] same_seal d _ (kept Dest d _ (record { mount = refl; calls = refl; sent = refl; accepted = refl }) (λ purpose fit. fit))
-  other_sent Dest Source label (Some sent) s d x =
-      loud Dest [] same_seal d _
-      (rests any Dest same_seal d _ (going Source sent.bytes sent.seal (labels.Call label) ∷ []) refl (λ small. xid_grows d.calls small) refl refl refl (λ purpose given fit. fit))
-  other_sent Source Source label o s d x = absurd x
-  other_sent Dest Dest label o s d x = absurd x
+  xid_counts : (calls : ℕ) → next_xid calls < 4294967295 → next_xid calls ≡ calls + 1
+  xid_counts calls small =
+      let next : next_xid calls ≡ min (calls + 1) 4294967295 = refl in
+      grind (arith, small, next)
+
+  other_sent : (k : Kind) → MayRest k → (side there : Side) (label : CallLabel) (o : Option Sent) (s : Site) (d : Desk) → IsOther side there
+      → Runs who means boot post any k side [] same_seal d (sent_out there label o (with_site there s d))
+  other_sent k may Source Dest label None s d x = kept k may Source d _ (record { mount = refl; calls = refl; sent = refl; accepted = refl }) (λ purpose fit. fit)
+  other_sent k may Source Dest label (Some sent) s d x =
+      let one = going Dest sent.bytes sent.seal (labels.Call label) in
+      rests any k may Source same_seal d _ (one ∷ []) refl (λ small. xid_grows d.calls small) refl refl (call_is_posted Dest label sent) (λ small. xid_counts d.calls small) refl refl
+      (λ purpose given fit. fit)
+  other_sent k may Dest Source label None s d x = kept k may Dest d _ (record { mount = refl; calls = refl; sent = refl; accepted = refl }) (λ purpose fit. fit)
+  other_sent k may Dest Source label (Some sent) s d x =
+      let one = going Source sent.bytes sent.seal (labels.Call label) in
+      rests any k may Dest same_seal d _ (one ∷ []) refl (λ small. xid_grows d.calls small) refl refl (call_is_posted Source label sent) (λ small. xid_counts d.calls small) refl refl
+      (λ purpose given fit. fit)
+  other_sent k may Source Source label o s d x = absurd x
+  other_sent k may Dest Dest label o s d x = absurd x
 
   kept_there : (side there : Side) (s : Site) (d : Desk) → s.mount ≡ mount_in there d → IsKept side d (with_site there s d)
   kept_there Source Source s d same = record { mount = same; calls = refl; sent = refl; accepted = refl }
@@ -369,29 +444,29 @@ module _ (who : Identity) (means : Means) (boot : ℕ) where
   kept_there Dest Dest s d same = record { mount = same; calls = refl; sent = refl; accepted = refl }
 
   -- a call that goes out where it may
-  puts : (side there : Side) (label : CallLabel) (place : ℕ) (send : Send) (d : Desk) → place < PLACES → MayGo there d place send
+  puts : (k : Kind) → MayRest k → (side there : Side) (label : CallLabel) (place : ℕ) (send : Send) (d : Desk) → place < PLACES → MayGo k side there d place send
       → Went (send_at place d) (mount_in there d) (sent_by means.mic (send_at place d) send (mount_in there d))
-      → Puts side there place send d (put_out there label (at_site (site_at there d) (sent_by means.mic (send_at place d) send (mount_in there d))) d)
-  puts Source Source label place send d within go went = own_sent Source label place send d _ within go went refl
-  puts Dest Dest label place send d within go went = own_sent Dest label place send d _ within go went refl
-  puts Source Dest label place send d within go went = record { runs = other_sent Source Dest label _ _ d tt; for_it = λ here. absurd (apart here) }
+      → Puts k side there place send d (put_out there label (at_site (site_at there d) (sent_by means.mic (send_at place d) send (mount_in there d))) d)
+  puts k may Source Source label place send d within go went = own_sent k may Source label place send d _ within go went refl
+  puts k may Dest Dest label place send d within go went = own_sent k may Dest label place send d _ within go went refl
+  puts k may Source Dest label place send d within go went = record { runs = other_sent k may Source Dest label _ _ d tt; for_it = λ here. absurd (apart here) }
     where
       apart : Source ≡ Dest → ⊥
       apart e = absurd cc
-  puts Dest Source label place send d within go went = record { runs = other_sent Dest Source label _ _ d tt; for_it = λ here. absurd (apart here) }
+  puts k may Dest Source label place send d within go went = record { runs = other_sent k may Dest Source label _ _ d tt; for_it = λ here. absurd (apart here) }
     where
       apart : Dest ≡ Source → ⊥
       apart e = absurd cc
 
-  pub put : (side there : Side) (label : CallLabel) (place : ℕ) (send : Send) (b : Bool) (d : Desk) → place < PLACES → (b ≡ true → MayGo there d place send)
+  pub put : (k : Kind) → MayRest k → (side there : Side) (label : CallLabel) (place : ℕ) (send : Send) (b : Bool) (d : Desk) → place < PLACES → (b ≡ true → MayGo k side there d place send)
       → Went (send_at place d) (mount_in there d) (sent_by means.mic (send_at place d) send (mount_in there d))
-      → Puts side there place send d
+      → Puts k side there place send d
       (put_out there label (at_site (site_at there d) (sent_if b (sent_by means.mic (send_at place d) send (mount_in there d)) (mount_in there d))) d)
-  put side there label place send true d within go went = puts side there label place send d within (go refl) went
-  put side there label place send false d within go went = record {
-    runs = loud side [] same_seal d _
-        (kept side d _ (kept_there side there (record (site_at there d) { mount = mount_in there d }) d refl)
-        (λ purpose fit. subst (PurposesFit side purpose) (sym (sent_copies there label None (record (site_at there d) { mount = mount_in there d }) d)) fit));
+  put k may side there label place send true d within go went = puts k may side there label place send d within (go refl) went
+  put k may side there label place send false d within go went = record {
+    runs =
+        kept k may side d _ (kept_there side there (record (site_at there d) { mount = mount_in there d }) d refl)
+        (λ purpose fit. subst (PurposesFit side purpose) (sym (sent_copies there label None (record (site_at there d) { mount = mount_in there d }) d)) fit);
     for_it = λ here none. absurd (no_calls none);
   }
 

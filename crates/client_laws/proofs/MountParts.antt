@@ -45,11 +45,12 @@ use Rattle.session_calls.specs.declared.slot_call.SlotCall.{SlotCall}
 use Rattle.session_client.specs.declared.setup.Setup.{Setup}
 use Rattle.session_client.specs.declared.setup.Setup.TheVariants as setups
 use Rattle.wire_model.specs.Wire.{Acts, Purpose}
-use Rattle.write_queue.specs.Steps.{after}
 use Rattle.write_queue.specs.declared.work.Work.{Work}
 use Rattle.write_queue.specs.declared.work.Work.TheVariants as works
+use Rattle.client_laws.proofs.RunKinds.{Silent}
 use Rattle.client_laws.proofs.MountMoves.{IsKept, Ran, mount_in}
 use Rattle.client_laws.specs.CallerLaws.{AllAsk, AsksOf, IsMountRun, MountStep, above_by, acts_in, is_safe, is_said_stable, knows_first, purpose_for, ready_in, taken_in}
+use Rattle.client_laws.specs.Order.{AreLosing, numbers_in}
 
 -- ---- places
 
@@ -217,12 +218,20 @@ pub takes_nothing : (means : Means) (a : Above) (places : List ℕ) (m : Mounted
 takes_nothing means a [] m = refl
 takes_nothing means a (place ∷ places) m = takes_nothing means a places (given_up place m)
 
+pub falls_lose : (a : Above) (places : List ℕ) → AreLosing (falling a places)
+falls_lose a [] = (refl, tt)
+falls_lose a (place ∷ places) = (refl, falls_lose a places)
+
+pub falls_uncounted : (means : Means) (a : Above) (places : List ℕ) (m : Mounted) → numbers_in means (falling a places) m ≡ []
+falls_uncounted means a [] m = refl
+falls_uncounted means a (place ∷ places) m = falls_uncounted means a places (given_up place m)
+
 pub falls_ask : (t : Copies) (a : Above) (places : List ℕ) → AllAsk t (falling a places)
 falls_ask t a [] = (tt, tt)
 falls_ask t a (place ∷ places) = (tt, falls_ask t a places)
 
 abbrev pub falls_here : (who : Identity) (means : Means) (boot : ℕ) (purpose : ℕ → Purpose) (m : Mounted) (d e : Desk) (side : Side)
-    → mount_in side d ≡ m → mount_in side e ≡ fallen (given_up_at all_places m) → e.calls ≡ d.calls → e.copies ≡ d.copies → Ran who means boot false side purpose [] [] d e
+    → mount_in side d ≡ m → mount_in side e ≡ fallen (given_up_at all_places m) → e.calls ≡ d.calls → e.copies ≡ d.copies → Ran who means boot Silent side purpose [] [] d e
 falls_here who means boot purpose m d e side before behind calls copies =
     let a = above_by boot d.calls purpose d.copies in
     record {
@@ -237,4 +246,6 @@ falls_here who means boot purpose m d e side before behind calls copies =
       outs = shows_nothing means a all_places (mount_in side d);
       takes = takes_nothing means a all_places (mount_in side d);
       asks = λ t stays. falls_ask t a all_places;
+      order = falls_lose a all_places;
+      numbers = falls_uncounted means a all_places (mount_in side d);
     }

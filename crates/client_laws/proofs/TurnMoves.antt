@@ -59,12 +59,12 @@ use Rattle.client_laws.specs.Turns.{IsTurn, MayTurn, Turn, Asks, Begins, Hears, 
 -- ---- how a step ends
 
 -- a table of copies at the beginning, and what the step came to
-abbrev EndChanges : {M : Type 0} → (ℕ → Event → Type 0) → Copies → ClientState M × Outbox → Type 0
+abbrev pub EndChanges : {M : Type 0} → (ℕ → Event → Type 0) → Copies → ClientState M × Outbox → Type 0
 EndChanges cause start end =
     (length end.0.copies.copies ≡ length start.copies) × ((j : ℕ) → Changes (cause j) (copy_at j start) (copy_at j end.0.copies) (words_of j end.1.notes))
 
 -- nothing happens to copies, and nothing is told of them
-nothing_changes : {M : Type 0} (cause : ℕ → Event → Type 0) (c : ClientState M) (end : ClientState M × Outbox) → end.0.copies ≡ c.copies
+pub nothing_changes : {M : Type 0} (cause : ℕ → Event → Type 0) (c : ClientState M) (end : ClientState M × Outbox) → end.0.copies ≡ c.copies
     → ((j : ℕ) → words_of j end.1.notes ≡ []) → EndChanges cause c.copies end
 nothing_changes cause c end same silent = (
   ap (λ (t : Copies). length t.copies) same,
@@ -83,7 +83,7 @@ desk_changes cause d a back c empty goes =
     )
 
 -- a draw failed: nothing changes
-undrawn_changes : {M : Type 0} (cause : ℕ → Event → Type 0) (c : ClientState M) → EndChanges cause c.copies (undrawn c)
+pub undrawn_changes : {M : Type 0} (cause : ℕ → Event → Type 0) (c : ClientState M) → EndChanges cause c.copies (undrawn c)
 undrawn_changes cause c = nothing_changes cause c (undrawn c) refl (λ j. refl)
 
 step_to : {M W : Type 0} (cause : ℕ → Event → Type 0) (ways : Ways) (gives : W → Drawn → W → Type 0) (d : Desk) (does : Acting) (back : Acting → ContextTable ℕ)
@@ -95,7 +95,7 @@ step_to cause ways gives d does back c v w (Some a) empty same own goes on =
     subst (λ (t : Copies). EndChanges cause t (settled a (back a) c, given a)) same
     (desk_changes cause d a (back a) c empty (goes_then goes (goes_of (moves_wider own (own_goes_on c.setting ways.means.mic ways.started gives does v w a on)))))
 
-step_changes : {M W : Type 0} (cause : ℕ → Event → Type 0) (ways : Ways) (gives : W → Drawn → W → Type 0) (d : Desk) (does : Acting) (back : Acting → ContextTable ℕ)
+pub step_changes : {M W : Type 0} (cause : ℕ → Event → Type 0) (ways : Ways) (gives : W → Drawn → W → Type 0) (d : Desk) (does : Acting) (back : Acting → ContextTable ℕ)
     (c : ClientState M) (v w : W) (end : ClientState M × Outbox) → d.out.notes ≡ [] → d.copies ≡ c.copies
     → ((j : ℕ) (event : Event) → is_own event ≡ true → cause j event) → Goes cause d does.desk
     → IsStep ways gives does back c v w end → EndChanges cause c.copies end
@@ -104,19 +104,19 @@ step_changes cause ways gives d does back c v w end empty same own goes step =
 
 -- ---- commands
 
-itself : {M : Type 0} (ways : Ways) (turn : Turn) (c : ClientState M) (j : ℕ) (event : Event) → is_own event ≡ true → Cause ways turn c j event
+pub itself : {M : Type 0} (ways : Ways) (turn : Turn) (c : ClientState M) (j : ℕ) (event : Event) → is_own event ≡ true → Cause ways turn c j event
 itself ways turn c j event own = ByItself event own
 
 asked_moves : (b : Bool) (mic : Mic) (j : ℕ) (query : Query) (d : Desk) → j < 256 → OwnMoves d (asked_if b mic j query d)
 asked_moves true mic j query d small = own_asked mic j query d small
 asked_moves false mic j query d small = own_idle j d
 
-own_end : {M : Type 0} (ways : Ways) (turn : Turn) (c : ClientState M) (now : ℕ) (a : Acting) → OwnMoves (desk_at now c) a.desk
+pub own_end : {M : Type 0} (ways : Ways) (turn : Turn) (c : ClientState M) (now : ℕ) (a : Acting) → OwnMoves (desk_at now c) a.desk
     → EndChanges (Cause ways turn c) c.copies (settled a c.back c, given a)
 own_end ways turn c now a moves = desk_changes (Cause ways turn c) (desk_at now c) a c.back c refl (goes_of (moves_wider (itself ways turn c) moves))
 
 -- a work is queued
-work_still : {M : Type 0} (side : Side) (work : Work) (now : ℕ) (c : ClientState M) → IsStill (desk_at now c) (with_work side work (acting_at now c)).desk
+pub work_still : {M : Type 0} (side : Side) (work : Work) (now : ℕ) (c : ClientState M) → IsStill (desk_at now c) (with_work side work (acting_at now c)).desk
 work_still Source work now c = record { copies = refl; notes = refl }
 work_still Dest work now c = record { copies = refl; notes = refl }
 
@@ -142,7 +142,7 @@ begun_to ways gives j spec secret now c v w (Some a) on =
       each = changes.1;
     }
 
-begun_changes : {M W : Type 0} (ways : Ways) (gives : W → Drawn → W → Type 0) (j : ℕ) (spec : CopySpec) (now : ℕ) (c : ClientState M) (drawn : Drawn) (v w : W)
+pub begun_changes : {M W : Type 0} (ways : Ways) (gives : W → Drawn → W → Type 0) (j : ℕ) (spec : CopySpec) (now : ℕ) (c : ClientState M) (drawn : Drawn) (v w : W)
     (end : ClientState M × Outbox) → IsBegunBy drawn ways gives j spec now c v w end → TurnChanges ways (Begins j spec now) c end.0 end.1
 begun_changes ways gives j spec now c (Got secret) v w end step =
     subst (λ (e : ClientState _ × Outbox). TurnChanges ways (Begins j spec now) c e.0 e.1) (sym step.is)
@@ -207,12 +207,12 @@ compound_changes ways gives side message now c call args (Ok compound) v w end f
 
 -- ---- other calls: only contexts and the second change
 
-created_changes : {M : Type 0} (cause : ℕ → Event → Type 0) (misspelt : Bool) (mic : Mic) (second : ℕ) (side : Side) (call : Call) (c : ClientState M)
+pub created_changes : {M : Type 0} (cause : ℕ → Event → Type 0) (misspelt : Bool) (mic : Mic) (second : ℕ) (side : Side) (call : Call) (c : ClientState M)
     → EndChanges cause c.copies (created misspelt mic second side call c)
 created_changes cause true mic second side call c = nothing_changes cause c (created true mic second side call c) refl (λ j. refl)
 created_changes cause false mic second side call c = nothing_changes cause c (created false mic second side call c) refl (λ j. refl)
 
-inited_changes : {M : Type 0} (cause : ℕ → Event → Type 0) (failed : Bool) (second : ℕ) (side : Side) (told : InitAnswer) (back : ContextTable ℕ) (c : ClientState M)
+pub inited_changes : {M : Type 0} (cause : ℕ → Event → Type 0) (failed : Bool) (second : ℕ) (side : Side) (told : InitAnswer) (back : ContextTable ℕ) (c : ClientState M)
     → EndChanges cause c.copies (inited_unless failed second side told back c)
 inited_changes cause true second side told back c = undrawn_changes cause c
 inited_changes cause false second side told back c = nothing_changes cause c (inited_unless false second side told back c) refl (λ j. refl)

@@ -1,5 +1,5 @@
 -- What a client does at one server in a turn, as steps of its mount there (`caller_laws`), each of which it may take.
-use Rattle.std.specs.Prelude.{ℕ, ◌≡◌, ◌⊎◌, ◌==◌, ◌&&◌, Bool, true, false, if◌then◌else◌, is_some, List, [], ◌∷◌, Option, Some, None}
+use Rattle.std.specs.Prelude.{ℕ, ◌≡◌, ◌==◌, ◌&&◌, Bool, true, false, if◌then◌else◌, is_some, List, [], ◌∷◌, Option, Some, None}
 use Rattle.std.specs.List.{AllByRecursion, flat_map}
 use Rattle.wire_xdr.specs.Cursor.{IsBytes}
 use Rattle.caller_laws.specs.Good.{Identity, IsOwnToken}
@@ -19,7 +19,6 @@ use Rattle.client_copies.specs.declared.copy.Stage.TheVariants as stages
 use Rattle.client_copies.specs.declared.copy.Step.TheVariants as steps
 use Rattle.client_core.specs.Endings.{Ways}
 use Rattle.client_core.specs.State.{ClientState}
-use Rattle.client_core.specs.Telling.{mount_at}
 use Rattle.gss_ctx.specs.Seals.{Mic}
 use Rattle.mount.specs.State.{Mounted}
 use Rattle.mount.specs.Taking.{Means}
@@ -33,7 +32,6 @@ use Rattle.nfs_base.specs.declared.side.Side.TheVariants.{Source, Dest}
 use Rattle.nfs_base.specs.declared.state_id.StateId.{StateId}
 use Rattle.outbox.specs.declared.label.Label.{Label}
 use Rattle.outbox.specs.declared.label.Label.TheVariants as labels
-use Rattle.outbox.specs.declared.outgoing.Outbox.{Outbox}
 use Rattle.outbox.specs.declared.outgoing.Outgoing.{Outgoing}
 use Rattle.outbox.specs.declared.outgoing.To.{To}
 use Rattle.outbox.specs.declared.outgoing.To.TheVariants as receivers
@@ -46,7 +44,6 @@ use Rattle.session_client.specs.declared.asked.Asked.{Asked}
 use Rattle.streams.specs.declared.draws.Drawn.{Drawn}
 use Rattle.streams.specs.declared.draws.Drawn.TheVariants.{Got}
 use Rattle.wire_model.specs.Wire.{Acts, ForCopy, ForFirst, ForLast, ForOther, ForStatus, Purpose, Sent}
-use Rattle.client_laws.specs.Turns.{Hears, Turn}
 
 -- ---- what the client adds to a mount
 
@@ -128,8 +125,9 @@ AsksOf copy (calls.OnFile file (asks.Status id)) = IsOf copy (AsksName id)
 AsksOf copy (calls.OnFile file (asks.Cancel id)) = IsOf copy (AsksName id)
 AsksOf copy _ = Unit {0}
 
+-- and what it waits for has come about
 abbrev pub AsksIn : Copies → Move → Type 0
-AsksIn t (Sends at (InSlot under call)) = AsksOf (copy_at at.place t) call
+AsksIn t (Sends at (InSlot under call)) = (ready_in t (purpose_for at.place call) ≡ true) × AsksOf (copy_at at.place t) call
 AsksIn t _ = Unit {0}
 
 abbrev pub AllAsk : Copies → List MountStep → Type 0
@@ -225,29 +223,7 @@ FitsAt Dest purpose j copy = FitsDest purpose j copy
 pub record PurposesFit (side : Side) (purpose : ℕ → Purpose) (t : Copies) : Type 0 where
   pub each : (j : ℕ) → (j ≡ 0 → ⊥) → (copy : ClientCopy) → copy_at j t ≡ Some copy → FitsAt side purpose j copy
 
--- ---- a turn of the client
-
--- The mount takes nothing, or the record that comes from its server, under the seal that the outbox tells.
-pub record HearsAt (side : Side) (turn : Turn) (accepted : Option Seal) (taken : List (List ℕ × Option Seal)) : Type 0 where
-  pub message : List ℕ
-  pub now : ℕ
-  pub turn_is : turn ≡ Hears side message now
-  pub is : taken ≡ (message, accepted) ∷ []
-
-abbrev pub IsTaken : Side → Turn → Option Seal → List (List ℕ × Option Seal) → Type 0
-IsTaken side turn accepted taken = (taken ≡ []) ⊎ HearsAt side turn accepted taken
-
--- At this server the turn is a run of the mount's steps: they send what goes out to it, and take what comes from it. Each call in a
--- slot asks by what is known of the copy of its number; while a copy awaits its answer, that call is what its slot is for.
-pub record IsMountTurn {M : Type 0} (who : Identity) (ways : Ways) (boot : ℕ) (side : Side) (purpose : ℕ → Purpose) (turn : Turn)
-    (c d : ClientState M) (out : Outbox) : Type 0 where
-  pub after : ℕ → Purpose
-  pub steps : List MountStep
-  pub run : IsMountRun who ways.means steps (above_at boot purpose c) (mount_at side c) (above_at boot after d) (mount_at side d)
-  pub sent : flat_map (λ (acts : Acts). acts.out) (acts_in ways.means steps (mount_at side c)) ≡ calls_to side out.sent
-  pub asks : AllAsk d.copies steps
-  pub fits : PurposesFit side purpose c.copies → PurposesFit side after d.copies
-  pub taken : IsTaken side turn out.accepted (flat_map taken_in (acts_in ways.means steps (mount_at side c)))
+-- ---- tokens
 
 -- The tokens that the client starts with drawn nonces are its own; `tokens_are_their_senders` of `caller_laws` says so of every
 -- mechanism.

@@ -1,8 +1,12 @@
+pub mod Answered
 pub mod CallerLaws
 pub mod Causes
 pub mod Changes
 pub mod Lives
+pub mod MountTurns
+pub mod Order
 pub mod Telling
 pub mod TurnLaws
 pub mod Turns
+pub mod WholeTurns
 pub mod WordLaws

@@ -1,5 +1,5 @@
 -- What a client is told to do, one step a turn, and a run of turns.
-use Rattle.std.specs.Prelude.{ℕ, ◌≡◌, ◌≤◌, ◌<◌, ◌++◌, List, [], ◌∷◌, None}
+use Rattle.std.specs.Prelude.{ℕ, ◌≡◌, ◌≤◌, ◌<◌, ◌==◌, ◌++◌, Bool, false, List, [], ◌∷◌, None}
 use Rattle.client_copies.specs.declared.copy.Query.{Query}
 use Rattle.client_copies.specs.declared.table.TheConstants.{MOST_COPIES}
 use Rattle.nfs_base.specs.declared.copy_spec.CopySpec.{CopySpec}
@@ -37,6 +37,11 @@ abbrev pub MayTurn : {M : Type 0} → Turn → ClientState M → Type 0
 MayTurn (Begins j spec now) c = (1 ≤ j) × (j < MOST_COPIES) × (copy_of j c ≡ None)
 MayTurn (Asks query j now) c = j < 256
 MayTurn _ c = Unit {0}
+
+-- the copy is begun in this turn
+abbrev pub begins : ℕ → Turn → Bool
+begins j (Begins i spec now) = i == j
+begins j _ = false
 
 -- a run of turns, and all that was told in it
 abbrev pub IsRun : {M W : Type 0} → Ways → (W → Drawn → W → Type 0) → List Turn → ClientState M → W → ClientState M → W → List Note → Type 0
