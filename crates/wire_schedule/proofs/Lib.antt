@@ -1,0 +1,10 @@
+pub mod ExpansionLemmas
+pub mod FirstBadLemmas
+pub mod GrammarLemmas
+pub mod HexLemmas
+pub mod NumeralLemmas
+pub mod ScanLemmas
+pub mod ScheduleLemmas
+pub mod SpellingLemmas
+pub mod TextLemmas
+pub mod WordsLemmas
