@@ -1,0 +1,4 @@
+pub mod Stored
+pub mod Grown
+pub mod Marked
+pub mod Looked
