@@ -1,0 +1,62 @@
+use Rattle.std.proofs.Common.{◌≡◌, ℕ, ◌+◌, ◌*◌, List, ap, sym, ◌∙◌, subst, le_of_eq, le_trans, arith}
+use Rattle.copy_privs.specs.declared.peer.Peer.{Peer}
+use Rattle.nfs_base.specs.declared.net_loc.NetLoc.{NetLoc}
+use Rattle.source_core.specs.Core.{IsNew}
+use Rattle.wire_run.specs.Setting.{source_peers, source_place}
+use Rattle.wire_run.specs.Fresh.{Shape}
+use Rattle.wire_run.specs.declared.setting.TheConstants.{SOURCE_TAG}
+use Rattle.wire_run.proofs.Making.{formatted_files, read_formatted, source_fresh}
+use Rattle.wire_run.proofs.ends.open_source.Goals as goal
+
+pub returns-then-files : goal.returns-then-files
+returns-then-files g c =
+    let shape : Shape = record { files = c.args.files; blocks = c.args.blocks } in
+    let core = c.in-Ok-2.core in
+    let faults = rw c.in-Ok.is at c.in_ok-disk.ensures.faults in
+    let faults2 = rw c.in-Ok-2.is at c.in_ok-core.ensures.faults in
+    let size = rw c.in-Ok.is at c.in_ok-disk.ensures.size in
+    let size2 = rw c.in-Ok-2.is at c.in_ok-core.ensures.size in
+    let peers : c.in_ok-peers.peers ≡ source_peers = c.in_ok-peers.ensures in
+    let own : c.in_ok-own.own ≡ source_place = c.in_ok-own.ensures.is in
+    let new =
+    subst (λ (ps : List Peer). IsNew c.args.mech ps source_place core) peers
+    (subst (λ (loc : NetLoc). IsNew c.args.mech c.in_ok-peers.peers loc core) own (rw c.in-Ok-2.is at c.in_ok-core.ensures.new)) in
+    record {
+      made = record {
+        steps = new.steps;
+        count = sym c.files.ensures ∙ ap (λ (n : ℕ). n + 1) c.if-files.true;
+        fits = rw c.in-Ok.is at c.in_ok-disk.ensures.small;
+        later = le_trans faults faults2;
+        as_large = size2 ∙ size;
+      };
+      fresh = λ told.
+          let all = rw c.in-Ok.is at (c.in_ok-disk.ensures.formatted told) in
+          let is = read_formatted (g.D.Disk.size c.in-Ok.disk) c.args.files c.args.blocks SOURCE_TAG (g.D.Disk.timeline c.in-Ok.disk) all in
+          let volume = rw c.in-Ok-2.is at (c.in_ok-core.ensures.volume told) in
+          let tag = rw c.in-Ok-2.is at (c.in_ok-core.ensures.tag told) in
+          source_fresh g.D.Disk.size c.args.mech shape core new (volume ∙ is.opened) (tag ∙ is.tag_is);
+    }
+
+pub returns-else-files : goal.returns-else-files
+returns-else-files g c =
+    let core = c.in-Ok-2.core in
+    let faults = rw c.in-Ok.is at c.in_ok-disk.ensures.faults in
+    let faults2 = rw c.in-Ok-2.is at c.in_ok-core.ensures.faults in
+    let size = rw c.in-Ok.is at c.in_ok-disk.ensures.size in
+    let size2 = rw c.in-Ok-2.is at c.in_ok-core.ensures.size in
+    let disk = c.hand_back.ensures.disk in
+    record {
+      why = (
+        λ told.
+            let all = rw c.in-Ok.is at (c.in_ok-disk.ensures.formatted told) in
+            let is = read_formatted (g.D.Disk.size c.in-Ok.disk) c.args.files c.args.blocks SOURCE_TAG (g.D.Disk.timeline c.in-Ok.disk) all in
+            let volume = rw c.in-Ok-2.is at (c.in_ok-core.ensures.volume told) in
+            let count = formatted_files _ c.args.files (c.args.blocks * 4096) (volume ∙ is.opened) in
+            let told_count = c.files.ensures in
+            let same : c.files.result ≡ c.args.files = omega (arith, count, told_count) in
+            c.if-files.false same,
+        rw c.in-Ok.is at c.in_ok-disk.ensures.small,
+      );
+      later = le_trans faults (le_trans faults2 (le_of_eq (ap g.D.Disk.faults (sym disk))));
+      as_large = ap g.D.Disk.size disk ∙ (size2 ∙ size);
+    }

@@ -1,0 +1,27 @@
+use Rattle.std.proofs.Common.{refl}
+use Rattle.std.specs.String.{string_bytes}
+use Rattle.wire_log.specs.Keeping.{reading}
+use Rattle.wire_run.specs.Ends.{count_gives, words_of}
+use Rattle.wire_machine.specs.Steps.{command_of}
+use Rattle.wire_run.proofs.Arrivals.{command_begun, command_comes, command_kept}
+use Rattle.wire_run.proofs.Keeping.{starved}
+use Rattle.wire_run.proofs.stage.Stage.command.Goals as goal
+
+pub returns-in_err-out-clause-keeps : goal.returns-in_err-out-clause-keeps
+returns-in_err-out-clause-keeps g c = starved g.D.Disk.Told c.args.self.now c.args.self.now.source c.args.self.now.dest c.client_commanded.new.client c.client_commanded.new.draws c.args.self.now.clock c.requires.fair.ready c.requires.fair.bytes refl refl c.in_err-out.ensures.err
+
+pub returns-clause-comes : goal.returns-clause-comes
+returns-clause-comes g c =
+    command_comes g.D.Disk.Told (words_of g.M.Mechanism.mic_of g.M.Mechanism.derived g.M.Mechanism.started g.M.Mechanism.accepted g.M.Mechanism.finished count_gives) reading g.D.Disk.faults g.D.Disk.size
+    c.args.event.now c.args.self.now c.settle.new.self c.client_commanded.new.client c.client_commanded.new.draws c.in_ok-out.out (string_bytes c.args.text.now) (string_bytes c.settle.new.text) c.settle.result
+    c.requires.fair.ready c.requires.command.there c.in_ok-out.ensures.acts c.settle.ensures.keeps c.settle.ensures.settled
+
+pub returns-clause-keeps : goal.returns-clause-keeps
+returns-clause-keeps g c =
+    command_kept g.D.Disk.Told (words_of g.M.Mechanism.mic_of g.M.Mechanism.derived g.M.Mechanism.started g.M.Mechanism.accepted g.M.Mechanism.finished count_gives) reading g.D.Disk.faults g.D.Disk.size
+    (command_of c.args.event.now) c.args.self.now c.settle.new.self c.client_commanded.new.client c.client_commanded.new.draws c.in_ok-out.out c.requires.fair.ready c.requires.command.there c.in_ok-out.ensures.acts c.settle.ensures.keeps
+
+pub returns-clause-begun : goal.returns-clause-begun
+returns-clause-begun g c =
+    command_begun g.D.Disk.Told (words_of g.M.Mechanism.mic_of g.M.Mechanism.derived g.M.Mechanism.started g.M.Mechanism.accepted g.M.Mechanism.finished count_gives) reading g.D.Disk.faults g.D.Disk.size
+    c.args.event.now c.args.self.now.clock c.args.self.now.client c.client_commanded.new.client c.settle.new.self.client c.args.self.now.draws c.client_commanded.new.draws c.in_ok-out.out c.requires.command.there c.in_ok-out.ensures.acts c.settle.ensures.keeps.client

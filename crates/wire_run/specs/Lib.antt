@@ -1,0 +1,10 @@
+pub mod Commanding
+pub mod Ends
+pub mod Fresh
+pub mod Making
+pub mod Run
+pub mod Running
+pub mod Setting
+pub mod Stage
+pub mod System
+pub mod Trace

@@ -1,0 +1,155 @@
+-- The run of a schedule from its beginning, and what is put of it. Own definitions.
+use Rattle.std.specs.Prelude.{◌≡◌, ◌⊎◌, ℕ, Bool, true, List, [], ◌∷◌, ◌++◌, length, take, map, Option, Some, None, is_some}
+use Rattle.std.specs.Io.KnownBytes.{Appends, Keeps}
+use Rattle.outcome.specs.Causes.{Rose}
+use Rattle.wire_lines.specs.LineText.{lines_text}
+use Rattle.wire_machine.specs.Lines.{lines_of}
+use Rattle.wire_machine.specs.Steps.{after_steps}
+use Rattle.wire_run.specs.declared.fresh.Unmade.TheVariants as unmade
+use Rattle.wire_run.specs.declared.run.Ran.{Ran}
+use Rattle.wire_run.specs.declared.run.Ran.TheVariants as ran
+use Rattle.std.specs.List.{list_any}
+use Rattle.std.specs.Option.{option_or}
+use Rattle.client_core.specs.State.{new_client}
+use Rattle.copy_model.specs.Volume.{Volume}
+use Rattle.nfs_base.specs.declared.side.Side.{Side}
+use Rattle.nfs_base.specs.declared.side.Side.TheVariants.{Source, Dest}
+use Rattle.streams.specs.Sink.{AppendsFront}
+use Rattle.wire_machine.specs.Check.{Reading}
+use Rattle.wire_machine.specs.Runs.{End, MistakenBy, Numbered, Runs, TooLargeAt, Whole, last_line}
+use Rattle.wire_machine.specs.declared.choice.Choice.{Choice}
+use Rattle.wire_run.specs.Fresh.{IsFreshDest, IsFreshSource, Shape, Small, event_small}
+use Rattle.wire_run.specs.Running.{Later, RunMachines, RunStep, RunWorld, Running, disk_of, failed_calls, faults_in, size_in}
+use Rattle.wire_run.specs.Setting.{dest_place, source_place, user}
+use Rattle.wire_run.specs.System.{shown_at}
+use Rattle.wire_schedule.specs.declared.event.Event.{Event}
+use Rattle.wire_schedule.specs.declared.event.Event.TheVariants as kinds
+
+-- the first volume of a schedule for which its disk is too small
+abbrev pub first_small : (source dest : ℕ) → List Numbered → Option Small
+first_small source dest [] = None
+first_small source dest (e ∷ events) = option_or (event_small source dest e.event) (first_small source dest events)
+
+-- ---- the first world of a schedule. One that asks for no server has none, and nothing happens in it.
+
+abbrev pub shape_by : Side → Event → Option Shape
+shape_by Source (kinds.Volume Source files blocks) = Some (record { files = files; blocks = blocks })
+shape_by Dest (kinds.Volume Dest files blocks) = Some (record { files = files; blocks = blocks })
+shape_by side event = None
+
+abbrev pub shape_or : Option Shape → Shape → Shape
+shape_or (Some shape) other = shape
+shape_or None other = other
+
+abbrev pub shape_of : Side → List Numbered → Shape
+shape_of side [] = record { files = 0; blocks = 0 }
+shape_of side (e ∷ events) = shape_or (shape_by side e.event) (shape_of side events)
+
+pub record IsFirst {M : Type 0} (mech : M) (events : List Numbered) (w : RunWorld M) : Type 0 where
+  pub source : IsFreshSource mech (shape_of Source events) w.source
+  pub dest : IsFreshDest mech (shape_of Dest events) w.dest
+  pub client : w.client ≡ new_client (record { mech = mech; me = user; source = source_place; dest = dest_place })
+  pub draws : w.draws ≡ 0
+  pub clock : w.clock ≡ 0
+  pub steps : w.steps ≡ 0
+  pub log : w.log ≡ []
+
+-- a schedule asks for a server
+abbrev pub asks_for : Side → List Numbered → Bool
+asks_for side events = list_any (λ (e : Numbered). is_some (shape_by side e.event)) events
+
+-- ---- the run of a schedule: these small steps, this end, and these bytes
+
+-- the volumes of both servers
+pub record Volumes : Type 0 where
+  pub source : Volume
+  pub dest : Volume
+
+abbrev pub volume_in : Volumes → Side → Volume
+volume_in last Source = last.source
+volume_in last Dest = last.dest
+
+abbrev pub volumes_of : {M : Type 0} → RunMachines M → RunWorld M → Volumes
+volumes_of m w = record { source = m.source_volume w.source; dest = m.dest_volume w.dest }
+
+-- what the disks did: in each small step, and how many calls failed on each server's disk
+pub record Did : Type 0 where
+  pub choices : List Choice
+  pub failed : Side → ℕ
+
+pub record ScheduleRuns {M : Type 0} (m : RunMachines M) (read : Reading) (mech : M) (events : List Numbered)
+    (did : Did) (end : End) (lines : List ℕ) (records : ℕ) (last : Volumes) : Type 0 where
+  pub first : RunWorld M
+  pub is_first : IsFirst mech events first
+  pub steps : List (RunStep M)
+  pub runs : Runs m read first events steps end
+  pub choices : did.choices ≡ map (λ (s : RunStep M). s.choice) steps
+  pub failed : (side : Side) → did.failed side ≡ failed_calls side steps
+  pub lines_are : lines ≡ lines_text (lines_of m first steps)
+  pub records_are : records ≡ length (after_steps first steps).log
+  pub last_are : last ≡ volumes_of m (after_steps first steps)
+
+-- Some of it: a front of what the first so many events put.
+pub record RunsFront {M : Type 0} (m : RunMachines M) (read : Reading) (mech : M) (events : List Numbered)
+    (did : Did) (old new : Option (List ℕ)) : Type 0 where
+  pub done : ℕ
+  pub end : End
+  pub lines : List ℕ
+  pub records : ℕ
+  pub last : Volumes
+  pub runs : ScheduleRuns m read mech (take done events) did end lines records last
+  pub puts : AppendsFront old new (lines ++ last_line records end)
+
+-- All of its lines, with the last where it is whole: one that ends otherwise leaves its last line to be put.
+abbrev pub put_by : End → (lines : List ℕ) → (records : ℕ) → List ℕ
+put_by Whole lines records = lines ++ last_line records Whole
+put_by end lines records = lines
+
+pub record RunsTo {M : Type 0} (m : RunMachines M) (read : Reading) (mech : M) (events : List Numbered)
+    (did : Did) (end : End) (last : Volumes) (old new : Option (List ℕ)) : Type 0 where
+  pub lines : List ℕ
+  pub records : ℕ
+  pub runs : ScheduleRuns m read mech events did end lines records last
+  pub puts : Appends old new (put_by end lines records)
+
+-- ---- how a run ended, by its answer
+
+-- a disk is too small: it is as it was handed in, and nothing was put
+pub record RanShort {D M : Type 0} (small : Option Small) (old new : Running D M) (taken now_taken : Option (List ℕ)) (need have : ℕ) : Type 0 where
+  pub side : Side
+  pub is : small ≡ Some (record { side = side; need = need; have = have })
+  pub puts : Keeps taken now_taken
+  pub untouched : disk_of new side ≡ disk_of old side
+
+abbrev pub RanPuts : {D M : Type 0} → (told : Type 0) → RunMachines M → Reading → M → Option Small → List Numbered → Did → Volumes → Running D M → Running D M
+    → Option (List ℕ) → Option (List ℕ) → Ran → Type 0
+RanPuts told m read mech small events did last old new taken now_taken ran.Whole = (small ≡ None) × (told → RunsTo m read mech events did Whole last taken now_taken)
+RanPuts told m read mech small events did last old new taken now_taken (ran.OverLimit line) = told → RunsTo m read mech events did (TooLargeAt line) last taken now_taken
+RanPuts told m read mech small events did last old new taken now_taken (ran.Mistaken mistake) = told → RunsTo m read mech events did (MistakenBy mistake) last taken now_taken
+RanPuts told m read mech small events did last old new taken now_taken ran.WriteFault = told → RunsFront m read mech events did taken now_taken
+RanPuts told m read mech small events did last old new taken now_taken (ran.Unmade unmade.DiskFailed) = Keeps taken now_taken
+RanPuts told m read mech small events did last old new taken now_taken (ran.Unmade (unmade.TooSmall need have)) = RanShort small old new taken now_taken need have
+RanPuts told m read mech small events did last old new taken now_taken (ran.Unmade (unmade.NotVolume block at)) = (told → ⊥) × Keeps taken now_taken
+
+-- A write fault comes only where the sink's count rose, and a failure to make a volume only where a disk's did.
+abbrev pub RanHasCause : {D M : Type 0} → (faults : D → ℕ) → Running D M → Running D M → (before now : ℕ) → Ran → Type 0
+RanHasCause faults old new before now ran.WriteFault = Rose before now
+RanHasCause faults old new before now (ran.Unmade unmade.DiskFailed) =
+    Rose (faults_in faults old.source) (faults_in faults new.source) ⊎ Rose (faults_in faults old.dest) (faults_in faults new.dest)
+RanHasCause faults old new before now result = Unit {0}
+
+-- How a run ended, with its own choices.
+pub record RanIs {D M : Type 0} (told : Type 0) (m : RunMachines M) (read : Reading) (faults size : D → ℕ) (mech : M) (events : List Numbered) (old new : Running D M)
+    (taken now_taken : Option (List ℕ)) (result : Ran) : Type 0 where
+  pub did : Did
+  pub last : Volumes
+  pub holds : told → result ≡ ran.Whole → (side : Side) → asks_for side events ≡ true → shown_at new.source_state new.dest_state side ≡ Some (volume_in last side)
+  pub choices : new.choices ≡ did.choices
+  pub source : told → Later faults size (did.failed Source) old.source new.source
+  pub dest : told → Later faults size (did.failed Dest) old.dest new.dest
+  pub puts : RanPuts told m read mech (first_small (size_in size old.source) (size_in size old.dest) events) events did last old new taken now_taken result
+
+-- Memory ran out in a run: a front of what is due was put.
+pub record RanOut {M : Type 0} (told : Type 0) (m : RunMachines M) (read : Reading) (mech : M) (events : List Numbered) (old new : Option (List ℕ)) : Type 0 where
+  pub did : Did
+  pub puts : told → RunsFront m read mech events did old new

@@ -1,0 +1,222 @@
+//! The three machines of a run, and its events.
+
+use crate::ends::{DestEnd, Disks, SourceEnd};
+use crate::fresh::Unmade;
+use crate::setting::{dest_place, source_place, user};
+use crate::stage::Stage;
+use client_core::Client;
+use disk_model::Disk;
+use gss_mech::Mechanism;
+use nfs_base::Side;
+use outcome::Mem;
+use std::alloc::Global;
+use std::marker::Model;
+use streams::CountDraws;
+use wire_log::Log;
+use wire_machine::{Choice, Mistake};
+use wire_schedule::{Context, Event};
+
+/// What became of one event, want of memory aside. The text has the lines of the small steps that were done.
+#[derive(Drop)]
+pub enum Stepped {
+    /// It was carried out.
+    Went { text: String },
+
+    /// The records have too many bytes; the run is over.
+    OverLimit { text: String },
+
+    /// A record was taken by mistake; the run is over.
+    Mistaken { text: String, mistake: Mistake },
+
+    /// The server's volume could not be made; the run is over.
+    Unmade(Unmade),
+}
+
+/// What became of a read of bytes that are to be shown.
+#[derive(Clone, Copy, PartialEq, Eq)]
+pub(crate) enum Peeked {
+    Shown,
+
+    /// The volume is broken.
+    Refused,
+
+    /// The disk failed.
+    Failed,
+}
+
+/// A client, a source and a destination, the clock, the draws, and all records.
+///
+/// Contracts see a `Running`: what the events so far leave open, the disks and the two servers, the client, the draws, the
+/// clock, all records, and what the disks did.
+#[derive(Drop)]
+pub struct System<D: Disk, M> {
+    mech: M,
+    context: Context,
+    stage: Stage<D, M>,
+}
+
+impl<D: Disk, M> Model for System<D, M> {
+    ghost use Rattle.wire_run.specs.Running.{Running};
+    ghost use Rattle.wire_run.specs.System.{running_of, IsSound};
+
+    ghost Value = { Running D M };
+
+    ghost view = { λ s. running_of D.size s.context s.stage };
+
+    ghost invariant = { λ s. IsSound D.Told s.context s.mech s.stage };
+}
+
+impl<D: Disk + Drop, M: Mechanism + Copy> System<D, M> {
+    ghost use Rattle.std.specs.Prelude.{◌≡◌, ◌≤◌, ◌<◌, ◌↔◌, true, length, None, Some, IfOk, IsTrue, MatchOption};
+    ghost use Rattle.wire_log.specs.Keeping.{reading};
+    ghost use Rattle.wire_log.specs.Keeping as keeping;
+    ghost use Rattle.wire_machine.specs.World.{posted_at};
+    ghost use Rattle.wire_run.specs.Ends.{run_machines};
+    ghost use Rattle.wire_run.specs.Running.{at_rest, context_after, mech_of, HasDisks, StepIs};
+    ghost use Rattle.wire_run.specs.System.{shown_at, HasFile, Holds, IsShown, IsSingle};
+    ghost use Rattle.wire_run.specs.declared.setting.TheConstants.{SOURCE_TAG, DEST_TAG};
+    ghost use Rattle.wire_schedule.specs.Admission.{admits};
+
+    /// Before the first event: no server is there.
+    pub fn new(alloc: Global, disks: Disks<D>, mech: M) -> Mem<System<D, M>>
+        ensures { IfOk result (λ system. system ≡ at_rest mech disks.source disks.dest) }
+    {
+        let client = Client::new(
+            alloc,
+            mech,
+            user(alloc)?,
+            source_place(alloc)?,
+            dest_place(alloc)?,
+        )?;
+        Ok(System {
+            mech,
+            context: Context::start(),
+            stage: Stage {
+                source: SourceEnd::new(disks.source),
+                dest: DestEnd::new(disks.dest),
+                client,
+                draws: CountDraws::new(),
+                clock: 0,
+                log: Log::new(alloc),
+                choices: Vec::new(alloc),
+                flowed: 0,
+            },
+        })
+    }
+
+    /// Gives the disks back.
+    pub fn hand_back(self) -> Disks<D>
+        ensures source { result.source ≡ self.source }
+        ensures dest { result.dest ≡ self.dest }
+        ensures source_holds { D.Told → Holds D.timeline D.size SOURCE_TAG (shown_at self.source_state self.dest_state Side.Source) result.source }
+        ensures dest_holds { D.Told → Holds D.timeline D.size DEST_TAG (shown_at self.source_state self.dest_state Side.Dest) result.dest }
+    {
+        let System { stage, .. } = self;
+        let Stage { source, dest, .. } = stage;
+        Disks {
+            source: source.hand_back(),
+            dest: dest.hand_back(),
+        }
+    }
+
+    /// What the disks did in each small step so far.
+    pub fn choices(&self) -> &[Choice]
+        ensures { result.now ≡ self.now.choices }
+    {
+        self.stage.choices.as_slice()
+    }
+
+    /// A record that was sent, by its number. None exactly where fewer were sent.
+    pub fn record(&self, number: u64) -> Option<&[u8]>
+        ensures { MatchOption result (posted_at number self.now.log ≡ None) (λ bytes. keeping.bytes_at self.now.log number ≡ Some bytes.now) }
+    {
+        self.stage.log.record(number)
+    }
+
+    /// How many records were sent.
+    pub(crate) fn records(&self) -> u64
+        ensures { result ≡ length self.now.log }
+    {
+        self.stage.log.count()
+    }
+
+    /// Fills `out` with a file's bytes from `off` on, and with zeros past its end. False exactly where the volume's read was
+    /// refused. It is no step.
+    pub fn peek(&mut self, side: Side, file: u32, off: u64, out: &mut [u8]) -> bool
+        requires file { HasFile self.old.context side file }
+        requires disks { HasDisks self.old }
+        ensures bytes { D.Told → IsTrue result → IsShown self.old side file off out.new (length out.old) }
+        ensures still { D.Told → self.new ≡ record self.old { source = self.new.source; dest = self.new.dest } }
+    {
+        self.stage.read(side, file, off, out) == Peeked::Shown
+    }
+
+    /// Carries out one event, small step by small step, and gives the text of their lines. Where a volume can't be made, a
+    /// record is taken by mistake or the records have too many bytes, the run is over, and so it is after want of memory.
+    pub fn step(&mut self, alloc: Global, event: &Event) -> Mem<Stepped>
+        requires admitted { IsTrue (admits self.old.context event.now) }
+        requires disks { HasDisks self.old }
+        ensures is { IfOk result (StepIs D.Told (run_machines M.mic_of M.derived M.started M.accepted M.finished) reading D.faults D.size (mech_of self.old) self.old self.new event.now) }
+        ensures context { IfOk result (λ stepped. self.new.context ≡ context_after self.old.context event.now stepped) }
+        ensures disks { IfOk result (λ stepped. HasDisks self.new) }
+    {
+        match event {
+            Event::Volume {
+                side,
+                files,
+                blocks,
+            } => self.make(alloc, *side, *files, *blocks),
+            Event::Flow => self.flow(alloc),
+            _ => self.once(alloc, event),
+        }
+    }
+
+    /// Makes a server.
+    fn make(&mut self, alloc: Global, side: Side, files: u32, blocks: u32) -> Mem<Stepped>
+        requires admitted { IsTrue (admits self.old.context (Event.Volume side files blocks)) }
+        requires disks { HasDisks self.old }
+        ensures is { IfOk result (StepIs D.Told (run_machines M.mic_of M.derived M.started M.accepted M.finished) reading D.faults D.size (mech_of self.old) self.old self.new (Event.Volume side files blocks)) }
+        ensures context { IfOk result (λ stepped. self.new.context ≡ context_after self.old.context (Event.Volume side files blocks) stepped) }
+        ensures disks { IfOk result (λ stepped. HasDisks self.new) }
+    {
+        let next = self.context.after(&Event::Volume {
+            side,
+            files,
+            blocks,
+        });
+        match self.stage.make(alloc, self.mech, side, files, blocks)? {
+            Err(cause) => Ok(Stepped::Unmade(cause)),
+            Ok(()) => {
+                self.context = next;
+                Ok(Stepped::Went {
+                    text: String::new(alloc),
+                })
+            }
+        }
+    }
+
+    /// Delivers what was sent before.
+    fn flow(&mut self, alloc: Global) -> Mem<Stepped>
+        requires admitted { IsTrue (admits self.old.context (Event.Flow)) }
+        requires disks { HasDisks self.old }
+        ensures is { IfOk result (StepIs D.Told (run_machines M.mic_of M.derived M.started M.accepted M.finished) reading D.faults D.size (mech_of self.old) self.old self.new (Event.Flow)) }
+        ensures context { IfOk result (λ stepped. self.new.context ≡ context_after self.old.context (Event.Flow) stepped) }
+        ensures disks { IfOk result (λ stepped. HasDisks self.new) }
+    {
+        self.context = self.context.after(&Event::Flow);
+        self.stage.flow(alloc)
+    }
+
+    /// An event that is one small step.
+    fn once(&mut self, alloc: Global, event: &Event) -> Mem<Stepped>
+        requires single { IsSingle event.now }
+        requires admitted { IsTrue (admits self.old.context event.now) }
+        requires disks { HasDisks self.old }
+        ensures is { IfOk result (StepIs D.Told (run_machines M.mic_of M.derived M.started M.accepted M.finished) reading D.faults D.size (mech_of self.old) self.old self.new event.now) }
+        ensures context { IfOk result (λ stepped. self.new.context ≡ context_after self.old.context event.now stepped) }
+        ensures disks { IfOk result (λ stepped. HasDisks self.new) }
+    {
+        self.context = self.context.after(event);
+        self.stage.once(alloc, event)
+    }
+}
