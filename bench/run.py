@@ -14,17 +14,17 @@ def peeks():
 
 
 def writes():
-    """As many whole writes of 65,536 bytes as an input holds."""
+    """As many whole writes of 65,536 bytes as an input holds, each called and answered."""
     text = [b"volume s 1 16384\nvolume d 1 16384\n"]
     for number in range(127):
         text.append(b"write s 1 %d %s\n" % (number * 65536, b"a5" * 65536))
-    return b"".join(text)
+    return b"".join(text) + b"flow 270\n"
 
 
 def copy():
     """A file of 64 MiB, copied in 1,024 chunks."""
-    text = b"volume s 1 16384\nvolume d 1 16384\nwrite s 1 67108863 01\ncopy 1 1 0 1 0 0 c\n"
-    return text + b"work 1\n" * 1025 + b"status 1\npeek d 1 67108863 1\n"
+    text = b"volume s 1 16384\nvolume d 1 16384\nwrite s 1 67108863 01\nflow 12\ncopy 1 1 0 1 0 0 c\n"
+    return text + b"rounds 2112\nstatus 1\npeek d 1 67108863 1\n"
 
 
 def main():

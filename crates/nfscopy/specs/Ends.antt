@@ -11,7 +11,7 @@ use Rattle.nfscopy.specs.declared.ends.UsageEnd.TheVariants.{Put, WriteFault}
 use Rattle.nfscopy.specs.ExitStatus.{code_of, usage_status, run_status, show_status}
 use Rattle.nfscopy.specs.Notice.{usage_text}
 use Rattle.nfscopy.specs.Outside.{Outside, DiskWords, SameDisks}
-use Rattle.nfscopy.specs.RunEnds.{RunEnds}
+use Rattle.nfscopy.specs.RunEnds.{RunEnds, RunWords}
 use Rattle.nfscopy.specs.ShowEnds.{ShowEnds}
 
 -- words of no command: the one line `usage` is put, or a front of it; no memory is taken
@@ -26,15 +26,15 @@ pub record EndsAs {E : Type 0} (status_of : E → ExitStatus) (Says : E → Type
   pub says : Says end
 
 -- how the program ends for its words, from what was outside before to what is outside then
-abbrev pub EndsBy : {D : Type 0} → DiskWords D → Option Command → Outside D → Outside D → ℕ → Type 0
-EndsBy w None before now code =
+abbrev pub EndsBy : {D M : Type 0} → DiskWords D → RunWords M → Option Command → Outside D → Outside D → ℕ → Type 0
+EndsBy w r None before now code =
     EndsAs usage_status (UsageEnds before.taken now.taken before.writes now.writes) code × SameDisks before now
-EndsBy w (Some Run) before now code = EndsAs run_status (RunEnds w before now) code
-EndsBy w (Some Show) before now code = EndsAs show_status (ShowEnds before now) code × SameDisks before now
+EndsBy w r (Some Run) before now code = EndsAs run_status (RunEnds w r before now) code
+EndsBy w r (Some Show) before now code = EndsAs show_status (ShowEnds before now) code × SameDisks before now
 
 -- the same, and the counts of faults never fell
-pub record Ends {D : Type 0} (w : DiskWords D) (command : Option Command) (before now : Outside D) (code : ℕ) : Type 0 where
-  pub ends : EndsBy w command before now code
+pub record Ends {D M : Type 0} (w : DiskWords D) (r : RunWords M) (command : Option Command) (before now : Outside D) (code : ℕ) : Type 0 where
+  pub ends : EndsBy w r command before now code
   pub reads : before.reads ≤ now.reads
   pub writes : before.writes ≤ now.writes
 

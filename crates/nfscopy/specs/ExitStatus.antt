@@ -1,7 +1,7 @@
 -- The program's exit statuses, and the status of each end of a command. Own numbers.
 use Rattle.std.specs.Prelude.{ℕ}
 use Rattle.nfscopy.specs.declared.exit_status.ExitStatus.{ExitStatus}
-use Rattle.nfscopy.specs.declared.exit_status.ExitStatus.TheVariants.{Done, Usage, Refused, ReadFault, WriteFault, NoMemory, DiskFault, NoVolume}
+use Rattle.nfscopy.specs.declared.exit_status.ExitStatus.TheVariants.{Done, Usage, Refused, ReadFault, WriteFault, NoMemory, DiskFault, NoVolume, Mistaken}
 use Rattle.nfscopy.specs.declared.ends.UsageEnd.{UsageEnd}
 use Rattle.nfscopy.specs.declared.ends.UsageEnd.TheVariants as usage
 use Rattle.nfscopy.specs.declared.ends.RunEnd.{RunEnd}
@@ -18,6 +18,7 @@ code_of WriteFault = 4
 code_of NoMemory = 5
 code_of DiskFault = 6
 code_of NoVolume = 7
+code_of Mistaken = 10
 
 abbrev pub usage_status : UsageEnd → ExitStatus
 usage_status usage.Put = Usage
@@ -26,6 +27,8 @@ usage_status usage.WriteFault = WriteFault
 abbrev pub run_status : RunEnd → ExitStatus
 run_status run.Done = Done
 run_status run.Refused = Refused
+run_status run.OverLimit = Refused
+run_status run.Mistaken = Mistaken
 run_status run.ReadFault = ReadFault
 run_status run.WriteFault = WriteFault
 run_status run.NoMemory = NoMemory

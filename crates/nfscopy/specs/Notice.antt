@@ -1,5 +1,8 @@
 -- The lines that the program puts in place of a transcript. Own format.
 use Rattle.std.specs.Prelude.{ℕ, List, [], ◌∷◌, ◌++◌, codes, decimal}
+use Rattle.wire_lines.specs.LineText.{line_text}
+use Rattle.wire_lines.specs.declared.line.Line.TheVariants as lines
+use Rattle.wire_machine.specs.declared.mistake.Mistake.{Mistake}
 
 abbrev pub usage_text : List ℕ
 usage_text = codes "usage" ++ 10 ∷ []
@@ -14,3 +17,11 @@ bad_line_text n = codes "bad line " ++ decimal n ++ 10 ∷ []
 -- a disk that doesn't hold a volume, by the first field that is off: its block and the byte there
 abbrev pub not_volume_text : (block at : ℕ) → List ℕ
 not_volume_text block at = codes "not a volume " ++ (decimal block ++ (codes " " ++ (decimal at ++ 10 ∷ [])))
+
+-- the line of a disk that is too small
+abbrev pub small_text : (need have : ℕ) → List ℕ
+small_text need have = codes "too small " ++ decimal need ++ codes " " ++ decimal have ++ 10 ∷ []
+
+-- a record that was taken by mistake
+abbrev pub mistaken_text : Mistake → List ℕ
+mistaken_text mistake = line_text (lines.Mistaken mistake.accepted mistake.sealed)

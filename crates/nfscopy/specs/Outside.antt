@@ -4,7 +4,7 @@ use Rattle.outcome.specs.Causes.{Rose}
 use Rattle.nfs_base.specs.declared.side.Side.{Side}
 use Rattle.nfs_base.specs.declared.side.Side.TheVariants.{Source, Dest}
 use Rattle.disk_model.specs.Elapsed.{Timeline}
-use Rattle.sched_run.specs.Blame.{faults_in}
+use Rattle.wire_run.specs.Running.{faults_in}
 
 -- The bytes that the source has left and those that the sink took, where they tell them, their counts of
 -- faults, and the servers' disks.

@@ -3,12 +3,13 @@ use Rattle.std.specs.Prelude.{◌≡◌, ◌⊎◌, ℕ, Option, List}
 use Rattle.std.specs.Io.KnownBytes.{Keeps, Appends}
 use Rattle.outcome.specs.Causes.{Rose}
 use Rattle.streams.specs.Sink.{AppendsFront}
-use Rattle.sched_run.specs.Run.{small_text}
-use Rattle.sched_run.specs.declared.fresh.Unmade.{Unmade}
-use Rattle.sched_run.specs.declared.fresh.Unmade.TheVariants.{DiskFailed, TooSmall, NotVolume}
+use Rattle.wire_run.specs.declared.fresh.Unmade.{Unmade}
+use Rattle.wire_run.specs.declared.fresh.Unmade.TheVariants as unmade
+use Rattle.wire_run.specs.declared.run.Ran.{Ran}
+use Rattle.wire_run.specs.declared.run.Ran.TheVariants as ran
 use Rattle.nfscopy.specs.declared.ends.RunEnd.{RunEnd}
-use Rattle.nfscopy.specs.declared.ends.RunEnd.TheVariants.{WriteFault, NoMemory, DiskFault, NoVolume}
-use Rattle.nfscopy.specs.Notice.{not_volume_text}
+use Rattle.nfscopy.specs.declared.ends.RunEnd.TheVariants as ends
+use Rattle.nfscopy.specs.Notice.{bad_line_text, mistaken_text, not_volume_text, small_text}
 
 -- all of it was put, under the end that it goes with
 pub record AllPut (old new : Option (List ℕ)) (line : List ℕ) (end result : RunEnd) : Type 0 where
@@ -17,7 +18,7 @@ pub record AllPut (old new : Option (List ℕ)) (line : List ℕ) (end result : 
 
 -- or a front of it, where the sink failed
 pub record FrontPut (old new : Option (List ℕ)) (before now : ℕ) (line : List ℕ) (result : RunEnd) : Type 0 where
-  pub end_is : result ≡ WriteFault
+  pub end_is : result ≡ ends.WriteFault
   pub rose : Rose before now
   pub puts : AppendsFront old new line
 
@@ -30,11 +31,19 @@ pub record NonePut (old new : Option (List ℕ)) (end result : RunEnd) : Type 0 
   pub keeps : Keeps old new
 
 -- the line, unless memory ran out
-abbrev pub LinePut : Option (List ℕ) → Option (List ℕ) → (before now : ℕ) → List ℕ → RunEnd → Type 0
-LinePut old new before now line result = LastPut old new before now line NoVolume result ⊎ NonePut old new NoMemory result
+abbrev pub LinePut : Option (List ℕ) → Option (List ℕ) → (before now : ℕ) → List ℕ → RunEnd → RunEnd → Type 0
+LinePut old new before now line end result = LastPut old new before now line end result ⊎ NonePut old new ends.NoMemory result
 
 -- why a volume wasn't made
 abbrev pub UnmadePut : Option (List ℕ) → Option (List ℕ) → (before now : ℕ) → Unmade → RunEnd → Type 0
-UnmadePut old new before now DiskFailed result = NonePut old new DiskFault result
-UnmadePut old new before now (TooSmall need have) result = LinePut old new before now (small_text need have) result
-UnmadePut old new before now (NotVolume block at) result = LinePut old new before now (not_volume_text block at) result
+UnmadePut old new before now unmade.DiskFailed result = NonePut old new ends.DiskFault result
+UnmadePut old new before now (unmade.TooSmall need have) result = LinePut old new before now (small_text need have) ends.NoVolume result
+UnmadePut old new before now (unmade.NotVolume block at) result = LinePut old new before now (not_volume_text block at) ends.NoVolume result
+
+-- the last line of a run that didn't put it yet
+abbrev pub EndPut : Option (List ℕ) → Option (List ℕ) → (before now : ℕ) → Ran → RunEnd → Type 0
+EndPut old new before now ran.Whole result = NonePut old new ends.Done result
+EndPut old new before now (ran.OverLimit line) result = LinePut old new before now (bad_line_text line) ends.OverLimit result
+EndPut old new before now ran.WriteFault result = NonePut old new ends.WriteFault result
+EndPut old new before now (ran.Unmade cause) result = UnmadePut old new before now cause result
+EndPut old new before now (ran.Mistaken mistake) result = LinePut old new before now (mistaken_text mistake) ends.Mistaken result

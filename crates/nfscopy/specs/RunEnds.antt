@@ -1,117 +1,126 @@
 -- How `run` ends: for each end why it came, what was put, and what became of the disks.
-use Rattle.std.specs.Prelude.{◌≡◌, ◌≢◌, ◌⊎◌, ℕ, Option, None, Some, Result, Ok, Err, List, IfSome, option_map}
+use Rattle.std.specs.Prelude.{◌≡◌, ◌≢◌, ◌⊎◌, ℕ, true, Option, None, Some, is_some, Ok, Err, List, ◌++◌, option_map}
 use Rattle.std.specs.Io.KnownBytes.{Keeps, Appends, IsAtEnd}
 use Rattle.outcome.specs.Causes.{Rose}
 use Rattle.streams.specs.Sink.{AppendsFront}
-use Rattle.copy_model.specs.Promise.{IsKept, IsStopped}
 use Rattle.nfs_base.specs.declared.side.Side.TheVariants.{Source, Dest}
-use Rattle.sched_text.specs.declared.event.Event.{Event}
-use Rattle.sched_text.specs.ScheduleText.{schedule_of}
-use Rattle.run_machine.specs.declared.choice.Choice.{Choice}
-use Rattle.run_machine.specs.History.{history}
-use Rattle.sched_run.specs.Blame.{failed_calls, size_in, Later}
-use Rattle.sched_run.specs.Fresh.{Small, first_small}
-use Rattle.sched_run.specs.declared.server.TheConstants.{SOURCE_TAG, DEST_TAG}
-use Rattle.sched_run.specs.Run.{run_text, last_state, small_text, due_text, DiskHolds}
+use Rattle.wire_machine.specs.Check.{Reading}
+use Rattle.wire_machine.specs.Runs.{End, Numbered, Whole, TooLargeAt, MistakenBy, last_line}
+use Rattle.wire_machine.specs.declared.mistake.Mistake.{Mistake}
+use Rattle.gss_ctx.specs.Seals.{Mic}
+use Rattle.gss_mech.specs.declared.mechanism.Accepted.{Accepted}
+use Rattle.wire_log.specs.Keeping.{reading}
+use Rattle.wire_run.specs.Ends.{run_machines}
+use Rattle.wire_run.specs.Fresh.{Small}
+use Rattle.wire_run.specs.Run.{Did, RunsFront, ScheduleRuns, Volumes, asks_for, first_small}
+use Rattle.wire_run.specs.System.{DiskHolds}
+use Rattle.wire_run.specs.declared.setting.TheConstants.{SOURCE_TAG, DEST_TAG}
+use Rattle.wire_run.specs.Running.{Later, RunMachines, size_in}
 use Rattle.nfscopy.specs.declared.ends.RunEnd.{RunEnd}
-use Rattle.nfscopy.specs.declared.ends.RunEnd.TheVariants.{Done, Refused, ReadFault, WriteFault, NoMemory, DiskFault, NoVolume}
+use Rattle.nfscopy.specs.declared.ends.RunEnd.TheVariants as ends
 use Rattle.nfscopy.specs.Input.{Input, asked, IfSchedule, IfRefused}
-use Rattle.nfscopy.specs.Notice.{not_volume_text}
+use Rattle.nfscopy.specs.Notice.{not_volume_text, small_text}
 use Rattle.nfscopy.specs.Outside.{Outside, DiskWords, SameDisks, DiskRose, disk_at}
 
--- the first volume of a schedule for which its disk is too small
-abbrev pub small_of : {D : Type 0} → DiskWords D → Outside D → List Event → Option Small
-small_of w before events = first_small (size_in w.size before.source) (size_in w.size before.dest) events
+-- The machines of a run, by what the mechanism tells of itself.
+pub record RunWords (M : Type 0) : Type 1 where
+  pub machines : RunMachines M
+  pub read : Reading
+  pub mech : M
 
--- A whole run: each disk has room. Where the disks tell what they hold, all of the transcript was put, and
--- they hold the volumes as the run left them.
-pub record RunsWhole {D : Type 0} (w : DiskWords D) (before now : Outside D) (choices : List Choice) (events : List Event) : Type 0 where
-  pub room : small_of w before events ≡ None
-  pub puts : w.told → Appends before.taken now.taken (run_text choices events)
-  pub source : w.told → DiskHolds w.timeline w.size SOURCE_TAG (last_state choices events).source now.source
-  pub dest : w.told → DiskHolds w.timeline w.size DEST_TAG (last_state choices events).dest now.dest
+abbrev pub run_words : {M : Type 0} → M → Mic → (List ℕ → ℕ → List ℕ → List ℕ) → (M → List ℕ → List ℕ → Option (List ℕ)) → (M → List ℕ → List ℕ → Option Accepted)
+    → (M → List ℕ → List ℕ → List ℕ → Option (List ℕ)) → RunWords M
+run_words mech mic derived started accepted finished =
+    record { machines = run_machines mic derived started accepted finished; read = reading; mech = mech }
 
--- a disk is too small: it is handed back as it was, and that one line is put
-pub record PutsSmall {D : Type 0} (before now : Outside D) (small : Option Small) : Type 0 where
-  pub first : Small
-  pub is : small ≡ Some first
-  pub puts : Appends before.taken now.taken (small_text first.need first.have)
-  pub untouched : disk_at now first.side ≡ disk_at before first.side
+module _ {D M : Type 0} (w : DiskWords D) (r : RunWords M) where
+  -- the run of a schedule ends so, and all that is due was put
+  pub record PutsRun (before now : Outside D) (did : Did) (events : List Numbered) (end : End) : Type 0 where
+    pub lines : List ℕ
+    pub records : ℕ
+    pub last : Volumes
+    pub runs : ScheduleRuns r.machines r.read r.mech events did end lines records last
+    pub puts : Appends before.taken now.taken (lines ++ last_line records end)
 
--- a disk that doesn't tell what it holds didn't give back what was written: that one line is put
-pub record PutsUnreadable (told : Type 0) (taken now : Option (List ℕ)) : Type 0 where
-  pub untold : told → ⊥
-  pub block : ℕ
-  pub at : ℕ
-  pub puts : Appends taken now (not_volume_text block at)
+  -- a whole run; the disk of each server for which the schedule asks holds its last files
+  pub record PutsHolding (before now : Outside D) (did : Did) (events : List Numbered) : Type 0 where
+    pub run : PutsRun before now did events Whole
+    pub source : asks_for Source events ≡ true → DiskHolds w.timeline w.size SOURCE_TAG run.last.source now.source
+    pub dest : asks_for Dest events ≡ true → DiskHolds w.timeline w.size DEST_TAG run.last.dest now.dest
 
--- A front was put of what the input is owed: of its transcript, or of one line, and then the disks weren't
--- touched.
-abbrev pub PutsFront : {D : Type 0} → DiskWords D → Outside D → Outside D → Option Input → List Choice → Type 0
-PutsFront w before now None choices = Unit {0}
-PutsFront w before now (Some (Ok events)) choices = w.told → AppendsFront before.taken now.taken (due_text (small_of w before events) choices events)
-PutsFront w before now (Some (Err line)) choices = AppendsFront before.taken now.taken line × SameDisks before now
+  -- the first volume of a schedule for which its disk is too small
+  abbrev pub small_of : Outside D → List Numbered → Option Small
+  small_of before events = first_small (size_in w.size before.source) (size_in w.size before.dest) events
 
--- status 0: all of the input was read, it is a schedule, and all of its run was carried out and put
-pub record RunDone {D : Type 0} (w : DiskWords D) (before now : Outside D) (input : Option Input) (choices : List Choice) : Type 0 where
-  pub read : IsAtEnd now.left
-  pub ran : IfSchedule input (RunsWhole w before now choices)
+  -- status 0: all of the input was read, it is a schedule, each disk has room, all of its run was carried out and put, and
+  -- the disks hold what it left
+  pub record RunDone (before now : Outside D) (did : Did) (events : List Numbered) : Type 0 where
+    pub read : IsAtEnd now.left
+    pub room : small_of before events ≡ None
+    pub ran : w.told → PutsHolding before now did events
 
--- status 2: the input is no schedule, the one line that it is owed was put, and the disks weren't touched
-pub record RunRefused {D : Type 0} (before now : Outside D) (input : Option Input) : Type 0 where
-  pub puts : IfRefused input (Appends before.taken now.taken)
-  pub disks : SameDisks before now
+  -- status 2: the records have too many bytes from a line on
+  pub record RunOver (before now : Outside D) (did : Did) (events : List Numbered) : Type 0 where
+    pub line : ℕ
+    pub ran : w.told → PutsRun before now did events (TooLargeAt line)
 
--- status 3: the source's count of faults rose, nothing was put, and the disks weren't touched
-pub record RunReadFault {D : Type 0} (before now : Outside D) : Type 0 where
-  pub cause : Rose before.reads now.reads
-  pub puts : Keeps before.taken now.taken
-  pub disks : SameDisks before now
+  -- status 10: a record was taken by mistake
+  pub record RunMistaken (before now : Outside D) (did : Did) (events : List Numbered) : Type 0 where
+    pub mistake : Mistake
+    pub ran : w.told → PutsRun before now did events (MistakenBy mistake)
 
--- status 4: the sink's count of faults rose, and a front of what is owed was put
-pub record RunWriteFault {D : Type 0} (w : DiskWords D) (before now : Outside D) (input : Option Input) (choices : List Choice) : Type 0 where
-  pub cause : Rose before.writes now.writes
-  pub puts : PutsFront w before now input choices
+  -- a front of the line of a disk that is too small
+  abbrev pub FrontOfSmall : Outside D → Outside D → Option Small → Type 0
+  FrontOfSmall before now None = ⊥
+  FrontOfSmall before now (Some small) = AppendsFront before.taken now.taken (small_text small.need small.have)
 
--- status 6: a disk's count of faults rose while the schedule's volumes were made, and nothing was put
-pub record RunDiskFault {D : Type 0} (w : DiskWords D) (before now : Outside D) (input : Option Input) : Type 0 where
-  pub cause : DiskRose w before now
-  pub puts : Keeps before.taken now.taken
-  pub schedule : IfSchedule input (λ events. Unit {0})
+  -- Nothing was put, or a front of what the input is owed: of its transcript, or of one line.
+  abbrev pub PutsFront : Outside D → Outside D → Option Input → Did → Type 0
+  PutsFront before now None did = Unit {0}
+  PutsFront before now (Some (Ok events)) did =
+      w.told → Keeps before.taken now.taken ⊎ (RunsFront r.machines r.read r.mech events did before.taken now.taken ⊎ FrontOfSmall before now (small_of before events))
+  PutsFront before now (Some (Err line)) did = AppendsFront before.taken now.taken line × SameDisks before now
 
--- status 7: a disk is too small for its volume, and is as it was, or one didn't give back what was written; that
--- one line was put
-pub record RunNoVolume {D : Type 0} (w : DiskWords D) (before now : Outside D) (input : Option Input) : Type 0 where
-  pub puts : IfSchedule input (λ events. PutsSmall before now (small_of w before events) ⊎ PutsUnreadable w.told before.taken now.taken)
+  -- status 7: a disk is too small for its volume, and is as it was, or one didn't give back what was written
+  pub record PutsSmall (before now : Outside D) (small : Option Small) : Type 0 where
+    pub first : Small
+    pub is : small ≡ Some first
+    pub puts : Appends before.taken now.taken (small_text first.need first.have)
+    pub untouched : disk_at now first.side ≡ disk_at before first.side
 
--- what an end says; want of memory, which is status 5, has no cause
-abbrev pub RunEndIs : {D : Type 0} → DiskWords D → Outside D → Outside D → Option Input → List Choice → RunEnd → Type 0
-RunEndIs w before now input choices Done = RunDone w before now input choices
-RunEndIs w before now input choices Refused = RunRefused before now input
-RunEndIs w before now input choices ReadFault = RunReadFault before now
-RunEndIs w before now input choices WriteFault = RunWriteFault w before now input choices
-RunEndIs w before now input choices NoMemory = PutsFront w before now input choices
-RunEndIs w before now input choices DiskFault = RunDiskFault w before now input
-RunEndIs w before now input choices NoVolume = RunNoVolume w before now input
+  pub record PutsUnreadable (before now : Outside D) : Type 0 where
+    pub untold : w.told → ⊥
+    pub block : ℕ
+    pub at : ℕ
+    pub puts : Appends before.taken now.taken (not_volume_text block at)
 
--- What the disks did in the steps of a run is at most what their counts of faults say, and the disks that
--- were handed in are handed back.
-pub record Blamed {D : Type 0} (w : DiskWords D) (before now : Outside D) (choices : List Choice) : Type 0 where
-  pub source : Later w.faults w.size (failed_calls choices Source) before.source now.source
-  pub dest : Later w.faults w.size (failed_calls choices Dest) before.dest now.dest
+  -- what an end says; want of memory, which is status 5, has no cause
+  abbrev pub RunEndIs : Outside D → Outside D → Option Input → Did → RunEnd → Type 0
+  RunEndIs before now input did ends.Done = IfSchedule input (RunDone before now did)
+  RunEndIs before now input did ends.Refused = IfRefused input (Appends before.taken now.taken) × SameDisks before now
+  RunEndIs before now input did ends.OverLimit = IfSchedule input (RunOver before now did)
+  RunEndIs before now input did ends.Mistaken = IfSchedule input (RunMistaken before now did)
+  RunEndIs before now input did ends.ReadFault = Rose before.reads now.reads × Keeps before.taken now.taken × SameDisks before now
+  RunEndIs before now input did ends.WriteFault = Rose before.writes now.writes × PutsFront before now input did
+  RunEndIs before now input did ends.NoMemory = PutsFront before now input did
+  RunEndIs before now input did ends.DiskFault = DiskRose w before now × Keeps before.taken now.taken × IfSchedule input (λ events. Unit {0})
+  RunEndIs before now input did ends.NoVolume =
+      IfSchedule input (λ events. PutsSmall before now (small_of before events) ⊎ PutsUnreadable before now)
 
--- What became of an input that is told or not, with the run's own choices.
-pub record CarriesOut {D : Type 0} (w : DiskWords D) (before now : Outside D) (input : Option Input) (end : RunEnd) : Type 0 where
-  pub choices : List Choice
-  pub blamed : end ≢ NoMemory → Blamed w before now choices
-  pub is : RunEndIs w before now input choices end
+  -- The disks that were handed in are handed back. Of disks that tell what they hold: what they did in the small steps of a run
+  -- is at most what their counts of faults say, and they are as large as before.
+  pub record Blamed (before now : Outside D) (did : Did) : Type 0 where
+    pub source_back : is_some now.source ≡ is_some before.source
+    pub dest_back : is_some now.dest ≡ is_some before.dest
+    pub source : w.told → Later w.faults w.size (did.failed Source) before.source now.source
+    pub dest : w.told → Later w.faults w.size (did.failed Dest) before.dest now.dest
 
--- the run of what was read as a schedule is kept and stopped, whatever the disks do
-abbrev pub Promises : List Choice → Result (List Event) ℕ → Type 0
-Promises choices (Ok events) = IsKept (history choices events) × IsStopped (history choices events)
-Promises choices (Err line) = Unit {0}
+  -- What became of an input that is told or not, with the run's own choices.
+  pub record CarriesOut (before now : Outside D) (input : Option Input) (end : RunEnd) : Type 0 where
+    pub did : Did
+    pub blamed : end ≢ ends.NoMemory → Blamed before now did
+    pub is : RunEndIs before now input did end
 
--- How `run` ends: what became of the input, where its source tells it, and the promise on the same choices.
-pub record RunEnds {D : Type 0} (w : DiskWords D) (before now : Outside D) (end : RunEnd) : Type 0 where
-  pub input : CarriesOut w before now (option_map asked before.left) end
-  pub promise : IfSome before.left (λ text. Promises input.choices (schedule_of text))
+  -- How `run` ends: what became of the input, where its source tells it.
+  abbrev pub RunEnds : Outside D → Outside D → RunEnd → Type 0
+  RunEnds before now end = CarriesOut before now (option_map asked before.left) end

@@ -22,6 +22,12 @@ pub enum RunEnd {
     /// The input is no schedule.
     Refused,
 
+    /// The records of the run have too many bytes.
+    OverLimit,
+
+    /// A record was taken by mistake.
+    Mistaken,
+
     /// The source failed.
     ReadFault,
 
@@ -78,6 +84,8 @@ impl RunEnd {
         let status = match self {
             RunEnd::Done => ExitStatus::Done,
             RunEnd::Refused => ExitStatus::Refused,
+            RunEnd::OverLimit => ExitStatus::Refused,
+            RunEnd::Mistaken => ExitStatus::Mistaken,
             RunEnd::ReadFault => ExitStatus::ReadFault,
             RunEnd::WriteFault => ExitStatus::WriteFault,
             RunEnd::NoMemory => ExitStatus::NoMemory,

@@ -10,7 +10,7 @@ pub enum ExitStatus {
     /// The words are of no command.
     Usage = 1,
 
-    /// The input is no schedule, has a record that is too large, or passes its limit.
+    /// The input is no schedule, has a record that is too large, or passes its limit; or the records of a run do.
     Refused = 2,
 
     /// The source of the input counted a fault.
@@ -27,6 +27,9 @@ pub enum ExitStatus {
 
     /// A disk has too few blocks for its volume, or doesn't hold the volume that was written.
     NoVolume = 7,
+
+    /// A record was accepted under another seal than its own, or as the answer to another call.
+    Mistaken = 10,
 }
 
 impl ExitStatus {

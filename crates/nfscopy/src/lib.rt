@@ -1,9 +1,9 @@
 //! The top call: all that the program does, over values that `main` makes real.
 //!
 //! The contract to read first is [`nfscopy`]: for each command and each status it says what was read,
-//! what was put, and why. `specs/Ends.antt` has the definitions; for `run` they name the transcript of
-//! the schedule and the promise that its history keeps (crate `copy_model`), for `show` the lines of a
-//! stream of records (crate `wire_show`).
+//! what was put, and why. `specs/Ends.antt` has the definitions; for `run` they name the run of the schedule by three
+//! machines and its lines (crates `wire_run`, `wire_machine`), for `show` the lines of a stream of records (crate
+//! `wire_show`).
 #![tactic(auto)]
 
 mod command;

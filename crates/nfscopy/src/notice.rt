@@ -1,11 +1,12 @@
 ghost use Rattle.std.specs.Prelude.{◌≡◌, ◌≤◌, IfOk};
 ghost use Rattle.std.specs.String.{string_bytes};
-ghost use Rattle.sched_run.specs.Run.{small_text};
-ghost use Rattle.nfscopy.specs.Notice.{usage_text, too_much_text, bad_line_text, not_volume_text};
+ghost use Rattle.nfscopy.specs.Notice.{usage_text, too_much_text, bad_line_text, mistaken_text, not_volume_text, small_text};
 
 use outcome::Mem;
-use sched_text::BadLine;
 use std::alloc::Global;
+use wire_lines::Line;
+use wire_machine::Mistake;
+use wire_schedule::BadLine;
 
 /// The line that is put where the words are of no command.
 pub fn usage_line() -> &'static [u8]
@@ -21,7 +22,7 @@ pub fn too_much_line() -> &'static [u8]
     b"too much\n"
 }
 
-/// The line that is put where the input is no schedule.
+/// The line that is put where the input is no schedule, or the records have too many bytes from a line on.
 pub fn bad_line(alloc: Global, bad: BadLine) -> Mem<String>
     ensures { IfOk result (λ text. string_bytes text ≡ bad_line_text bad.line) }
 {
@@ -40,4 +41,14 @@ pub fn not_volume_line(alloc: Global, block: u64, at: u32) -> Mem<String>
     ensures { IfOk result (λ text. string_bytes text ≡ not_volume_text block at) }
 {
     Ok(format!(in alloc; "not a volume {block} {at}\n")?)
+}
+
+/// The line that is put where a record was taken by mistake.
+pub fn mistaken_line(alloc: Global, mistake: Mistake) -> Mem<String>
+    ensures { IfOk result (λ text. string_bytes text ≡ mistaken_text mistake) }
+{
+    let Mistake { accepted, sealed } = mistake;
+    let mut text = String::new(alloc);
+    Line::Mistaken { accepted, sealed }.push_to(&mut text)?;
+    Ok(text)
 }

@@ -1,21 +1,26 @@
-ghost use Rattle.std.specs.Prelude.{◌≡◌, ◌≤◌, [], None, Some, Ok, true, is_some};
-ghost use Rattle.sched_text.specs.ScheduleText.{schedule_of};
-ghost use Rattle.nfscopy.specs.Input.{parsed};
-ghost use Rattle.nfscopy.specs.Outside.{outside, disk_words};
-ghost use Rattle.nfscopy.specs.RunEnds.{CarriesOut, RunEnds};
+ghost use Rattle.std.specs.Io.KnownBytes.{IsAtEnd};
+ghost use Rattle.std.specs.Prelude.{◌≡◌, ◌≤◌, ℕ, List, Option, Some, Ok, true, is_some};
 ghost use Rattle.nfscopy.specs.Ends.{UsageEnds};
-ghost use Rattle.nfscopy.specs.Puts.{LastPut, UnmadePut};
+ghost use Rattle.nfscopy.specs.Input.{parsed};
+ghost use Rattle.nfscopy.specs.Notice.{bad_line_text};
+ghost use Rattle.nfscopy.specs.Outside.{outside, disk_words};
+ghost use Rattle.nfscopy.specs.Puts.{EndPut, LastPut, LinePut, UnmadePut};
+ghost use Rattle.nfscopy.specs.RunEnds.{run_words, CarriesOut, RunEnds};
+ghost use Rattle.wire_machine.specs.Runs.{events_in};
+ghost use Rattle.wire_schedule.specs.ScheduleText.{schedule_of};
 
 use crate::ends::{RunEnd, UsageEnd};
-use crate::notice::{bad_line, not_volume_line, small_line, too_much_line, usage_line};
+use crate::notice::{
+    bad_line, mistaken_line, not_volume_line, small_line, too_much_line, usage_line,
+};
 use disk_model::Disk;
+use gss_mech::Mechanism;
 use nfs_base::INPUT_LIMIT;
 use outcome::NoMemory;
-use run_machine::every_run;
-use sched_run::{Disks, Ran, System, Unmade};
-use sched_text::{Schedule, schedule_lines};
 use std::alloc::Global;
 use streams::{Sink, Source, Whole, put_all, read_whole};
+use wire_run::{Disks, Ran, System, Unmade};
+use wire_schedule::{BadLine, Schedule};
 
 /// Puts the line `usage`.
 pub fn usage<K: Sink>(output: &mut K) -> UsageEnd
@@ -28,26 +33,25 @@ pub fn usage<K: Sink>(output: &mut K) -> UsageEnd
     }
 }
 
-/// Reads a schedule, carries it out over the two disks and puts its transcript.
-pub fn run<S: Source, K: Sink, D: Disk + Drop>(
+/// Reads a schedule, carries it out over the two disks and puts its transcript. Codes are those of the mechanism.
+pub fn run<S: Source, K: Sink, D: Disk + Drop, M: Mechanism>(
     alloc: Global,
     input: &mut S,
     output: &mut K,
     disks: &mut Disks<D>,
+    mech: &M,
 ) -> RunEnd
     requires source { is_some disks.old.source ≡ true }
     requires dest { is_some disks.old.dest ≡ true }
-    ensures ends { RunEnds (disk_words D.Told D.faults D.size D.timeline)
+    ensures ends { RunEnds (disk_words D.Told D.faults D.size D.timeline) (run_words mech.entry M.mic_of M.derived (λ m. M.started m.now) (λ m. M.accepted m.now) (λ m. M.finished m.now))
         (outside (S.gives input.old).left (K.takes output.old).taken (S.gives input.old).faults (K.takes output.old).faults disks.old.source disks.old.dest)
         (outside (S.gives input.new).left (K.takes output.new).taken (S.gives input.new).faults (K.takes output.new).faults disks.new.source disks.new.dest)
         result }
     ensures reads_later { (S.gives input.old).faults ≤ (S.gives input.new).faults }
     ensures writes_later { (K.takes output.old).faults ≤ (K.takes output.new).faults }
 {
-    every_run();
-    schedule_lines();
     match read_whole(alloc, input, INPUT_LIMIT as usize) {
-        Ok(Whole::Text(text)) => run_text(alloc, &text, output, disks),
+        Ok(Whole::Text(text)) => run_text(alloc, &text, output, disks, mech),
         Ok(Whole::TooMuch) => put_last(output, too_much_line(), RunEnd::Refused),
         Ok(Whole::Failed) => RunEnd::ReadFault,
         Err(NoMemory) => RunEnd::NoMemory,
@@ -55,55 +59,83 @@ pub fn run<S: Source, K: Sink, D: Disk + Drop>(
 }
 
 /// Carries out the schedule of a text, and puts its transcript.
-fn run_text<K: Sink, D: Disk + Drop>(
+fn run_text<K: Sink, D: Disk + Drop, M: Mechanism>(
     alloc: Global,
     text: &[u8],
     output: &mut K,
     disks: &mut Disks<D>,
+    mech: &M,
 ) -> RunEnd
     requires source { is_some disks.old.source ≡ true }
     requires dest { is_some disks.old.dest ≡ true }
-    ensures ends { CarriesOut (disk_words D.Told D.faults D.size D.timeline)
-        (outside None (K.takes output.old).taken 0 (K.takes output.old).faults disks.old.source disks.old.dest)
-        (outside (Some []) (K.takes output.new).taken 0 (K.takes output.new).faults disks.new.source disks.new.dest)
+    ensures ends { (left now_left : Option (List ℕ)) (reads now_reads : ℕ) → IsAtEnd now_left → CarriesOut (disk_words D.Told D.faults D.size D.timeline) (run_words mech.entry M.mic_of M.derived (λ m. M.started m.now) (λ m. M.accepted m.now) (λ m. M.finished m.now))
+        (outside left (K.takes output.old).taken reads (K.takes output.old).faults disks.old.source disks.old.dest)
+        (outside now_left (K.takes output.new).taken now_reads (K.takes output.new).faults disks.new.source disks.new.dest)
         (Some (parsed (schedule_of text.now))) result }
     ensures later { (K.takes output.old).faults ≤ (K.takes output.new).faults }
 {
     match Schedule::parse(alloc, text) {
-        Ok(Ok(schedule)) => run_schedule(alloc, &schedule, output, disks),
-        Ok(Err(bad)) => match bad_line(alloc, bad) {
-            Ok(line) => put_last(output, line.as_bytes(), RunEnd::Refused),
-            Err(NoMemory) => RunEnd::NoMemory,
-        },
+        Ok(Ok(schedule)) => run_schedule(alloc, &schedule, output, disks, mech),
+        Ok(Err(bad)) => put_bad(alloc, bad, output, RunEnd::Refused),
         Err(NoMemory) => RunEnd::NoMemory,
     }
 }
 
 /// Carries out a schedule, and puts its transcript. The disks are handed back, but for want of memory.
-fn run_schedule<K: Sink, D: Disk + Drop>(
+fn run_schedule<K: Sink, D: Disk + Drop, M: Mechanism>(
     alloc: Global,
     schedule: &Schedule,
     output: &mut K,
     disks: &mut Disks<D>,
+    mech: &M,
 ) -> RunEnd
     requires source { is_some disks.old.source ≡ true }
     requires dest { is_some disks.old.dest ≡ true }
-    ensures ends { CarriesOut (disk_words D.Told D.faults D.size D.timeline)
-        (outside None (K.takes output.old).taken 0 (K.takes output.old).faults disks.old.source disks.old.dest)
-        (outside (Some []) (K.takes output.new).taken 0 (K.takes output.new).faults disks.new.source disks.new.dest)
-        (Some (Ok schedule.now)) result }
+    ensures ends { (left now_left : Option (List ℕ)) (reads now_reads : ℕ) → IsAtEnd now_left → CarriesOut (disk_words D.Told D.faults D.size D.timeline) (run_words mech.entry M.mic_of M.derived (λ m. M.started m.now) (λ m. M.accepted m.now) (λ m. M.finished m.now))
+        (outside left (K.takes output.old).taken reads (K.takes output.old).faults disks.old.source disks.old.dest)
+        (outside now_left (K.takes output.new).taken now_reads (K.takes output.new).faults disks.new.source disks.new.dest)
+        (Some (Ok (events_in schedule.now))) result }
     ensures later { (K.takes output.old).faults ≤ (K.takes output.new).faults }
 {
-    let mut system = System::new(Disks {
+    let handed = Disks {
         source: disks.source.take(),
         dest: disks.dest.take(),
-    });
+    };
+    let Ok(mut system) = System::new(alloc, handed, mech) else {
+        return RunEnd::NoMemory;
+    };
     let ran = system.run(alloc, schedule, output);
     *disks = system.hand_back();
     match ran {
-        Ok(Ran::Whole) => RunEnd::Done,
-        Ok(Ran::WriteFault) => RunEnd::WriteFault,
-        Ok(Ran::Unmade(cause)) => put_unmade(alloc, cause, output),
+        Ok(ran) => put_end(alloc, ran, output),
+        Err(NoMemory) => RunEnd::NoMemory,
+    }
+}
+
+/// Puts the last line of a run that didn't put it yet.
+fn put_end<K: Sink>(alloc: Global, ran: Ran, output: &mut K) -> RunEnd
+    ensures puts { EndPut (K.takes output.old).taken (K.takes output.new).taken (K.takes output.old).faults (K.takes output.new).faults ran result }
+    ensures later { (K.takes output.old).faults ≤ (K.takes output.new).faults }
+{
+    match ran {
+        Ran::Whole => RunEnd::Done,
+        Ran::OverLimit { line } => put_bad(alloc, BadLine { line }, output, RunEnd::OverLimit),
+        Ran::WriteFault => RunEnd::WriteFault,
+        Ran::Unmade(cause) => put_unmade(alloc, cause, output),
+        Ran::Mistaken(mistake) => match mistaken_line(alloc, mistake) {
+            Ok(line) => put_last(output, line.as_bytes(), RunEnd::Mistaken),
+            Err(NoMemory) => RunEnd::NoMemory,
+        },
+    }
+}
+
+/// Puts the line of a schedule's that is bad.
+fn put_bad<K: Sink>(alloc: Global, bad: BadLine, output: &mut K, end: RunEnd) -> RunEnd
+    ensures puts { LinePut (K.takes output.old).taken (K.takes output.new).taken (K.takes output.old).faults (K.takes output.new).faults (bad_line_text bad.line) end result }
+    ensures later { (K.takes output.old).faults ≤ (K.takes output.new).faults }
+{
+    match bad_line(alloc, bad) {
+        Ok(line) => put_last(output, line.as_bytes(), end),
         Err(NoMemory) => RunEnd::NoMemory,
     }
 }

@@ -3,37 +3,40 @@ ghost use Rattle.std.specs.String.{string_bytes};
 ghost use Rattle.nfscopy.specs.Command.{command_of};
 ghost use Rattle.nfscopy.specs.Ends.{Ends, HasDisks};
 ghost use Rattle.nfscopy.specs.Outside.{outside, disk_words};
+ghost use Rattle.nfscopy.specs.RunEnds.{run_words};
 
 use crate::command::Command;
 use crate::run::{run, usage};
 use crate::show::show;
 use disk_model::Disk;
-use sched_run::Disks;
+use gss_mech::Mechanism;
 use std::alloc::Global;
 use streams::{Sink, Source};
+use wire_run::Disks;
 
 /// Does what the words ask for, and answers the exit status. The words don't include the program's name.
 ///
-/// `run` reads a schedule from `input`, carries it out over the two disks and puts the transcript to
-/// `output`; `show` reads a stream of records and puts what they hold, line by line. Words of no command
-/// put the line `usage`. What each status says of the input, the output, the disks and the promise stands
-/// in `Ends`.
-pub fn nfscopy<S: Source, K: Sink, D: Disk + Drop>(
+/// `run` reads a schedule from `input`, carries it out with a client and two servers over the two disks, which seal their
+/// records by the mechanism, and puts the transcript to `output`; `show` reads a stream of records and puts what they
+/// hold, line by line. Words of no command put the line `usage`. What each status says of the input, the output and the
+/// disks stands in `Ends`.
+pub fn nfscopy<S: Source, K: Sink, D: Disk + Drop, M: Mechanism>(
     alloc: Global,
     words: &[String],
     input: &mut S,
     output: &mut K,
     disks: &mut Disks<D>,
+    mech: &M,
 ) -> u8
     requires { HasDisks (command_of (map string_bytes words.now)) disks.old.source disks.old.dest }
-    ensures { Ends (disk_words D.Told D.faults D.size D.timeline) (command_of (map string_bytes words.now))
+    ensures { Ends (disk_words D.Told D.faults D.size D.timeline) (run_words mech.entry M.mic_of M.derived (λ m. M.started m.now) (λ m. M.accepted m.now) (λ m. M.finished m.now)) (command_of (map string_bytes words.now))
         (outside (S.gives input.old).left (K.takes output.old).taken (S.gives input.old).faults (K.takes output.old).faults disks.old.source disks.old.dest)
         (outside (S.gives input.new).left (K.takes output.new).taken (S.gives input.new).faults (K.takes output.new).faults disks.new.source disks.new.dest)
         result }
 {
     match Command::from_words(words) {
         None => usage(output).code(),
-        Some(Command::Run) => run(alloc, input, output, disks).code(),
+        Some(Command::Run) => run(alloc, input, output, disks, mech).code(),
         Some(Command::Show) => show(alloc, input, output).code(),
     }
 }

@@ -1,7 +1,8 @@
 //! Worked rows over the top call, `nfscopy::nfscopy`, from standard input: schedules, and what is due to them. Prints
 //! each row that is answered otherwise, and then how many rows there were.
 //!
-//! A row is `STATUS | TEXT | PUT` for a run, `events N | TEXT` or `bad N | TEXT` for what is read of a schedule. Other
+//! A row is `STATUS | TEXT | PUT` for a run, `events N | TEXT` or `bad N | TEXT` for what is read of a schedule, and
+//! `record N | TEXT | BYTES` for a record that goes out in its run; without bytes there is none of that number. Other
 //! lines say what holds of the rows that follow: `before TEXT` and `after TEXT` what stands around their texts, `word
 //! WORD` the program's word or `word` that it has none, `fails SOURCE SINK` which call of either fails, `blocks SOURCE
 //! DEST` how large the disks are. The tests go over each call of a source, a sink or a disk that fails in turn.
@@ -18,12 +19,12 @@ mod runner;
 #[cfg(test)]
 mod words;
 
-use crate::answer::{Answer, DiskPlan, Faults, GOOD_DISK, NO_FAULTS, ask_disks};
+use crate::answer::{Answer, DiskPlan, Faults, GOOD_DISK, NO_FAULTS, ask_disks, record};
 use crate::escapes::spelled;
 use outcome::Mem;
-use sched_text::Schedule;
 use std::alloc::Global;
 use std::io;
+use wire_schedule::{Directive, Schedule};
 
 /// What holds of the rows that follow.
 #[derive(Drop)]
@@ -104,11 +105,17 @@ impl Setting {
         };
         if let Some(events) = wanted.strip_prefix("events ") {
             let read = Schedule::parse(alloc, &input)?;
-            return Ok(read.is_ok_and(|found| events.parse() == Ok(found.events().len())));
+            return Ok(read.is_ok_and(|found| events.parse() == Ok(count(&found))));
         }
         if let Some(line) = wanted.strip_prefix("bad ") {
             let read = Schedule::parse(alloc, &input)?;
             return Ok(read.is_err_and(|bad| line.parse() == Ok(bad.line)));
+        }
+        if let Some(number) = wanted.strip_prefix("record ") {
+            let Ok(number) = number.parse() else {
+                return Ok(false);
+            };
+            return Ok(record(alloc, &input, number)?.as_slice() == put.as_slice());
         }
         let answer = if self.word.is_empty() {
             self.ask(alloc, &[], input)?
@@ -117,6 +124,20 @@ impl Setting {
         };
         Ok(wanted.parse() == Ok(answer.status) && answer.put.as_bytes() == put.as_slice())
     }
+}
+
+/// How many events a schedule has, once its lines are written out.
+fn count(schedule: &Schedule) -> u64 {
+    let mut events = 0_u64;
+    for entry in schedule.entries() {
+        let more = match entry.directive {
+            Directive::Once(_) => 1,
+            Directive::Flows { times } => u64::from(times),
+            Directive::Rounds { times } => 2 * u64::from(times),
+        };
+        events = events.saturating_add(more);
+    }
+    events
 }
 
 fn put(place: &mut Vec<u8>, text: Option<Vec<u8>>) -> bool {

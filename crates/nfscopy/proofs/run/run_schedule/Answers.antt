@@ -1,18 +1,27 @@
-use Rattle.std.proofs.Common.{◌≡◌, None, Some, [], rules}
-use Rattle.std.specs.Prelude.{Ok}
-use Rattle.sched_run.specs.declared.system.Ran.TheVariants as ran
-use Rattle.nfscopy.specs.Outside.{outside, disk_words}
-use Rattle.nfscopy.proofs.Ending.{unmade_ends}
+use Rattle.std.proofs.Common.{ap, rules, arith}
+use Rattle.std.proofs.KnownBytes.{Keeps-refl}
+use Rattle.std.proofs.lemmas.Grind.{common_steps}
+use Rattle.wire_run.specs.Running.{HasDisks, mech_of}
+use Rattle.nfscopy.proofs.Ending.{cut_off, ran_ends, schedule_starved}
 use Rattle.nfscopy.proofs.run.run_schedule.Goals as goal
 
-pub returns-in-Ok-Unmade-clause-ends : goal.returns-in-Ok-Unmade-clause-ends
-returns-in-Ok-Unmade-clause-ends g c =
-    let is : c.run-ran.result ≡ Ok (ran.Unmade c.in-Ok-Unmade.cause) = search rules in
-    let how = rw is at c.run-ran.ensures.ran in
-    let cause = rw is at c.run-ran.ensures.cause in
-    unmade_ends (disk_words g.D.Disk.Told g.D.Disk.faults g.D.Disk.size g.D.Disk.timeline)
-    (outside None (g.K.Stream.takes c.args.output.now).taken 0 (g.K.Stream.takes c.args.output.now).faults c.args.disks.now.source c.args.disks.now.dest)
-    (outside (Some []) (g.K.Stream.takes c.put_unmade.new.output).taken 0 (g.K.Stream.takes c.put_unmade.new.output).faults c.hand_back.result.source c.hand_back.result.dest)
-    c.args.schedule.now c.new-system.result c.run-ran.new.self (g.K.Stream.takes c.run-ran.new.out).taken (g.K.Stream.takes c.run-ran.new.out).faults
-    (search rules) (search rules) c.hand_back.ensures.source c.hand_back.ensures.dest c.run-ran.ensures.later
-    c.in-Ok-Unmade.cause c.put_unmade.result how cause c.put_unmade.ensures.puts
+pub returns-in_default-clause-ends : goal.returns-in_default-clause-ends
+returns-in_default-clause-ends g c = λ left now_left reads now_reads ended.
+    schedule_starved _ _ _ _ _ (Keeps-refl (g.K.Stream.takes c.args.output.now).taken)
+
+pub returns-in-Ok-ran-clause-ends : goal.returns-in-Ok-ran-clause-ends
+returns-in-Ok-ran-clause-ends g c =
+    let how = rw c.in-Ok-ran.is at c.run-ran.ensures.ran in
+    let cause = rw c.in-Ok-ran.is at c.run-ran.ensures.cause in
+    let there = rw c.in-Ok-ran.is at c.run-ran.ensures.there in
+    let had : HasDisks c.in-Ok.system = first_of (search rules, grind (arith, common_steps)) in
+    λ left now_left reads now_reads ended.
+    ran_ends _ _ _ _ _ c.in-Ok.system c.run-ran.new.self (g.K.Stream.takes c.run-ran.new.out).taken (g.K.Stream.takes c.run-ran.new.out).faults
+    (search rules) (search rules) c.hand_back.ensures.source c.hand_back.ensures.dest had there ended c.run-ran.ensures.later
+    c.hand_back.ensures.source_holds c.hand_back.ensures.dest_holds
+    _ (ap mech_of c.in-Ok.ensures) c.in-Ok-ran.ran c.put_end.result how cause c.put_end.ensures.later c.put_end.ensures.puts
+
+pub returns-in-Err-clause-ends : goal.returns-in-Err-clause-ends
+returns-in-Err-clause-ends g c =
+    let out = rw c.in-Err.is at c.run-ran.ensures.err in
+    λ left now_left reads now_reads ended. cut_off _ _ _ _ _ _ (ap mech_of c.in-Ok.ensures) out

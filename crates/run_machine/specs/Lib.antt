@@ -1,4 +1,0 @@
-pub mod Machine
-pub mod History
-pub mod Examples
-pub mod Lines

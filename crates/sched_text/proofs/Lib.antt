@@ -1,9 +1,0 @@
-pub mod FirstBadLemmas
-pub mod GrammarLemmas
-pub mod HexLemmas
-pub mod NumeralLemmas
-pub mod ScanLemmas
-pub mod ScheduleLemmas
-pub mod SpellingLemmas
-pub mod TextLemmas
-pub mod WordsLemmas

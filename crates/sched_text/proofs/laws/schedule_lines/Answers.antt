@@ -1,8 +1,0 @@
-use Rattle.sched_text.proofs.ScheduleLemmas.{schedule_spells, spelled_schedule}
-use Rattle.sched_text.proofs.laws.schedule_lines.Goals as goal
-
-pub returns-clause-only : goal.returns-clause-only
-returns-clause-only c = schedule_spells
-
-pub returns-clause-reads : goal.returns-clause-reads
-returns-clause-reads c = spelled_schedule

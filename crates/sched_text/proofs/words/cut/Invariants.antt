@@ -1,5 +1,0 @@
-use Rattle.sched_text.proofs.WordsLemmas.{Lacks}
-use Rattle.sched_text.proofs.words.cut.Given as goal
-
-abbrev pub invariant-loop-at : goal.invariant-loop-at
-invariant-loop-at l = Lacks l.separator l.text l.at
