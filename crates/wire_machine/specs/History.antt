@@ -23,6 +23,7 @@ use Rattle.wire_lines.specs.declared.letters.Speaker.{Speaker}
 use Rattle.wire_lines.specs.declared.letters.Speaker.TheVariants as speakers
 use Rattle.wire_model.specs.Copies.{Deed, Job, Plain, Lands, LandFails, bare_effect, copy_of, did_of}
 use Rattle.wire_model.specs.Meaning.{Meaning}
+use Rattle.wire_model.specs.Spelling.{Spelling}
 use Rattle.wire_model.specs.Wire.{Acts, Executed, Sent}
 use Rattle.wire_machine.specs.Check.{same_end}
 use Rattle.wire_machine.specs.Ends.{Machines}
@@ -99,6 +100,11 @@ sent_of out = record { bytes = out.bytes; seal = out.seal }
 abbrev pub part_acts : Part → Option Executed → Acts
 part_acts part executed = record { took = part.took; accepted = part.out.accepted; executed = executed; out = map sent_of part.out.sent }
 
+-- only a call is executed
+abbrev pub called_with : (call : Bool) → Option (List ℕ) → Option (List ℕ)
+called_with true took = took
+called_with false took = None
+
 abbrev pub told_by : (List ℕ → Option Executed) → Option (List ℕ) → Option Executed
 told_by told took = option_and_then told took
 
@@ -107,7 +113,8 @@ module _ {S T C W : Type 0} (tell : Telling S T) where
   acts_in before parts now ends.Source =
       part_acts parts.source (told_by (λ bytes. tell.source_told bytes before.clock before.source now.source parts.source.out) parts.source.took)
   acts_in before parts now ends.Dest =
-      part_acts parts.dest (told_by (λ bytes. tell.dest_told bytes before.clock before.dest now.dest parts.dest.out) parts.dest.took)
+      part_acts parts.dest
+      (told_by (λ bytes. tell.dest_told bytes before.clock before.dest now.dest parts.dest.out) (called_with (is_call parts.dest) parts.dest.took))
   acts_in before parts now ends.Client = part_acts parts.client None
 
 -- ---- which copies a step reports as stable: a CB_OFFLOAD under a context of the client's says so, or an OFFLOAD_STATUS was
@@ -121,15 +128,15 @@ abbrev pub is_clients : Option Seal → Bool
 is_clients None = false
 is_clients (Some seal) = same_end seal.owner ends.Client
 
-abbrev pub reports : Meaning → JobName → Sent → Bool
-reports meaning name sent = is_clients sent.seal && is_name name (meaning.reports sent.bytes)
+abbrev pub reports : Spelling → Meaning → JobName → Sent → Bool
+reports spell meaning name sent = is_clients sent.seal && (spell.is_callback sent.bytes && meaning.reports (spell.ops_of sent.bytes) name)
 
 abbrev pub says_stable : Meaning → JobName → Option Executed → Bool
 says_stable meaning name None = false
 says_stable meaning name (Some told) = is_name name (meaning.asks_status told.ops) && meaning.says_complete told.results
 
-abbrev pub is_reported : Meaning → Acts → JobName → Bool
-is_reported meaning acts name = list_any (reports meaning name) acts.out || says_stable meaning name acts.executed
+abbrev pub is_reported : Spelling → Meaning → Acts → JobName → Bool
+is_reported spell meaning acts name = list_any (reports spell meaning name) acts.out || says_stable meaning name acts.executed
 
 -- ---- the copies in the order of their acceptance, the copy of number n at place n - 1. One that is listed has its entries
 -- there; one whose number was given out, and that is listed no more, was retired, be it in the step in which it was accepted.
@@ -183,12 +190,12 @@ job_at seen place = slice_index_or seen.jobs place no_job
 abbrev pub seen_first : Volume → Seen
 seen_first v = record { jobs = []; bare = v; deed = Plain Rests }
 
-module _ {S T C W : Type 0} (m : Machines S T C W) (tell : Telling S T) (meaning : Meaning) where
+module _ {S T C W : Type 0} (m : Machines S T C W) (tell : Telling S T) (spell : Spelling) (meaning : Meaning) where
   abbrev pub sees : World S T C W → Step S T C W → Seen → Seen
   sees before s seen =
       let deed = deed_of (m.dest_volume s.after.dest) s.parts.dest in
       record {
-        jobs = jobs_after (tell.jobs s.after.dest) (is_reported meaning (acts_in tell before s.parts s.after ends.Dest)) (m.dest_volume s.after.dest).boot
+        jobs = jobs_after (tell.jobs s.after.dest) (is_reported spell meaning (acts_in tell before s.parts s.after ends.Dest)) (m.dest_volume s.after.dest).boot
             (tell.made s.after.dest) seen.jobs;
         bare = after seen.bare (bare_effect deed);
         deed = deed;

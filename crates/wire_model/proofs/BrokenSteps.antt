@@ -76,7 +76,7 @@ crossed_refused right =
 
 pub early_report_refused : (spell : Spelling) (meaning : Meaning) (s : System) (k : ℕ) (bytes : List ℕ) (seal : Seal) (job : JobName)
     → Sends (s.acts Dest k) bytes (Some seal) → seal.owner ≡ Client → spell.is_callback bytes ≡ true
-    → meaning.reports (spell.ops_of bytes) ≡ Some job
+    → meaning.reports (spell.ops_of bytes) job ≡ true
     → ((j : ℕ) → s.name (suc k) j ≡ job → is_committed (s.job (suc k) j).entries ≡ false)
     → NameLaws spell meaning s k → CopiesLaws spell meaning s k → ⊥
 early_report_refused spell meaning s k bytes seal job sends own is_callback reports uncommitted names copies =

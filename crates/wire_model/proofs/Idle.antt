@@ -24,7 +24,8 @@ idle_wire owner = record {
 idle_copies : (k : ℕ) → CopiesLaws spelling no_meaning idle_system k
 idle_copies k = record {
   made = omega arith;
-  fresh = λ j new. record { entries = refl; retired = refl; stable = refl };
+  fresh = λ j new. record { entries = refl; stable = refl };
+  unmade = λ j past. refl;
   plan = λ j there. refl;
   entries = λ j there. inl refl;
   lands = λ j off bytes is. absurd (cc);
@@ -52,7 +53,7 @@ idle_is_lawful = record {
   dest = λ k simple. record { allowed = tt; goes_on = refl };
   bare_start = refl;
   bare = λ k. refl;
-  copies_start = record { none_made = refl; blank = λ j. record { entries = refl; retired = refl; stable = refl }; none_held = λ worker. refl };
+  copies_start = record { none_made = refl; blank = λ j. record { entries = refl; stable = refl }; none_retired = λ j. refl; none_held = λ worker. refl };
   copies = idle_copies;
 }
 

@@ -45,6 +45,10 @@ module _ (spell : Spelling) (meaning : Meaning) (s : System) (lawful : IsLawfulS
   blank_at zero j past = lawful.copies_start.blank j
   blank_at (suc k) j past = (lawful.copies k).fresh j (let step = (lawful.copies k).made in omega arith)
 
+  unretired_at : (k j : ℕ) → s.made k ≤ j → (s.job k j).retired ≡ false
+  unretired_at zero j past = lawful.copies_start.none_retired j
+  unretired_at (suc k) j past = (lawful.copies k).unmade j past
+
   pub plan_stays : (j i k : ℕ) → i ≤ k → j < s.made i → plan_at s k j ≡ plan_at s i j
   plan_stays j i k le accepted =
       from_on
@@ -156,7 +160,7 @@ module _ (spell : Spelling) (meaning : Meaning) (s : System) (lawful : IsLawfulS
           (λ (past : s.made k ≤ j). absurd (⊎_elim
           (λ (ended : is_stopped (entries k j) ≡ true).
           false≢true (sym (ap (λ (es : List Entry). is_stopped es) (blank_at k j past).entries) ∙ ended))
-          (λ (retired : (s.job k j).retired ≡ true). both_ways _ (blank_at k j past).retired retired)
+          (λ (retired : (s.job k j).retired ≡ true). both_ways _ (unretired_at k j past) retired)
           (or_cases (is_stopped (entries k j)) (s.job k j).retired stopped)))
           (cases_lt j (s.made k))
 

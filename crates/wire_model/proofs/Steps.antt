@@ -223,10 +223,7 @@ module _ (spell : Spelling) (meaning : Meaning) (s : System) (lawful : IsLawfulS
       let high : place < (plan_at s (suc k) j).dst_off + len_of (s.job (suc k) j).entries = within.1 in
       let low' : (plan_at s (suc k) l).dst_off ≤ place = within'.0 in
       let high' : place < (plan_at s (suc k) l).dst_off + len_of (s.job (suc k) l).entries = within'.1 in
-      absurd (⊎_elim
-      (λ (before_l : (plan_at s (suc i) j).dst_off + s.reach j ≤ (plan_at s (suc i) l).dst_off). omega arith)
-      (λ (after_l : (plan_at s (suc i) l).dst_off + s.reach l ≤ (plan_at s (suc i) j).dst_off). omega arith)
-      apart)
+      apart place (omega arith) (omega arith) (omega arith) (omega arith)
 
   landing_laws : (k j off : ℕ) (bytes : List ℕ) (place : ℕ) → s.deed k ≡ Lands j off bytes
       → LandsAt (did.Landed j off (length bytes)) j (plan_at s (suc k) j) place → LandingLaws (history s) k j place

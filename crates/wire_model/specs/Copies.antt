@@ -48,10 +48,9 @@ progress_of made j job =
       durable = is_safe job;
     }
 
--- a job that nothing happened to
+-- a job of which nothing was entered or reported
 pub record IsBlank (job : Job) : Type 0 where
   pub entries : job.entries ≡ []
-  pub retired : job.retired ≡ false
   pub stable : job.stable ≡ false
 
 -- What the destination did to its volume in a step: a call of its own or a client's, or a crash; the landing of

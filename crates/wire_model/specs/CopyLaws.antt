@@ -96,17 +96,19 @@ pub record KeepsMarks (before now : Job) : Type 0 where
 -- the rooms that two copies claim have no common byte
 abbrev pub AreApart : System → ℕ → ℕ → ℕ → Type 0
 AreApart s k j l =
-    ((plan_at s k j).dst_off + s.reach j ≤ (plan_at s k l).dst_off) ⊎ ((plan_at s k l).dst_off + s.reach l ≤ (plan_at s k j).dst_off)
+    (place : ℕ) → (plan_at s k j).dst_off ≤ place → place < (plan_at s k j).dst_off + s.reach j
+    → (plan_at s k l).dst_off ≤ place → place < (plan_at s k l).dst_off + s.reach l → ⊥
 
--- The laws of the destination's copies (RFC 7862 section 15.2; all own). made, fresh, plan: copies are accepted in
--- order, begin blank and keep their plans. entries: a log gets one entry at most, which is allowed and due. lands:
--- a landing is one of a job that may land, of a chunk at hand. marks, stable: marks stay, and what is stable is
--- safe. crash: a crash loses every job. apart, reach: at its acceptance a copy claims room apart from that of
--- every copy that may still land, and its length stays within. holds: a chunk that is held was at hand. ready: a
--- call for a job is made only once the job is accepted.
+-- The laws of the destination's copies (RFC 7862 section 15.2; all own). made, fresh, unmade, plan: copies are accepted
+-- in order, begin blank and keep their plans; one may be retired in the step that accepts it. entries: a log gets one
+-- entry at most, which is allowed and due. lands: a landing is one of a job that may land, of a chunk at hand. marks,
+-- stable: marks stay, and what is stable is safe. crash: a crash loses every job. apart, reach: at its acceptance a copy
+-- claims room apart from that of every copy that may still land, and its length stays within. holds: a chunk that is
+-- held was at hand. ready: a call for a job is made only once the job is accepted.
 pub record CopiesLaws (spell : Spelling) (meaning : Meaning) (s : System) (k : ℕ) : Type 0 where
   pub made : s.made k ≤ s.made (suc k)
   pub fresh : (j : ℕ) → s.made k ≤ j → IsBlank (s.job (suc k) j)
+  pub unmade : (j : ℕ) → s.made (suc k) ≤ j → (s.job (suc k) j).retired ≡ false
   pub plan : (j : ℕ) → j < s.made k → plan_at s (suc k) j ≡ plan_at s k j
   pub entries : (j : ℕ) → j < s.made k → ((s.job (suc k) j).entries ≡ (s.job k j).entries) ⊎ Enters spell meaning s k j
   pub lands : (j off : ℕ) (bytes : List ℕ) → s.deed k ≡ Lands j off bytes → IsLanding spell meaning s k j off bytes
@@ -124,4 +126,5 @@ pub record CopiesLaws (spell : Spelling) (meaning : Meaning) (s : System) (k : �
 pub record CopiesStart (s : System) : Type 0 where
   pub none_made : s.made 0 ≡ 0
   pub blank : (j : ℕ) → IsBlank (s.job 0 j)
+  pub none_retired : (j : ℕ) → (s.job 0 j).retired ≡ false
   pub none_held : (worker : ℕ) → s.holds 0 worker ≡ None

@@ -20,7 +20,7 @@ no_meaning = record {
   name_in = λ results. None;
   asks_status = λ ops. None;
   says_complete = λ results. false;
-  reports = λ ops. None;
+  reports = λ ops name. false;
 }
 
 abbrev pub no_caller : Caller

@@ -12,8 +12,8 @@ pub record Place : Type 0 where
 
 -- The bytes that a READ asks from, and its data. The file whose size and change attribute a GETATTR asks, and
 -- these two. The plan that a COPY asks for, and the name that its answer gives. The name whose state an
--- OFFLOAD_STATUS asks, and whether its answer says that the copy completed without an error. The name of which
--- a CB_OFFLOAD reports that its copy is stable (FILE_SYNC4).
+-- OFFLOAD_STATUS asks, and whether its answer says that the copy completed without an error. Whether CB_OFFLOADs
+-- report that the copy of a name is stable (FILE_SYNC4).
 pub record Meaning : Type 0 where
   pub reads : List ℕ → Option Place
   pub data_in : List ℕ → Option (List ℕ)
@@ -24,4 +24,4 @@ pub record Meaning : Type 0 where
   pub name_in : List ℕ → Option JobName
   pub asks_status : List ℕ → Option JobName
   pub says_complete : List ℕ → Bool
-  pub reports : List ℕ → Option JobName
+  pub reports : List ℕ → JobName → Bool

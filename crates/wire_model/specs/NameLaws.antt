@@ -43,4 +43,4 @@ pub record NameLaws (spell : Spelling) (meaning : Meaning) (s : System) (k : ℕ
   pub tells : (ops results : List ℕ) → (s.acts Dest k).executed ≡ Some (record { ops = ops; results = results })
       → TellsBack meaning s k ops results
   pub reports : (bytes : List ℕ) (seal : Seal) (name : JobName) → Sends (s.acts Dest k) bytes (Some seal) → seal.owner ≡ Client
-      → spell.is_callback bytes ≡ true → meaning.reports (spell.ops_of bytes) ≡ Some name → IsReported s (suc k) name
+      → spell.is_callback bytes ≡ true → meaning.reports (spell.ops_of bytes) name ≡ true → IsReported s (suc k) name

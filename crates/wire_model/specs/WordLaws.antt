@@ -36,7 +36,7 @@ pub record IsCalledBack (spell : Spelling) (meaning : Meaning) (s : System) (k :
   pub accepted : (s.acts Client k).accepted ≡ Some seal
   pub own : seal.owner ≡ Client
   pub is_callback : spell.is_callback bytes ≡ true
-  pub reports : meaning.reports (spell.ops_of bytes) ≡ Some name
+  pub reports : meaning.reports (spell.ops_of bytes) name ≡ true
 
 -- The client takes an answer to OFFLOAD_STATUS that the copy of this name completed.
 pub record IsComplete (spell : Spelling) (meaning : Meaning) (s : System) (k n : ℕ) (name : JobName) : Type 0 where

@@ -46,7 +46,7 @@ pub fn refused_steps()
     // A copy is reported as stable before its commit.
     ensures early_report { (spell : Spelling) (meaning : Meaning) (s : System) (k : ℕ) (bytes : List ℕ) (seal : Seal) (job : JobName)
         → Sends (s.acts Dest k) bytes (Some seal) → seal.owner ≡ Client → spell.is_callback bytes ≡ true
-        → meaning.reports (spell.ops_of bytes) ≡ Some job
+        → meaning.reports (spell.ops_of bytes) job ≡ true
         → ((j : ℕ) → s.name (suc k) j ≡ job → is_committed (s.job (suc k) j).entries ≡ false)
         → NameLaws spell meaning s k → CopiesLaws spell meaning s k → ⊥ }
 {}
