@@ -7,6 +7,7 @@ use Rattle.mount.specs.declared.taking.Told.{Told}
 use Rattle.mount.specs.declared.taking.Told.TheVariants as tells
 use Rattle.nfs_base.specs.declared.job.Stop.{Stop}
 use Rattle.nfs_base.specs.declared.job.Stop.TheVariants.{NoRoom, PastEnd, SourceFailed, SourceRefused}
+use Rattle.nfs_base.specs.declared.status.Status.{Status}
 use Rattle.nfs_base.specs.declared.status.TheConstants.Status.{PARTNER_NO_AUTH}
 use Rattle.nfs_compound.specs.declared.reply.Reply.{Reply}
 use Rattle.nfs_compound.specs.declared.res.Res.{Res}
@@ -59,13 +60,17 @@ abbrev pub denied_by : (first : Bool) → Finding
 denied_by true = findings.FirstDenial
 denied_by false = findings.Stops (SourceRefused PARTNER_NO_AUTH)
 
+-- a call of the setup that was answered with status 0, by a result that doesn't tell what was asked, counts as failed too
+abbrev pub refused_by : Status → Finding
+refused_by status = if status.number == 0 then findings.Stops (SourceFailed SUCCESS) else findings.Stops (SourceRefused status)
+
 abbrev pub finding_of : Errand → (denied : Bool) → Told → Finding
 finding_of errand denied tells.Unmatched = findings.Unmatched
 finding_of errand denied tells.Rooted = findings.GoesOn
 finding_of errand denied (tells.Child child) = findings.GoesOn
 finding_of errand denied (tells.Refused major) = findings.Stops (SourceRefused PARTNER_NO_AUTH)
 finding_of errand denied tells.Stepped = findings.GoesOn
-finding_of errand denied (tells.Stopped status) = findings.Stops (SourceRefused status)
+finding_of errand denied (tells.Stopped status) = refused_by status
 finding_of errand denied (tells.Answer reply) = by_status errand reply
 finding_of errand denied tells.Misspelt = findings.Stops (SourceFailed SUCCESS)
 finding_of errand denied (tells.Failed stat) = findings.Stops (SourceFailed (number_of stat_case stat))

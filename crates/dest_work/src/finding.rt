@@ -1,7 +1,7 @@
 //! What the source's answer is for a job.
 
 ghost use Rattle.std.specs.Prelude.{◌≡◌, ◌≤◌};
-ghost use Rattle.dest_work.specs.Findings.{answered, brought, brought_by, by_status, denied_by, is_unknown, len_of, finding_of, range_len, sized_by};
+ghost use Rattle.dest_work.specs.Findings.{answered, brought, brought_by, by_status, denied_by, is_unknown, len_of, finding_of, range_len, refused_by, sized_by};
 ghost use Rattle.dest_tasks.specs.Posts.{is_confirm};
 
 use call_results::{bytes_in, size_in};
@@ -45,12 +45,21 @@ pub fn finding_of(errand: Errand, denied: bool, told: Told) -> Finding
         Told::Child(_) => Finding::GoesOn,
         Told::Refused(_) => Finding::Stops(Stop::SourceRefused(Status::PARTNER_NO_AUTH)),
         Told::Stepped => Finding::GoesOn,
-        Told::Stopped(status) => Finding::Stops(Stop::SourceRefused(status)),
+        Told::Stopped(status) => refused_by(status),
         Told::Answer(reply) => by_status(errand, reply),
         Told::Misspelt => Finding::Stops(Stop::SourceFailed(SUCCESS)),
         Told::Failed(stat) => Finding::Stops(Stop::SourceFailed(stat.number())),
         Told::Denied(why) => denied_by(is_confirm(errand) && is_unknown(why) && !denied),
     }
+}
+
+fn refused_by(status: Status) -> Finding
+    ensures { result ≡ refused_by status }
+{
+    if status.number == 0 {
+        return Finding::Stops(Stop::SourceFailed(SUCCESS));
+    }
+    Finding::Stops(Stop::SourceRefused(status))
 }
 
 fn is_confirm(errand: Errand) -> bool
