@@ -3,3 +3,4 @@ pub mod CallLaws
 pub mod Executing
 pub mod Run
 pub mod Commits
+pub mod Stores

@@ -8,3 +8,6 @@ pub mod SlotKept
 pub mod SlotLaws
 pub mod SlotDutyLaws
 pub mod LawfulSteps
+pub mod ToldSteps
+pub mod OwnSeals
+pub mod OwnReplies

@@ -70,21 +70,27 @@ module _ {X C W : Type 0} (rules : Rules X C) (codes : Codes) (accepted : List �
   abbrev Kind : Type 0
   Kind = IsCompoundStep rules codes conn bytes second s t ⊎ IsOtherStep codes bytes second s t
 
+  -- it leaves the files
+  abbrev IsStill : Stepped X C → Type 0
+  IsStill u = (u.host.state.machine.store ≡ s.state.machine.store) × (u.out.used ≡ [])
+
   -- another step, by what it is
-  other : (u : Stepped X C) → t ≡ u → u.host.state.sessions ≡ s.state.sessions → u.host.steps ≡ s.steps + 1
+  other : (u : Stepped X C) → t ≡ u → u.host.state.sessions ≡ s.state.sessions → IsStill u → u.host.steps ≡ s.steps + 1
       → tells here s.contexts s.state.sessions ≡ false → (AnswersSlot bytes u.out.sent → ⊥) → Kind
-  other u is sessions steps none unanswered = inr (record {
+  other u is sessions still steps none unanswered = inr (record {
     sessions = ap (λ x. x.host.state.sessions) is ∙ sessions;
+    store = ap (λ x. x.host.state.machine.store) is ∙ still.0;
+    unused = ap (λ x. x.out.used) is ∙ still.1;
     steps = ap (λ x. x.host.steps) is ∙ steps;
     none_told = none;
     unanswered = subst (λ x. AnswersSlot bytes x.out.sent → ⊥) (sym is) unanswered;
   })
 
   -- one that sends one record, without a seal
-  other_plain : (u : Stepped X C) (o : Outgoing) → t ≡ u → u.host.state.sessions ≡ s.state.sessions → u.host.steps ≡ s.steps + 1
+  other_plain : (u : Stepped X C) (o : Outgoing) → t ≡ u → u.host.state.sessions ≡ s.state.sessions → IsStill u → u.host.steps ≡ s.steps + 1
       → tells here s.contexts s.state.sessions ≡ false → u.out.sent ≡ o ∷ [] → o.seal ≡ None → Kind
-  other_plain u o is sessions steps none sent seal =
-      other u is sessions steps none
+  other_plain u o is sessions still steps none sent seal =
+      other u is sessions still steps none
       (λ a. let b : AnswersSlot bytes (o ∷ []) = subst (λ (xs : List Outgoing). AnswersSlot bytes xs) sent a in unsealed_sent o seal b.2.0 b.2.1.0 b.2.1.1)
 
   silent : AnswersSlot bytes [] → ⊥
@@ -104,7 +110,7 @@ module _ {X C W : Type 0} (rules : Rules X C) (codes : Codes) (accepted : List �
     read_turn : (args : List ℕ) → call.what ≡ whats.Compound args → (r : Result Compound ℕ) → compound_of args ≡ r
         → IsCompoundTurn rules codes second conn call r s t → Kind
     read_turn args is (Err at) read turn =
-        other_plain _ _ turn refl refl
+        other_plain _ _ turn refl (refl, refl) refl
         (told_none (whats.Compound args) is (ap (λ r. tells_read call.under s.contexts r s.state.sessions) read)) refl refl
     read_turn args is (Ok compound) read turn =
         let asked : IsAsked s.contexts bytes call args = compound_asked codes.mic second bytes s.contexts call args distinct judged_is is in
@@ -131,31 +137,31 @@ module _ {X C W : Type 0} (rules : Rules X C) (codes : Codes) (accepted : List �
         })
 
     other_closed : (what : What) → call.what ≡ what → (IsOpen what → ⊥) → tells_what what call.under s.contexts s.state.sessions ≡ false
-        → (u : Stepped X C) → t ≡ u → u.host.state.sessions ≡ s.state.sessions → u.host.steps ≡ s.steps + 1 → Kind
-    other_closed what is never none u turn sessions steps = other u turn sessions steps (told_none what is none) (closed what is never u.out.sent)
+        → (u : Stepped X C) → t ≡ u → u.host.state.sessions ≡ s.state.sessions → IsStill u → u.host.steps ≡ s.steps + 1 → Kind
+    other_closed what is never none u turn sessions still steps = other u turn sessions still steps (told_none what is none) (closed what is never u.out.sent)
 
     judged_turn : (what : What) → call.what ≡ what → (told : Judgement C) → t ≡ steps.judged_create told rules.parting codes second conn call s
         → (IsOpen what → ⊥) → tells_what what call.under s.contexts s.state.sessions ≡ false → Kind
-    judged_turn what is (judgements.Granted carry) turn never none = other_closed what is never none _ turn refl refl
-    judged_turn what is judgements.Misspelt turn never none = other_closed what is never none _ turn refl refl
-    judged_turn what is (judgements.Refused cause) turn never none = other_closed what is never none _ turn refl refl
+    judged_turn what is (judgements.Granted carry) turn never none = other_closed what is never none _ turn refl (refl, refl) refl
+    judged_turn what is judgements.Misspelt turn never none = other_closed what is never none _ turn refl (refl, refl) refl
+    judged_turn what is (judgements.Refused cause) turn never none = other_closed what is never none _ turn refl (refl, refl) refl
 
     call_turn : (what : What) → call.what ≡ what → IsWhatTurn what rules codes accepted gives second conn call s before after t → Kind
-    call_turn (whats.Dropped why) is turn = other _ turn.0 refl refl (told_none (whats.Dropped why) is refl) silent
-    call_turn (whats.Denied why) is turn = other_plain _ _ turn.0 refl refl (told_none (whats.Denied why) is refl) refl refl
-    call_turn (whats.Failed failure) is turn = other_plain _ _ turn.0 refl refl (told_none (whats.Failed failure) is refl) refl refl
-    call_turn whats.Null is turn = other_closed whats.Null is null_closed refl _ turn.0 refl refl
-    call_turn (whats.Init token) is turn = other_closed (whats.Init token) is (init_closed token) refl _ turn.is refl refl
+    call_turn (whats.Dropped why) is turn = other _ turn.0 refl (refl, refl) refl (told_none (whats.Dropped why) is refl) silent
+    call_turn (whats.Denied why) is turn = other_plain _ _ turn.0 refl (refl, refl) refl (told_none (whats.Denied why) is refl) refl refl
+    call_turn (whats.Failed failure) is turn = other_plain _ _ turn.0 refl (refl, refl) refl (told_none (whats.Failed failure) is refl) refl refl
+    call_turn whats.Null is turn = other_closed whats.Null is null_closed refl _ turn.0 refl (refl, refl) refl
+    call_turn (whats.Init token) is turn = other_closed (whats.Init token) is (init_closed token) refl _ turn.is refl (refl, refl) refl
     call_turn (whats.Create name privilege) is turn =
         judged_turn (whats.Create name privilege) is (steps.judgement_under rules second name privilege s call.under) turn.0 (create_closed name privilege) refl
-    call_turn whats.Destroy is turn = other_closed whats.Destroy is destroy_closed refl _ turn.0 refl refl
+    call_turn whats.Destroy is turn = other_closed whats.Destroy is destroy_closed refl _ turn.0 refl (refl, refl) refl
     call_turn (whats.Compound args) is turn = read_turn args is (compound_of args) refl turn.0
 
   -- ---- a record
 
   record_turn : (j : Judged) → here ≡ j → AreDistinct s.contexts.entries → IsJudgedTurn j rules codes accepted gives second conn s before after t → Kind
-  record_turn judged.Unread is distinct turn = other _ turn.0 refl refl (ap (λ j. tells j s.contexts s.state.sessions) is) silent
-  record_turn judged.Reply is distinct turn = other _ turn.0 refl refl (ap (λ j. tells j s.contexts s.state.sessions) is) silent
+  record_turn judged.Unread is distinct turn = other _ turn.0 refl (refl, refl) refl (ap (λ j. tells j s.contexts s.state.sessions) is) silent
+  record_turn judged.Reply is distinct turn = other _ turn.0 refl (refl, refl) refl (ap (λ j. tells j s.contexts s.state.sessions) is) silent
   record_turn (judged.Call call) is distinct turn = call_turn call is distinct call.what refl turn
 
 -- a step carries a COMPOUND out, or is another

@@ -6,3 +6,4 @@ pub mod ContextLaws
 pub mod Slots
 pub mod SlotDuties
 pub mod Lawful
+pub mod Told

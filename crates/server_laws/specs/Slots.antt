@@ -1,5 +1,5 @@
 -- What a server's slots need of its state, and what a step is to them.
-use Rattle.std.specs.Prelude.{◌≡◌, ℕ, ◌+◌, ◌^◌, ◌<◌, ◌≤◌, List, map, not, Contains, Some, Ok, false}
+use Rattle.std.specs.Prelude.{◌≡◌, ℕ, ◌+◌, ◌^◌, ◌<◌, ◌≤◌, List, [], map, not, Contains, Some, Ok, false}
 use Rattle.context_laws.specs.View.{root_number}
 use Rattle.gss_ctx.specs.Table.{AreDistinct}
 use Rattle.gss_ctx.specs.declared.context.Context.{Context}
@@ -57,10 +57,12 @@ abbrev pub AnswersSlot : (bytes : List ℕ) → List Outgoing → Type 0
 AnswersSlot bytes sent =
     (name : SlotName) × (slot_of bytes ≡ Some name) × ((reply : List ℕ) × ((seal : Seal) × Contains (map sent_of sent) (record { bytes = reply; seal = Some seal })))
 
--- No COMPOUND is carried out: sessions are as they were, no results are told, and no sealed reply answers a call that names a
--- slot.
+-- No COMPOUND is carried out: sessions and files are as they were, no call is made on the volume, no results are told, and no
+-- sealed reply answers a call that names a slot.
 pub record IsOtherStep {X C : Type 0} (codes : Codes) (bytes : List ℕ) (second : ℕ) (s : HostState X C) (t : Stepped X C) : Type 0 where
   pub sessions : t.host.state.sessions ≡ s.state.sessions
+  pub store : t.host.state.machine.store ≡ s.state.machine.store
+  pub unused : t.out.used ≡ []
   pub steps : t.host.steps ≡ s.steps + 1
   pub none_told : tells (judged_of codes.mic second programs.NFS bytes s.contexts) s.contexts s.state.sessions ≡ false
   pub unanswered : AnswersSlot bytes t.out.sent → ⊥

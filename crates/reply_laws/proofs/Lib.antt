@@ -1,0 +1,5 @@
+mod JudgedSays
+mod Replying
+mod OwnSeals
+mod Turns
+mod Owners

@@ -1,0 +1,15 @@
+pub mod Makes
+pub mod FileCalls
+pub mod WalkCalls
+pub mod CompoundCalls
+pub mod StepCalls
+pub mod Effects
+pub mod Answers
+pub mod WalkTold
+pub mod CompoundTold
+pub mod ReadBack
+pub mod Fits
+pub mod Asked
+pub mod Words
+pub mod Tells
+pub mod StaysFitting
