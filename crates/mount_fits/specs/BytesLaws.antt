@@ -1,0 +1,94 @@
+-- What is spelled is bytes, and of bytes each part is.
+use Rattle.std.proofs.Common.{ℕ, zero, suc, ◌<◌, ◌%◌, ◌/◌, ◌^◌, Bool, List, [], ◌∷◌, ◌++◌, length, replicate, refl, subst, arith}
+use Rattle.std.specs.Int.{byte_at, bytes_high_first}
+use Rattle.std.specs.List.{AllByRecursion, flat_map}
+use Rattle.std.proofs.lemmas.List.{drop_at, take_at}
+use Rattle.nfs_base.specs.Forms.{state_id}
+use Rattle.nfs_base.specs.declared.state_id.StateId.{StateId}
+use Rattle.wire_xdr.specs.Cursor.{IsBytes}
+use Rattle.wire_xdr.specs.Form.{Form}
+use Rattle.wire_xdr.specs.Parts.{list_spell}
+use Rattle.wire_xdr.specs.StepLaws.{IsBytes-drop, IsBytes-take}
+use Rattle.wire_xdr.specs.Words.{fixed_bytes, flag_bytes, hyper_bytes, opaque_bytes, padding, word_bytes}
+
+pub no_bytes : IsBytes []
+no_bytes i = omega arith
+
+pub one_more : (x : ℕ) (xs : List ℕ) → x < 256 → IsBytes xs → IsBytes (x ∷ xs)
+one_more x xs small h zero = small
+one_more x xs small h (suc i) = h i
+
+pub glued : (xs ys : List ℕ) → IsBytes xs → IsBytes ys → IsBytes (xs ++ ys)
+glued [] ys h k = k
+glued (x ∷ xs) ys h k = one_more x (xs ++ ys) (h 0) (glued xs ys (λ i. h (suc i)) k)
+
+-- ---- numbers
+
+below : (n : ℕ) → n % 256 < 256
+below n = omega arith
+
+byte_below : (i n : ℕ) → byte_at i n < 256
+byte_below zero n = below n
+byte_below (suc i) n = below (n / 256 ^ suc i)
+
+high_first : (k n : ℕ) → IsBytes (bytes_high_first k n)
+high_first zero n = no_bytes
+high_first (suc k) n = one_more (byte_at k n) (bytes_high_first k n) (byte_below k n) (high_first k n)
+
+pub word_are : (n : ℕ) → IsBytes (word_bytes n)
+unfolding word_bytes
+word_are n = high_first 4 n
+
+pub hyper_are : (n : ℕ) → IsBytes (hyper_bytes n)
+unfolding hyper_bytes
+hyper_are n = high_first 8 n
+
+pub flag_are : (b : Bool) → IsBytes (flag_bytes b)
+unfolding flag_bytes
+flag_are b = word_are _
+
+-- ---- bytes with padding, and behind their length
+
+zeros : (n : ℕ) → IsBytes (replicate n 0)
+zeros zero = no_bytes
+zeros (suc n) = one_more 0 (replicate n 0) (omega arith) (zeros n)
+
+pub fixed_are : (bytes : List ℕ) → IsBytes bytes → IsBytes (fixed_bytes bytes)
+unfolding fixed_bytes
+fixed_are bytes h = glued bytes (replicate (padding (length bytes)) 0) h (zeros (padding (length bytes)))
+
+pub opaque_are : (bytes : List ℕ) → IsBytes bytes → IsBytes (opaque_bytes bytes)
+unfolding opaque_bytes
+opaque_are bytes h = glued (word_bytes (length bytes)) (fixed_bytes bytes) (word_are (length bytes)) (fixed_are bytes h)
+
+-- ---- lists
+
+each_are : {A : Type 0} (form : Form A) (xs : List A) → AllByRecursion (λ x. IsBytes (form.spell x)) xs → IsBytes (flat_map form.spell xs)
+each_are form [] h = no_bytes
+each_are form (x ∷ xs) h = glued (form.spell x) (flat_map form.spell xs) h.0 (each_are form xs h.1)
+
+pub list_are : {A : Type 0} (form : Form A) (xs : List A) → AllByRecursion (λ x. IsBytes (form.spell x)) xs → IsBytes (list_spell form xs)
+unfolding list_spell
+list_are form xs h = glued (word_bytes (length xs)) (flat_map form.spell xs) (word_are (length xs)) (each_are form xs h)
+
+pub state_id_are : (id : StateId) → IsBytes (state_id.spell id)
+unfolding state_id
+state_id_are id =
+    glued (word_bytes id.seqid) _ (word_are id.seqid)
+    (glued (word_bytes id.kind) _ (word_are id.kind) (glued (word_bytes id.boot) (word_bytes id.number) (word_are id.boot) (word_are id.number)))
+
+-- ---- of bytes each part is bytes
+
+pub first_part : (xs ys : List ℕ) → IsBytes (xs ++ ys) → IsBytes xs
+first_part xs ys h = subst IsBytes (take_at xs ys (length xs) refl) (IsBytes-take (length xs) (xs ++ ys) h)
+
+pub second_part : (xs ys : List ℕ) → IsBytes (xs ++ ys) → IsBytes ys
+second_part xs ys h = subst IsBytes (drop_at xs ys (length xs) refl) (IsBytes-drop (length xs) (xs ++ ys) h)
+
+pub fixed_part : (bytes : List ℕ) → IsBytes (fixed_bytes bytes) → IsBytes bytes
+unfolding fixed_bytes
+fixed_part bytes h = first_part bytes (replicate (padding (length bytes)) 0) h
+
+pub opaque_part : (bytes : List ℕ) → IsBytes (opaque_bytes bytes) → IsBytes bytes
+unfolding opaque_bytes
+opaque_part bytes h = fixed_part bytes (second_part (word_bytes (length bytes)) (fixed_bytes bytes) h)

@@ -1,0 +1,14 @@
+pub mod Answers
+pub mod Asking
+pub mod Bounds
+pub mod BytesLaws
+pub mod Fitting
+pub mod HeardLaws
+pub mod ListLaws
+pub mod Moving
+pub mod OperationLaws
+pub mod ReplyLaws
+pub mod SealedLaws
+pub mod SendLaws
+pub mod StepLaws
+pub mod TakeLaws

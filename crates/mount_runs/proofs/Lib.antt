@@ -1,0 +1,9 @@
+mod Knowing
+mod KnownSteps
+mod Behind
+mod Servers
+mod Rooting
+mod RunFacts
+mod RunJoins
+mod Joins
+mod Beside

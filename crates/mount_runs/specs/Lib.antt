@@ -1,0 +1,4 @@
+pub mod Runs
+pub mod Order
+pub mod Besides
+pub mod Whole
