@@ -80,8 +80,8 @@ use Rattle.wire_xdr.specs.Cursor.{Cursor, IsBytes}
 use Rattle.wire_xdr.specs.Words.{word_bytes}
 use Rattle.client_laws.proofs.Fitting.{quiet_deed}
 use Rattle.client_laws.proofs.MountCalls.{goes_on}
-use Rattle.client_laws.proofs.MountMoves.{Counted}
-use Rattle.client_laws.proofs.MountTurns.{Comes, IsFoundAs, does, finds}
+use Rattle.client_laws.proofs.MountMoves.{Counted, unsure}
+use Rattle.client_laws.proofs.MountHears.{Comes, IsFoundAs, does, finds}
 use Rattle.client_laws.specs.Answered.{IsAnswerTaken}
 use Rattle.client_laws.specs.CallerLaws.{StartsOwn}
 use Rattle.client_laws.specs.Turns.{Hears, IsTurn}
@@ -325,7 +325,7 @@ site_mount : {M : Type 0} (side : Side) (now : ℕ) (c : ClientState M) → (sit
 site_mount Source now c = refl
 site_mount Dest now c = refl
 
-comes_accepted : (who : Identity) (means : Means) (boot : ℕ) (counted : Counted) (side : Side) (d e : Desk) → Comes who means boot (λ one. Unit {0}) counted side d e
+comes_accepted : (who : Identity) (means : Means) (boot : ℕ) (counted : Counted) (side : Side) (d e : Desk) → Comes who means boot (unsure means.mic) counted side d e
     → e.out.accepted ≡ d.out.accepted
 comes_accepted who means boot counted side d e (inl x) = x.accepted
 comes_accepted who means boot counted side d e (inr x) = x.0.accepted
@@ -392,8 +392,8 @@ module _ {M W : Type 0} (who : Identity) (ways : Ways) (boot : ℕ) (counted : C
       let b : Acting = on_desk (under_seal found.accepted) a in
       let deed = deed_of setting_up found.told side found.place found.sent_at b in
       comes_accepted who ways.means boot counted side b.desk _
-      (does who ways.means boot (λ one. Unit {0}) counted side deed me free side found.place found.sent_at b
-      (quiet_deed (found.place == 0) setting_up found.told side found.place found.sent_at b))
+      (does who ways.means boot (unsure ways.means.mic) counted side deed me free side found.place found.sent_at b
+      (quiet_deed (found.place == 0) setting_up found.told side found.place found.sent_at b) (λ no. absurd no) (λ no. absurd no))
 
   replied_accepted : (heard ways side message now c).desk.out.accepted ≡ found.accepted
   replied_accepted =
@@ -409,7 +409,8 @@ module _ {M W : Type 0} (who : Identity) (ways : Ways) (boot : ℕ) (counted : C
       → (ended_by to back c).1.accepted ≡ found.accepted
   accepted_by None back v w own on drawn = absurd cc
   accepted_by (Some a) back v w own on drawn =
-      (goes_on who ways.means boot (λ one. Unit {0}) counted side c.setting ways.started gives (heard ways side message now c) v w a own on).accepted ∙ replied_accepted
+      (goes_on who ways.means boot (unsure ways.means.mic) counted side c.setting ways.started gives (heard ways side message now c) v w a own (λ no. absurd no) (λ no. absurd no) (λ no. absurd no) on).accepted
+      ∙ replied_accepted
 
   step_accepted : (back : Acting → ContextTable ℕ) (v w : W) (end : ClientState M × Outbox) → StartsOwn who ways gives
       → IsStep ways gives (heard ways side message now c) back c v w end → end.1.undrawn ≡ false → end.1.accepted ≡ found.accepted

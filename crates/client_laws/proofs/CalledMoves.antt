@@ -14,7 +14,8 @@ use Rattle.client_copies.specs.declared.event.Event.{Event}
 use Rattle.client_copies.specs.declared.event.Event.TheVariants as events
 use Rattle.client_copies.specs.declared.held.HeldOffload.{HeldOffload}
 use Rattle.client_copies.specs.declared.told.Word.{Word}
-use Rattle.client_core.specs.Callbacks.{all_said}
+use Rattle.client_core.specs.Callbacks.{all_said, session_under}
+use Rattle.client_core.specs.State.{ClientState}
 use Rattle.client_steps.specs.Desks.{said_by}
 use Rattle.client_steps.specs.declared.desk.Desk.{Desk}
 use Rattle.copy_ops.specs.declared.callback.CbOffload.{CbOffload}
@@ -32,6 +33,7 @@ use Rattle.nfs_compound.specs.declared.compound.TheConstants.{MINOR_VERSION}
 use Rattle.nfs_compound.specs.declared.tail.Tail.{Tail}
 use Rattle.nfs_compound.specs.declared.tail.Tail.TheVariants as tails
 use Rattle.outbox.specs.declared.note.Note.{Note}
+use Rattle.rpc_calls.specs.declared.call.Under.{Under}
 use Rattle.client_laws.proofs.Changed.{changes_none, changes_then, notes_said, said_copies, said_if, said_notes, told_each, words_append, words_said, copy_kept, copy_written}
 use Rattle.client_laws.specs.Changes.{Changes}
 use Rattle.client_laws.specs.Telling.{words_of}
@@ -199,19 +201,46 @@ walked_outcomes cause t u session first (op ∷ more) tail few same why =
     behind_outcomes (o.status.number == 0) o (walked session false more tail o.copies) here
     (walked_outcomes cause t o.copies session false more tail (let many = here.many in omega (arith, many, few)) (λ id j. here.named id j (same id j)) why.1)
 
+-- the operations behind a CB_SEQUENCE of the session, which stands first
+abbrev pub AllBehind : Option (List ℕ) → List CbOp → (CbOp → Type 0) → Type 0
+AllBehind session list P =
+    (args : CbSeq) (more : List CbOp) → is_session args.session session ≡ true → list ≡ ops.Sequence args ∷ more → AllByRecursion P more
+
+-- nothing is done but behind it
+sequenced_outcomes : (cause : ℕ → Event → Type 0) (t : Copies) (session : Option (List ℕ)) (own : Bool) (args : CbSeq) (more : List CbOp) (tail : Tail) → length t.copies ≤ 256
+    → (own ≡ true → AllByRecursion (Reports cause t) more)
+    → Outcomes cause t t (if_ok ((sequence_by true own args t).status.number == 0) (sequence_by true own args t) (walked session false more tail (sequence_by true own args t).copies))
+sequenced_outcomes cause t session true args more tail few why =
+    let o = sequence_by true true args t in
+    behind_outcomes (o.status.number == 0) o (walked session false more tail o.copies) (sequence_outcomes cause t t true true args)
+    (walked_outcomes cause t t session false more tail few (λ id j. refl) (why refl))
+sequenced_outcomes cause t session false args more tail few why = sequence_outcomes cause t t true false args
+
+first_outcomes : (cause : ℕ → Event → Type 0) (t : Copies) (session : Option (List ℕ)) (list : List CbOp) (tail : Tail) → length t.copies ≤ 256
+    → AllBehind session list (Reports cause t) → Outcomes cause t t (walked session true list tail t)
+first_outcomes cause t session [] tail few why = tail_outcomes cause t t tail
+first_outcomes cause t session (ops.Sequence args ∷ more) tail few why =
+    sequenced_outcomes cause t session (is_session args.session session) args more tail few (λ own. why args more own refl)
+first_outcomes cause t session (ops.Offload args ∷ more) tail few why = outcomes_none refl refl
+
 counted_outcomes : (cause : ℕ → Event → Type 0) (t : Copies) (many : Bool) (session : Option (List ℕ)) (c : CbCompound) → length t.copies ≤ 256
-    → AllByRecursion (Reports cause t) c.ops → Outcomes cause t t (counted many session c t)
+    → AllBehind session c.ops (Reports cause t) → Outcomes cause t t (counted many session c t)
 counted_outcomes cause t true session c few why = outcomes_none refl refl
-counted_outcomes cause t false session c few why = walked_outcomes cause t t session true c.ops c.tail few (λ id j. refl) why
+counted_outcomes cause t false session c few why = first_outcomes cause t session c.ops c.tail few why
 
 evaluated_if : (cause : ℕ → Event → Type 0) (t : Copies) (ok : Bool) (session : Option (List ℕ)) (c : CbCompound) → length t.copies ≤ 256
-    → AllByRecursion (Reports cause t) c.ops → Outcomes cause t t (evaluated_by ok session c t)
+    → AllBehind session c.ops (Reports cause t) → Outcomes cause t t (evaluated_by ok session c t)
 evaluated_if cause t true session c few why = counted_outcomes cause t (nat_lt MOST_OPERATIONS c.count) session c few why
 evaluated_if cause t false session c few why = outcomes_none refl refl
 
 pub evaluated_outcomes : (cause : ℕ → Event → Type 0) (t : Copies) (session : Option (List ℕ)) (c : CbCompound) → length t.copies ≤ 256
-    → AllByRecursion (Reports cause t) c.ops → Outcomes cause t t (evaluated session c t)
+    → AllBehind session c.ops (Reports cause t) → Outcomes cause t t (evaluated session c t)
 evaluated_outcomes cause t session c few why = evaluated_if cause t (c.minor == MINOR_VERSION) session c few why
+
+-- a call whose session is known came under a context
+pub under_of : {M : Type 0} (c : ClientState M) (o : Option Under) (session : List ℕ) → is_session session (session_under o c) ≡ true → (under : Under) × (o ≡ Some under)
+under_of c None session e = absurd cc
+under_of c (Some under) session e = (under, refl)
 
 -- ---- each of the operations is one of the compound's
 

@@ -54,7 +54,7 @@ use Rattle.rpc_calls.specs.declared.contexts.InitAnswer.{InitAnswer}
 use Rattle.streams.specs.declared.draws.Drawn.{Drawn}
 use Rattle.streams.specs.declared.draws.Drawn.TheVariants.{Got, Failed}
 use Rattle.write_queue.specs.declared.work.Work.{Work}
-use Rattle.client_laws.proofs.CalledMoves.{all_copies, contains_behind, contains_first}
+use Rattle.client_laws.proofs.CalledMoves.{AllBehind, all_copies, contains_behind, contains_first, under_of}
 use Rattle.client_laws.proofs.Changed.{said_copies}
 use Rattle.client_laws.proofs.HeardMoves.{IsAtPlace, taken_place}
 use Rattle.client_laws.proofs.OwnMoves.{own_asked, own_goes_down, own_goes_on, own_idle, own_opens, own_queue, own_retried, own_setup, own_ticked}
@@ -203,14 +203,32 @@ held_walked {brought = brought} session first (op ∷ more) tail t why =
     held_ok {brought = brought} (o.status.number == 0) o (walked session false more tail o.copies) t (held_op session first op t why.0)
     (held_walked {brought = brought} session false more tail o.copies why.1)
 
-held_counted : {brought : HeldOffload → Type 0} (many : Bool) (session : Option (List ℕ)) (c : CbCompound) (t : Copies) → AllByRecursion (Brings brought) c.ops
+-- nothing is held but behind a CB_SEQUENCE of the session
+held_sequenced : {brought : HeldOffload → Type 0} (session : Option (List ℕ)) (own : Bool) (args : CbSeq) (more : List CbOp) (tail : Tail) (t : Copies)
+    → (own ≡ true → AllByRecursion (Brings brought) more)
+    → Holds brought t.held
+    (if_ok ((sequence_by true own args t).status.number == 0) (sequence_by true own args t) (walked session false more tail (sequence_by true own args t).copies)).copies.held
+held_sequenced {brought = brought} session true args more tail t why =
+    let o = sequence_by true true args t in
+    held_ok {brought = brought} (o.status.number == 0) o (walked session false more tail o.copies) t (held_sequence true true args t)
+    (held_walked {brought = brought} session false more tail t (why refl))
+held_sequenced session false args more tail t why = holds_same refl
+
+held_first : {brought : HeldOffload → Type 0} (session : Option (List ℕ)) (list : List CbOp) (tail : Tail) (t : Copies) → AllBehind session list (Brings brought)
+    → Holds brought t.held (walked session true list tail t).copies.held
+held_first session [] tail t why = held_tail tail t
+held_first {brought = brought} session (ops.Sequence args ∷ more) tail t why =
+    held_sequenced {brought = brought} session (is_session args.session session) args more tail t (λ own. why args more own refl)
+held_first session (ops.Offload args ∷ more) tail t why = holds_same refl
+
+held_counted : {brought : HeldOffload → Type 0} (many : Bool) (session : Option (List ℕ)) (c : CbCompound) (t : Copies) → AllBehind session c.ops (Brings brought)
     → Holds brought t.held (counted many session c t).copies.held
 held_counted true session c t why = holds_same refl
-held_counted false session c t why = held_walked session true c.ops c.tail t why
+held_counted {brought = brought} false session c t why = held_first {brought = brought} session c.ops c.tail t why
 
-held_evaluated : {brought : HeldOffload → Type 0} (ok : Bool) (session : Option (List ℕ)) (c : CbCompound) (t : Copies) → AllByRecursion (Brings brought) c.ops
+held_evaluated : {brought : HeldOffload → Type 0} (ok : Bool) (session : Option (List ℕ)) (c : CbCompound) (t : Copies) → AllBehind session c.ops (Brings brought)
     → Holds brought t.held (evaluated_by ok session c t).copies.held
-held_evaluated true session c t why = held_counted (nat_lt MOST_OPERATIONS c.count) session c t why
+held_evaluated {brought = brought} true session c t why = held_counted {brought = brought} (nat_lt MOST_OPERATIONS c.count) session c t why
 held_evaluated false session c t why = holds_same refl
 
 all_bring : (brought : HeldOffload → Type 0) (list : List CbOp) → ((args : CbOffload) → Contains list (ops.Offload args) → brought (record { id = args.id; end = args.end }))
@@ -220,7 +238,7 @@ all_bring brought (ops.Sequence args ∷ more) why = (tt, all_bring brought more
 all_bring brought (ops.Offload args ∷ more) why = (why args (contains_first _ more), all_bring brought more (λ other there. why other (contains_behind _ _ more there)))
 
 held_called : {M : Type 0} {brought : HeldOffload → Type 0} (mic : Mic) (side : Side) (call : Call) (compound : CbCompound) (c : ClientState M) (d : Desk)
-    → AllByRecursion (Brings brought) compound.ops → Holds brought d.copies.held (called_back mic side call compound c d).copies.held
+    → AllBehind (session_under call.under c) compound.ops (Brings brought) → Holds brought d.copies.held (called_back mic side call compound c d).copies.held
 held_called {brought = brought} mic side call compound c d why =
     let session = session_under call.under c in
     let o = evaluated session compound d.copies in
@@ -271,13 +289,31 @@ module _ {M : Type 0} (ways : Ways) (turn : Turn) (c : ClientState M) where
       → cb_compound_of args ≡ o → IsCompound o ways gives now side call c v w end → Ends end
   compounds gives side message now call args (Err at) v w end is judged_is what read step = subst Ends (sym step.0) (holds_same {brought = Brought} refl)
   compounds gives side message now call args (Ok compound) v w end is judged_is what read step =
-      let why = all_bring Brought compound.ops
+      let why : AllBehind (session_under call.under c) compound.ops (Brings Brought) = λ first more own are.
+      let context = under_of c call.under first.session own in
+      all_bring Brought more
       (λ offload there. record {
         side = side;
         message = message;
         now = now;
         turn_is = is;
-        by = record { call = call; judged_is = judged_is; args = args; what = what; compound = compound; read = read; offload = offload; there = there; id_is = refl; end_is = refl };
+        by = record {
+          call = call;
+          judged_is = judged_is;
+          args = args;
+          what = what;
+          under = context.0;
+          under_is = context.1;
+          compound = compound;
+          read = read;
+          first = first;
+          more = more;
+          ops_are = are;
+          offload = offload;
+          there = there;
+          id_is = refl;
+          end_is = refl;
+        };
       }) in
       steps gives (on_desk (called_back ways.means.mic side call compound c) (acting_at now c)) _ v w end
       (held_called {brought = Brought} ways.means.mic side call compound c (desk_at now c) why) step

@@ -8,6 +8,8 @@ mod JudgedSays
 mod Replying
 mod MountCalls
 mod MountAgain
+mod MountHears
+mod MountSetups
 mod MountParts
 mod MountTurns
 mod Changed
@@ -38,3 +40,4 @@ mod Wholes
 mod KnownSteps
 mod BackOwner
 mod Answering
+mod SpelledTurns

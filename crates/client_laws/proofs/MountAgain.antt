@@ -12,14 +12,13 @@ use Rattle.mount.specs.Taking.{Means}
 use Rattle.nfs_base.specs.declared.side.Side.{Side}
 use Rattle.nfs_base.specs.declared.side.Side.TheVariants.{Source, Dest}
 use Rattle.outbox.specs.declared.label.CallLabel.{CallLabel}
-use Rattle.outbox.specs.declared.outgoing.Outgoing.{Outgoing}
 use Rattle.client_laws.proofs.Going.{Rise, behind_dest, behind_first, behind_second, behind_third, copies_rise, dest_within, end_of, first_within, from_low, last_within, rises_first, rises_last, rises_second, rises_third, second_within, source_within, third_within, to_next}
 use Rattle.client_laws.proofs.RunKinds.{Kind, OnceMore, once_more}
-use Rattle.client_laws.proofs.MountMoves.{Counted, Own, no_calls, runs_then, same_seal}
+use Rattle.client_laws.proofs.MountMoves.{Counted, Own, Post, no_calls, runs_then, same_seal}
 use Rattle.client_laws.proofs.MountParts.{ArePlaces, copies_are, first_place}
 use Rattle.client_laws.proofs.MountCalls.{again, same}
 
-module _ (who : Identity) (means : Means) (boot : ℕ) (post : Outgoing → Type 0) (counted : Counted) (side : Side) where
+module _ (who : Identity) (means : Means) (boot : ℕ) (post : Post means.mic) (counted : Counted) (side : Side) where
   abbrev R : Kind → Desk → Desk → Type 0
   R k d e = Own who means boot post k side d e
 

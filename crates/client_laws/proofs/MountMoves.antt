@@ -37,7 +37,8 @@ use Rattle.wire_model.specs.Wire.{Acts, Purpose}
 use Rattle.client_laws.proofs.Asking.{Stays, stays_same, stays_then}
 use Rattle.client_laws.proofs.RunKinds.{Anew, IsOf, Joins, Kind, MayRest, anew_twice, count_append, is_loud, numbers_append, numbers_to_append, rest_is}
 use Rattle.client_laws.proofs.Changed.{all_behind}
-use Rattle.client_laws.proofs.MountRuns.{acts_append, run_append}
+use Rattle.client_laws.proofs.MountRuns.{AllFit, acts_append, fit_append, run_append}
+use Rattle.mount_fits.specs.Moving.{GivesBytes, SendsFit}
 use Rattle.client_laws.specs.CallerLaws.{AllAsk, AsksIn, IsMountRun, PurposesFit, MountStep, above_by, acts_in, call_if, calls_to, goes_to, is_call, purpose_after, taken_in}
 use Rattle.client_laws.specs.Order.{count_behind, numbers_in, numbers_to}
 
@@ -62,9 +63,19 @@ pub record Counted : Type 0 where
   pub create : (mic : Mic) (at : SendAt) (child : ℕ) (name privilege : List ℕ) (m : Mounted) → Went at m (child_asked mic at child name privilege m)
   pub again : (mic : Mic) (at : SendAt) (m : Mounted) → Went at m (sent_again mic at m)
 
+-- What goes out besides calls is so; and where it is sure that what is known is fit, the codes are bytes.
+pub record Post (mic : Mic) : Type 1 where
+  pub of : Outgoing → Type 0
+  pub sure : Type 0
+  pub codes : sure → GivesBytes mic
+
+-- where nothing is sure
+abbrev pub unsure : (mic : Mic) → Post mic
+unsure mic = record { of = λ one. Unit {0}; sure = ⊥; codes = λ no. absurd no }
+
 -- ---- at one server
 
-pub record Ran (who : Identity) (means : Means) (boot : ℕ) (kind : Kind) (side : Side) (purpose : ℕ → Purpose) (taken : List (List ℕ × Option Seal)) (more : List Outgoing)
+pub record Ran (sure : Type 0) (who : Identity) (means : Means) (boot : ℕ) (kind : Kind) (side : Side) (purpose : ℕ → Purpose) (taken : List (List ℕ × Option Seal)) (more : List Outgoing)
     (d e : Desk) : Type 0 where
   pub after : ℕ → Purpose
   pub steps : List MountStep
@@ -74,6 +85,7 @@ pub record Ran (who : Identity) (means : Means) (boot : ℕ) (kind : Kind) (side
   pub asks : (t : Copies) → (is_loud kind ≡ true → Stays e.copies t) → AllAsk t steps
   pub order : IsOf kind means steps (mount_in side d)
   pub numbers : numbers_in means steps (mount_in side d) ≡ numbers_to side d.calls more
+  pub fit : sure → AllFit means steps (mount_in side d)
 
 -- what goes out is a call to a server, or as it should be
 abbrev pub IsPosted : (Outgoing → Type 0) → Outgoing → Type 0
@@ -84,15 +96,15 @@ IsPosted post one = ((is_call one.label ≡ true) × ((goes_to Source one.to || 
 abbrev pub any : (ℕ → Purpose) → Type 0
 any purpose = Unit {0}
 
-pub record Runs (who : Identity) (means : Means) (boot : ℕ) (post : Outgoing → Type 0) (pre : (ℕ → Purpose) → Type 0) (kind : Kind) (side : Side)
+pub record Runs (who : Identity) (means : Means) (boot : ℕ) (post : Post means.mic) (pre : (ℕ → Purpose) → Type 0) (kind : Kind) (side : Side)
     (taken : List (List ℕ × Option Seal)) (seal : Option Seal → Option Seal) (d e : Desk) : Type 0 where
   pub grows : e.calls < 4294967295 → d.calls ≤ e.calls
   pub accepted : e.out.accepted ≡ seal d.out.accepted
   pub more : List Outgoing
   pub sent : e.out.sent ≡ d.out.sent ++ more
-  pub posted : AllByRecursion (IsPosted post) more
+  pub posted : AllByRecursion (IsPosted post.of) more
   pub counts : e.calls < 4294967295 → e.calls ≡ count_behind d.calls more
-  pub ran : (purpose : ℕ → Purpose) → e.calls < 4294967295 → Ran who means boot kind side purpose taken more d e
+  pub ran : (purpose : ℕ → Purpose) → e.calls < 4294967295 → Ran post.sure who means boot kind side purpose taken more d e
   pub fits : (purpose : ℕ → Purpose) (small : e.calls < 4294967295) → pre purpose → PurposesFit side purpose d.copies
       → PurposesFit side (ran purpose small).after e.copies
 
@@ -124,7 +136,7 @@ pub put_copies : (there : Side) (label : CallLabel) (o : Option Sent × Site) (d
 put_copies there label o d = sent_copies there label o.0 o.1 d
 
 -- what the client does of itself leaves what copies' calls ask by, where any goes out
-pub record Own (who : Identity) (means : Means) (boot : ℕ) (post : Outgoing → Type 0) (kind : Kind) (side : Side) (d e : Desk) : Type 0 where
+pub record Own (who : Identity) (means : Means) (boot : ℕ) (post : Post means.mic) (kind : Kind) (side : Side) (d e : Desk) : Type 0 where
   pub runs : Runs who means boot post any kind side [] same_seal d e
   pub stays : is_loud kind ≡ true → Stays d.copies e.copies
 
@@ -150,7 +162,7 @@ other_apart Dest Dest x e = x
 other_apart Source Dest x e = absurd cc
 other_apart Dest Source x e = absurd cc
 
-module _ (who : Identity) (means : Means) (boot : ℕ) (post : Outgoing → Type 0) where
+module _ (who : Identity) (means : Means) (boot : ℕ) (post : Post means.mic) where
   compose : (pre then_pre : (ℕ → Purpose) → Type 0) (a b c : Kind) → Joins a b c → (side : Side) (xs ys : List (List ℕ × Option Seal)) (first second : Option Seal → Option Seal)
       (d e f : Desk)
       → ((t : Copies) → (is_loud c ≡ true → Stays f.copies t) → is_loud a ≡ true → Stays e.copies t)
@@ -163,7 +175,7 @@ module _ (who : Identity) (means : Means) (boot : ℕ) (post : Outgoing → Type
     accepted = y.accepted ∙ ap second x.accepted;
     more = x.more ++ y.more;
     sent = y.sent ∙ ap (λ (os : List Outgoing). os ++ y.more) x.sent ∙ append_assoc d.out.sent x.more y.more;
-    posted = all_behind (IsPosted post) x.more y.more x.posted y.posted;
+    posted = all_behind (IsPosted post.of) x.more y.more x.posted y.posted;
     counts = λ small.
         let fewer = fewer_calls e.calls f.calls y.grows small in
         y.counts small ∙ ap (λ (n : ℕ). count_behind n y.more) (x.counts fewer) ∙ sym (count_append d.calls x.more y.more);
@@ -195,6 +207,8 @@ module _ (who : Identity) (means : Means) (boot : ℕ) (post : Outgoing → Type
               ∙ ap (λ (ns : List ℕ). ns ++ numbers_in means s.steps (mount_in side e)) r.numbers
               ∙ ap (λ (ns : List ℕ). numbers_to side d.calls x.more ++ ns) (s.numbers ∙ ap (λ (n : ℕ). numbers_to side n y.more) (x.counts fewer))
               ∙ sym (numbers_to_append side d.calls x.more y.more);
+          fit = λ sure.
+              fit_append who means r.steps s.steps (above_by boot d.calls purpose d.copies) (mount_in side d) b (mount_in side e) r.run (r.fit sure) (s.fit sure);
         };
     fits = λ purpose small given fit.
         let fewer = fewer_calls e.calls f.calls y.grows small in
@@ -248,6 +262,7 @@ module _ (who : Identity) (means : Means) (boot : ℕ) (post : Outgoing → Type
           asks = λ t stays. r.asks t (λ loud. stays (louder loud));
           order = shape r.steps (mount_in side d) r.order;
           numbers = r.numbers;
+          fit = r.fit;
         };
     fits = λ purpose small given fit. x.fits purpose small given fit;
   }
@@ -255,7 +270,7 @@ module _ (who : Identity) (means : Means) (boot : ℕ) (post : Outgoing → Type
   -- nothing happens to the mount, though calls may go out elsewhere, and answers
   pub rests : (pre : (ℕ → Purpose) → Type 0) (k : Kind) → MayRest k → (side : Side) (seal : Option Seal → Option Seal) (d e : Desk) (more : List Outgoing) → mount_in side e ≡ mount_in side d
       → (e.calls < 4294967295 → d.calls ≤ e.calls) → e.out.sent ≡ d.out.sent ++ more → calls_to side more ≡ []
-      → AllByRecursion (IsPosted post) more → (e.calls < 4294967295 → e.calls ≡ count_behind d.calls more) → numbers_to side d.calls more ≡ []
+      → AllByRecursion (IsPosted post.of) more → (e.calls < 4294967295 → e.calls ≡ count_behind d.calls more) → numbers_to side d.calls more ≡ []
       → e.out.accepted ≡ seal d.out.accepted
       → ((purpose : ℕ → Purpose) → pre purpose → PurposesFit side purpose d.copies → PurposesFit side purpose e.copies) → Runs who means boot post pre k side [] seal d e
   rests pre k may side seal d e more same grows sent none posted counts numbers accepted fits = record {
@@ -274,6 +289,7 @@ module _ (who : Identity) (means : Means) (boot : ℕ) (post : Outgoing → Type
       asks = λ t stays. (tt, tt);
       order = rest_is k may means (above_by boot e.calls purpose e.copies) (mount_in side d);
       numbers = sym numbers;
+      fit = λ sure. (tt, tt);
     };
     fits = λ purpose small given fit. fits purpose given fit;
   }
@@ -314,7 +330,7 @@ module _ (who : Identity) (means : Means) (boot : ℕ) (post : Outgoing → Type
   number_here Source label sent n = refl
   number_here Dest label sent n = refl
 
-  call_is_posted : (side : Side) (label : CallLabel) (sent : Sent) → AllByRecursion (IsPosted post) (going side sent.bytes sent.seal (labels.Call label) ∷ [])
+  call_is_posted : (side : Side) (label : CallLabel) (sent : Sent) → AllByRecursion (IsPosted post.of) (going side sent.bytes sent.seal (labels.Call label) ∷ [])
   call_is_posted Source label sent = (inl (refl, refl), tt)
   call_is_posted Dest label sent = (inl (refl, refl), tt)
 
@@ -332,6 +348,7 @@ module _ (who : Identity) (means : Means) (boot : ℕ) (post : Outgoing → Type
     pub asks : (t : Copies) → (is_loud k ≡ true → Stays d.copies t) → AsksIn t (Sends (send_at place d) send)
     pub order : side ≡ there → (above : Above) (m : Mounted) → IsOf k means ((record { move = Sends (send_at place d) send; above = above }) ∷ []) m
     pub fits : (purpose : ℕ → Purpose) → PurposesFit there purpose d.copies → PurposesFit there (purpose_after (Sends (send_at place d) send) purpose) d.copies
+    pub bounds : post.sure → SendsFit (mount_in there d) (send_at place d) send
 
   -- it went out, or nothing did; where it did, the slot is for it
   pub record Puts (k : Kind) (side there : Side) (place : ℕ) (send : Send) (d : Desk) (e : Bool × Desk) : Type 0 where
@@ -404,6 +421,7 @@ module _ (who : Identity) (means : Means) (boot : ℕ) (post : Outgoing → Type
                     numbers =
                         let xid : next_xid d.calls ≡ d.calls + 1 = grind (arith, below, next) in
                         ap (λ (o : Option Sent). map (λ (one : wire.Sent). at.xid) (out_of o) ++ []) is ∙ ap (λ (n : ℕ). n ∷ []) xid ∙ sym (number_here side label sent d.calls);
+                    fit = λ sure. (go.bounds sure, tt);
                   };
               fits = λ purpose small given fit. subst (PurposesFit side (purpose_after (Sends at send) purpose)) (sym p.copies) (go.fits purpose fit);
             };

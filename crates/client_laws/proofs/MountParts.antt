@@ -49,6 +49,7 @@ use Rattle.write_queue.specs.declared.work.Work.{Work}
 use Rattle.write_queue.specs.declared.work.Work.TheVariants as works
 use Rattle.client_laws.proofs.RunKinds.{Silent}
 use Rattle.client_laws.proofs.MountMoves.{IsKept, Ran, mount_in}
+use Rattle.client_laws.proofs.MountRuns.{AllFit}
 use Rattle.client_laws.specs.CallerLaws.{AllAsk, AsksOf, IsMountRun, MountStep, above_by, acts_in, is_safe, is_said_stable, knows_first, purpose_for, ready_in, taken_in}
 use Rattle.client_laws.specs.Order.{AreLosing, numbers_in}
 
@@ -230,9 +231,13 @@ pub falls_ask : (t : Copies) (a : Above) (places : List ℕ) → AllAsk t (falli
 falls_ask t a [] = (tt, tt)
 falls_ask t a (place ∷ places) = (tt, falls_ask t a places)
 
-abbrev pub falls_here : (who : Identity) (means : Means) (boot : ℕ) (purpose : ℕ → Purpose) (m : Mounted) (d e : Desk) (side : Side)
-    → mount_in side d ≡ m → mount_in side e ≡ fallen (given_up_at all_places m) → e.calls ≡ d.calls → e.copies ≡ d.copies → Ran who means boot Silent side purpose [] [] d e
-falls_here who means boot purpose m d e side before behind calls copies =
+pub falls_fit : (means : Means) (a : Above) (places : List ℕ) (m : Mounted) → AllFit means (falling a places) m
+falls_fit means a [] m = (tt, tt)
+falls_fit means a (place ∷ places) m = (tt, falls_fit means a places (given_up place m))
+
+abbrev pub falls_here : (sure : Type 0) (who : Identity) (means : Means) (boot : ℕ) (purpose : ℕ → Purpose) (m : Mounted) (d e : Desk) (side : Side)
+    → mount_in side d ≡ m → mount_in side e ≡ fallen (given_up_at all_places m) → e.calls ≡ d.calls → e.copies ≡ d.copies → Ran sure who means boot Silent side purpose [] [] d e
+falls_here sure who means boot purpose m d e side before behind calls copies =
     let a = above_by boot d.calls purpose d.copies in
     record {
       after = purpose;
@@ -248,4 +253,5 @@ falls_here who means boot purpose m d e side before behind calls copies =
       asks = λ t stays. falls_ask t a all_places;
       order = falls_lose a all_places;
       numbers = falls_uncounted means a all_places (mount_in side d);
+      fit = λ known. falls_fit means a all_places (mount_in side d);
     }

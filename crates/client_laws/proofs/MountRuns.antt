@@ -2,12 +2,16 @@
 use Rattle.std.proofs.Common.{◌≡◌, List, [], ◌∷◌, ◌++◌, sym, ap, subst}
 use Rattle.caller_laws.specs.Good.{Identity, IsGood}
 use Rattle.caller_laws.specs.Lawful.{IsStep, Obeys}
-use Rattle.caller_laws.specs.Moves.{Move, done}
+use Rattle.caller_laws.specs.Moves.{Falls, Forgets, GivesUp, Move, Rests, Sends, Takes, done}
+use Rattle.gss_ctx.specs.Seals.{Mic}
 use Rattle.caller_laws.specs.View.{Above}
 use Rattle.mount.specs.State.{Mounted}
 use Rattle.mount.specs.Taking.{Means}
 use Rattle.wire_model.specs.Wire.{Acts}
-use Rattle.client_laws.specs.CallerLaws.{AllObey, AreSpelled, IsMountRun, MountStep, acts_in}
+use Rattle.mount_fits.specs.Fitting.{MountIsFit}
+use Rattle.mount_fits.specs.Moving.{GivesBytes, MoveIsFit}
+use Rattle.mount_fits.specs.StepLaws.{moved_fits, spelled_at}
+use Rattle.client_laws.specs.CallerLaws.{AllObey, AreSpelled, IsMountRun, MountStep, IsSpelled, acts_in}
 
 pub run_append : (who : Identity) (means : Means) (xs ys : List MountStep) (a : Above) (m : Mounted) (b : Above) (n : Mounted) (c : Above) (o : Mounted)
     → IsMountRun who means xs a m b n → IsMountRun who means ys b n c o → IsMountRun who means (xs ++ ys) a m c o
@@ -21,6 +25,30 @@ pub acts_append : (who : Identity) (means : Means) (xs ys : List MountStep) (a :
 acts_append who means [] ys a m b n r = ap (acts_in means ys) (sym r.1)
 acts_append who means (x ∷ xs) ys a m b n r =
     ap (λ (acts : List Acts). (done means x.move m).shown ∷ acts) (acts_append who means xs ys x.above (done means x.move m).mount b n r.3)
+
+-- each step keeps to the bounds of numbers and bytes
+abbrev pub AllFit : Means → List MountStep → Mounted → Type 0
+AllFit means [] m = Unit {0}
+AllFit means (step ∷ more) m = MoveIsFit m step.move × AllFit means more (done means step.move m).mount
+
+pub fit_append : (who : Identity) (means : Means) (xs ys : List MountStep) (a : Above) (m : Mounted) (b : Above) (n : Mounted)
+    → IsMountRun who means xs a m b n → AllFit means xs m → AllFit means ys n → AllFit means (xs ++ ys) m
+fit_append who means [] ys a m b n r x y = subst (AllFit means ys) r.1 y
+fit_append who means (x ∷ xs) ys a m b n r f g = (f.0, fit_append who means xs ys x.above (done means x.move m).mount b n r.3 f.1 g)
+
+spelled_move : (mic : Mic) (m : Mounted) (move : Move) → GivesBytes mic → MountIsFit m → MoveIsFit m move → IsSpelled mic m move
+spelled_move mic m (Sends at send) gives h fit = let s = spelled_at mic at send m gives h fit in (s.asked, s.are_bytes)
+spelled_move mic m (Takes place message) gives h fit = fit
+spelled_move mic m (GivesUp place) gives h fit = tt
+spelled_move mic m (Forgets child) gives h fit = tt
+spelled_move mic m Falls gives h fit = tt
+spelled_move mic m Rests gives h fit = tt
+
+-- from a fit mount these are spelled
+pub fit_spelled : (means : Means) (steps : List MountStep) (m : Mounted) → GivesBytes means.mic → MountIsFit m → AllFit means steps m → AreSpelled means steps m
+fit_spelled means [] m gives h fit = tt
+fit_spelled means (x ∷ xs) m gives h fit =
+    (spelled_move means.mic m x.move gives h fit.0, fit_spelled means xs (done means x.move m).mount gives (moved_fits means x.move m gives h fit.0) fit.1)
 
 -- each step is lawful
 abbrev pub Obeying : Identity → Means → Type 0

@@ -1,8 +1,8 @@
 -- What each turn of a client does to its copies.
-use Rattle.std.proofs.Common.{◌≡◌, ◌∙◌, ℕ, ◌<◌, ◌≤◌, Bool, true, false, List, [], ◌++◌, length, Option, Some, None, Result, Ok, Err, refl, sym, ap, subst, inl, inr}
+use Rattle.std.proofs.Common.{◌≡◌, ◌∙◌, ℕ, ◌<◌, ◌≤◌, Bool, true, false, List, [], ◌∷◌, ◌++◌, length, Option, Some, None, Result, Ok, Err, refl, sym, ap, subst, inl, inr}
 use Rattle.std.specs.Prelude.{nat_lt}
 use Rattle.std.proofs.lemmas.List.{length-set}
-use Rattle.callbacks.specs.Callbacks.{Outcome, evaluated}
+use Rattle.callbacks.specs.Callbacks.{Outcome, evaluated, is_session}
 use Rattle.client_copies.specs.Table.{Copies, copy_at, names, with_begun}
 use Rattle.client_copies.specs.declared.copy.Query.{Query}
 use Rattle.client_copies.specs.declared.event.Event.{Event}
@@ -21,6 +21,7 @@ use Rattle.client_steps.specs.Replies.{under_seal}
 use Rattle.client_steps.specs.declared.desk.Desk.{Desk}
 use Rattle.copy_ops.specs.declared.callback.CbOffload.{CbOffload}
 use Rattle.copy_privs.specs.Told.{privilege_told}
+use Rattle.file_ops.specs.declared.callbacks.CbSeq.{CbSeq}
 use Rattle.gss_ctx.specs.Seals.{Mic}
 use Rattle.gss_ctx.specs.Table.{ContextTable}
 use Rattle.nfs_base.specs.declared.copy_spec.CopySpec.{CopySpec}
@@ -28,6 +29,7 @@ use Rattle.nfs_base.specs.declared.side.Side.{Side}
 use Rattle.nfs_base.specs.declared.side.Side.TheVariants.{Source, Dest}
 use Rattle.nfs_compound.specs.Compounds.{cb_compound_of}
 use Rattle.nfs_compound.specs.declared.cb_compound.CbCompound.{CbCompound}
+use Rattle.nfs_compound.specs.declared.cb_op.CbOp.{CbOp}
 use Rattle.nfs_compound.specs.declared.cb_op.CbOp.TheVariants as ops
 use Rattle.outbox.specs.declared.note.Dropped.TheVariants.{Unread}
 use Rattle.outbox.specs.declared.note.Note.{Note}
@@ -46,7 +48,7 @@ use Rattle.std.specs.List.{Contains}
 use Rattle.streams.specs.declared.draws.Drawn.{Drawn}
 use Rattle.streams.specs.declared.draws.Drawn.TheVariants.{Got, Failed}
 use Rattle.write_queue.specs.declared.work.Work.{Work}
-use Rattle.client_laws.proofs.CalledMoves.{Outcomes, all_copies, all_notes, each_reports, evaluated_outcomes, told_notes, told_words, words_told}
+use Rattle.client_laws.proofs.CalledMoves.{Outcomes, all_copies, all_notes, each_reports, evaluated_outcomes, told_notes, told_words, under_of, words_told}
 use Rattle.client_laws.proofs.Changed.{IsStill, changes_none, moves_still, moves_wider}
 use Rattle.client_laws.proofs.HeardMoves.{Goes, goes_of, goes_then, heard_goes}
 use Rattle.client_laws.proofs.OwnMoves.{OwnMoves, own_asked, own_goes_on, own_idle, own_retried, own_ticked}
@@ -176,11 +178,29 @@ told_goes cause mic side call compound o c d done =
 -- the operations of the record are why
 reports : {M : Type 0} (ways : Ways) (side : Side) (message : List ℕ) (now : ℕ) (c : ClientState M) (call : Call) (args : List ℕ) (compound : CbCompound)
     → judged_of ways.means.mic (second_at now c) programs.CALLBACK message c.back ≡ judged.Call call → call.what ≡ whats.Compound args
-    → cb_compound_of args ≡ Ok compound → (offload : CbOffload) → Contains compound.ops (ops.Offload offload) → (j : ℕ)
+    → cb_compound_of args ≡ Ok compound → (first : CbSeq) (more : List CbOp) → is_session first.session (session_under call.under c) ≡ true
+    → compound.ops ≡ ops.Sequence first ∷ more → (offload : CbOffload) → Contains more (ops.Offload offload) → (j : ℕ)
     → names offload.id (copy_at j c.copies) ≡ true → Cause ways (Hears side message now) c j (events.Offloaded offload.end)
-reports ways side message now c call args compound is what read offload there j named =
+reports ways side message now c call args compound is what read first more own are offload there j named =
+    let context = under_of c call.under first.session own in
     ByCallback side message now offload.id offload.end refl named
-    (record { call = call; judged_is = is; args = args; what = what; compound = compound; read = read; offload = offload; there = there; id_is = refl; end_is = refl })
+    (record {
+      call = call;
+      judged_is = is;
+      args = args;
+      what = what;
+      under = context.0;
+      under_is = context.1;
+      compound = compound;
+      read = read;
+      first = first;
+      more = more;
+      ops_are = are;
+      offload = offload;
+      there = there;
+      id_is = refl;
+      end_is = refl;
+    })
 
 back_goes : {M : Type 0} (ways : Ways) (side : Side) (message : List ℕ) (now : ℕ) (c : ClientState M) (call : Call) (args : List ℕ) (compound : CbCompound)
     → length c.copies.copies ≤ 256
@@ -192,7 +212,8 @@ back_goes ways side message now c call args compound few is what read =
     let sealed = under_seal (accepted_seal c.back call) (desk_at now c) in
     goes_then (goes_of (moves_still (record { copies = refl; notes = refl })))
     (told_goes cause ways.means.mic side call compound (evaluated session compound c.copies) c sealed
-    (evaluated_outcomes cause c.copies session compound few (each_reports cause c.copies compound.ops (reports ways side message now c call args compound is what read))))
+    (evaluated_outcomes cause c.copies session compound few
+    (λ first more own are. each_reports cause c.copies more (reports ways side message now c call args compound is what read first more own are))))
 
 compound_changes : {M W : Type 0} (ways : Ways) (gives : W → Drawn → W → Type 0) (side : Side) (message : List ℕ) (now : ℕ) (c : ClientState M) (call : Call)
     (args : List ℕ) (o : Result CbCompound ℕ) (v w : W) (end : ClientState M × Outbox) → length c.copies.copies ≤ 256

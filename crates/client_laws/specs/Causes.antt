@@ -1,5 +1,5 @@
 -- Why something happens to a copy in a turn.
-use Rattle.std.specs.Prelude.{ℕ, ◌≡◌, true, List, Some, Contains, Ok}
+use Rattle.std.specs.Prelude.{ℕ, ◌≡◌, ◌∷◌, true, List, Some, Contains, Ok}
 use Rattle.client_copies.specs.Held.{told_for}
 use Rattle.client_copies.specs.Table.{copy_at, names}
 use Rattle.client_copies.specs.declared.event.Event.{Event}
@@ -14,15 +14,18 @@ use Rattle.client_steps.specs.declared.deeds.Deed.TheVariants as deeds
 use Rattle.client_steps.specs.declared.desk.Desk.{Desk}
 use Rattle.copy_ops.specs.declared.callback.CbOffload.{CbOffload}
 use Rattle.copy_ops.specs.declared.callback.OffloadEnd.{OffloadEnd}
+use Rattle.file_ops.specs.declared.callbacks.CbSeq.{CbSeq}
 use Rattle.nfs_base.specs.declared.side.Side.{Side}
 use Rattle.nfs_base.specs.declared.state_id.StateId.{StateId}
 use Rattle.nfs_compound.specs.Compounds.{cb_compound_of}
 use Rattle.nfs_compound.specs.declared.cb_compound.CbCompound.{CbCompound}
+use Rattle.nfs_compound.specs.declared.cb_op.CbOp.{CbOp}
 use Rattle.nfs_compound.specs.declared.cb_op.CbOp.TheVariants as ops
 use Rattle.rpc_calls.specs.Judging.{judged_of}
 use Rattle.rpc_calls.specs.declared.call.Call.{Call}
 use Rattle.rpc_calls.specs.declared.call.Judged.TheVariants as judged
 use Rattle.rpc_calls.specs.declared.call.TheConstants.Program as programs
+use Rattle.rpc_calls.specs.declared.call.Under.{Under}
 use Rattle.rpc_calls.specs.declared.call.What.TheVariants as whats
 use Rattle.client_core.specs.Endings.{Ways, desk_at}
 use Rattle.client_core.specs.State.{ClientState, second_at}
@@ -40,16 +43,22 @@ pub record IsAnswered {M : Type 0} (ways : Ways) (side : Side) (message : List �
   pub place : found.place ≡ j
   pub deed_is : copy_deed found.told side (copy_in j (desk_heard ways side message now found c)) found.sent_at (desk_heard ways side message now found c) ≡ deed
 
--- The record is a call of the callback program, and among the operations of its CB_COMPOUND is this CB_OFFLOAD.
+-- The record is a call of the callback program under a context, and among the operations of its CB_COMPOUND, behind the CB_SEQUENCE
+-- that stands first, is this CB_OFFLOAD.
 pub record IsCalledBack {M : Type 0} (ways : Ways) (message : List ℕ) (now : ℕ) (c : ClientState M) (id : StateId) (end : OffloadEnd) : Type 0 where
   pub call : Call
   pub judged_is : judged_of ways.means.mic (second_at now c) programs.CALLBACK message c.back ≡ judged.Call call
   pub args : List ℕ
   pub what : call.what ≡ whats.Compound args
+  pub under : Under
+  pub under_is : call.under ≡ Some under
   pub compound : CbCompound
   pub read : cb_compound_of args ≡ Ok compound
+  pub first : CbSeq
+  pub more : List CbOp
+  pub ops_are : compound.ops ≡ ops.Sequence first ∷ more
   pub offload : CbOffload
-  pub there : Contains compound.ops (ops.Offload offload)
+  pub there : Contains more (ops.Offload offload)
   pub id_is : offload.id ≡ id
   pub end_is : offload.end ≡ end
 

@@ -2,6 +2,7 @@ pub mod Answered
 pub mod CallerLaws
 pub mod Causes
 pub mod Changes
+pub mod Fits
 pub mod Lives
 pub mod MountTurns
 pub mod Order

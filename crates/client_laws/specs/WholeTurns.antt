@@ -5,6 +5,7 @@ use Rattle.caller_laws.specs.View.{caller_of}
 use Rattle.client_core.specs.Endings.{Ways}
 use Rattle.client_core.specs.State.{ClientState}
 use Rattle.client_core.specs.Telling.{mount_at}
+use Rattle.client_fits.specs.Known.{ClientIsFit}
 use Rattle.client_site.specs.Sites.{end_of}
 use Rattle.nfs_base.specs.declared.seal.End.TheVariants as ends
 use Rattle.nfs_base.specs.declared.side.Side.{Side}
@@ -52,3 +53,15 @@ abbrev pub IsLawfulTurn : {M : Type 0} (who : Identity) (ways : Ways) (boot : �
 IsLawfulTurn who ways boot purposes turn c d out t side =
     CallerLaws (spelling who.accepts who.whose) (end_of side) who.own (caller_of (above_at boot (purposes side) c) (mount_at side c))
     (caller_of (above_at boot (t side).after d) (mount_at side d)) (acts_of turn out)
+
+-- it is a turn at both, and what it asks can be spelled
+pub record IsSpelledTurn {M : Type 0} (who : Identity) (ways : Ways) (boot : ℕ) (purposes : Purposes) (turn : Turn) (c d : ClientState M) (out : Outbox) : Type 0 where
+  pub turns : IsTurnAtBoth who ways boot purposes turn c d out
+  pub spelled : IsSpelledAtBoth who ways boot purposes turn c d out turns
+
+-- it is a turn at both, obeys the laws of both wires, and leaves the client as it should be
+pub record IsGoodTurn {M : Type 0} (who : Identity) (ways : Ways) (boot : ℕ) (purposes : Purposes) (turn : Turn) (c d : ClientState M) (out : Outbox) : Type 0 where
+  pub turns : IsTurnAtBoth who ways boot purposes turn c d out
+  pub lawful : (side : Side) → IsLawfulTurn who ways boot purposes turn c d out turns side
+  pub settled : IsSettled who d
+  pub fit : ClientIsFit d

@@ -5,12 +5,13 @@
 //! (`client_copies`) holds of what a client tells, as [`stable_is_told_once`] and [`none_is_stable_once_cancelled`]. By
 //! [`turns_are_mount_runs`] and [`turns_are_lawful`] a client owes each of its servers what every caller owes (`caller_laws`):
 //! `specs/CallerLaws.antt` says what a run of a mount's steps is, `specs/MountTurns.antt` that a turn is one at each server,
-//! `specs/WholeTurns.antt` what both wires see of it.
+//! `specs/WholeTurns.antt` what both wires see of it; by [`turns_are_spelled`] what a fit client asks can be spelled.
 #![tactic(auto)]
 
 mod answered;
 mod callers;
 mod counting;
+mod fits;
 mod keeping;
 mod order;
 mod whole;
@@ -21,6 +22,7 @@ pub use callers::{
     clients_begin_lawful, mount_runs_are_lawful, started_tokens_are_own, turns_are_mount_runs,
 };
 pub use counting::{copies_begin_by_command, each_step_counts_one};
+pub use fits::{fit_turns_are_lawful, turns_are_spelled, turns_leave_clients_fit};
 pub use keeping::{what_is_held_was_called_back, what_is_known_stays};
 pub use order::{none_is_stable_once_cancelled, stable_is_told_once};
 pub use whole::{clients_stay_settled, turns_are_lawful};

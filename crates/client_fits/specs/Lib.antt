@@ -1,0 +1,9 @@
+pub mod AskLaws
+pub mod CallLaws
+pub mod CopyLaws
+pub mod DeedLaws
+pub mod DeskLaws
+pub mod GoLaws
+pub mod Known
+pub mod StepLaws
+pub mod Ways

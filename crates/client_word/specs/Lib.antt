@@ -1,0 +1,5 @@
+pub mod Carried
+pub mod Fields
+pub mod Places
+pub mod Sound
+pub mod Views
