@@ -1,0 +1,17 @@
+mod Callbacks
+mod GivenOut
+mod Asking
+mod Landings
+mod Wholes
+mod Dues
+mod Works
+mod TakenCalls
+mod Settling
+mod Replies
+mod Replying
+mod Ticks
+mod Records
+mod Failures
+mod Principals
+mod Fitting
+mod Staying

@@ -1,0 +1,11 @@
+pub mod Joined
+pub mod Turns
+pub mod Steps
+pub mod Given
+pub mod Found
+pub mod Rooms
+pub mod Goes
+pub mod Copies
+pub mod Narrow
+pub mod Safe
+pub mod Runs

@@ -1,0 +1,3 @@
+pub mod Posted
+pub mod Seating
+pub mod Orderly

@@ -1,0 +1,7 @@
+pub mod Causes
+pub mod Going
+pub mod GoingLaws
+pub mod Holding
+pub mod Posts
+pub mod Right
+pub mod Told

@@ -1,0 +1,5 @@
+pub mod Logs
+pub mod Tables
+pub mod Deeds
+pub mod Doings
+pub mod Steps
