@@ -1,6 +1,7 @@
 -- What a server that is there does in a step, by what its core says of it.
-use Rattle.std.proofs.Common.{◌≡◌, ℕ, ◌+◌, ◌≤◌, Bool, true, false, List, [], ◌∷◌, ◌++◌, length, Some, refl, sym, ap, ◌∙◌, subst, arith}
-use Rattle.std.specs.Prelude.{IfOk, IsOk, Result, Ok, Err, ◌||◌, ◌↔◌, ◌<◌}
+use Rattle.std.proofs.Common.{◌≡◌, ℕ, ◌+◌, ◌≤◌, Bool, true, false, List, [], ◌∷◌, ◌++◌, length, Option, Some, refl, sym, ap, ◌∙◌, subst, arith}
+use Rattle.std.proofs.lemmas.List.Elements.{All-nil}
+use Rattle.std.specs.Prelude.{IfOk, IfSome, IsOk, Result, Ok, Err, ◌||◌, ◌↔◌, ◌<◌}
 use Rattle.copy_model.specs.Volume.{Volume, bytes_at, file_at}
 use Rattle.dest_core.specs.Stepping.{DestState}
 use Rattle.block_file.specs.declared.faults.ReadFault.{ReadFault}
@@ -12,6 +13,7 @@ use Rattle.block_file.specs.Opened.{Opened}
 use Rattle.disk_model.specs.Elapsed.{Timeline}
 use Rattle.disk_model.specs.declared.fuse.Fuse.{Fuse}
 use Rattle.outbox.specs.declared.outgoing.Outbox.{Outbox}
+use Rattle.outbox.specs.declared.outgoing.Outgoing.{Outgoing}
 use Rattle.outcome.specs.Causes.{Rose, RoseBy}
 use Rattle.server_volume.specs.Moments.{Ran}
 use Rattle.server_volume.specs.Store.{Seat, seat_of}
@@ -19,18 +21,22 @@ use Rattle.server_volume.specs.declared.used.CallAnswer.{CallAnswer}
 use Rattle.server_volume.specs.declared.used.CallAnswer.TheVariants.{Done, DiskFailed, Refused}
 use Rattle.server_volume.specs.declared.used.Used.{Used}
 use Rattle.session_server.specs.Host.{HostState, Stepped, host_of}
+use Rattle.session_server.specs.Lengths.{AreShort, IsShort}
+use Rattle.session_server.specs.declared.host.TheConstants as server
 use Rattle.source_core.specs.Core.{nothing}
 use Rattle.volume_laws.specs.Failing as laws
 use Rattle.volume_laws.specs.Keeping.{KeepsFiles}
 use Rattle.wire_machine.specs.Ends.{DestAct, SourceAct}
 use Rattle.wire_machine.specs.Ends as acts
 use Rattle.wire_machine.specs.Steps as steps
+use Rattle.wire_run.specs.Handling.{AreBytes, IsHandled}
 use Rattle.wire_run.specs.Running.{Later, RunMachines}
-use Rattle.wire_run.specs.Stage.{DestActs, DestHost, DestPeeks, PeekIs, SourceActs, SourceHost, SourcePeeks, VolumeStays, bit, has_failed, peeked_of}
+use Rattle.wire_run.specs.Stage.{DestActs, DestHost, DestPeeks, PeekIs, SourceActs, SourceHost, SourcePeeks, VolumeStays, bit, dest_steps, has_failed, peeked_of, source_steps}
 use Rattle.wire_run.specs.declared.ends.DestEnd.{DestEnd}
 use Rattle.wire_run.specs.declared.ends.DestEnd.TheVariants as dest_end
 use Rattle.wire_run.specs.declared.ends.SourceEnd.{SourceEnd}
 use Rattle.wire_run.specs.declared.ends.SourceEnd.TheVariants as source_end
+use Rattle.wire_xdr.specs.Cursor.{IsBytes}
 
 -- ---- two names of one test
 
@@ -178,6 +184,44 @@ pub ticked_alone : {E A : Type 0} (r : Result Outbox E) (d : ℕ) → IfOk r (λ
 ticked_alone (Ok out) d none is = (is refl, none, refl)
 ticked_alone (Err e) d none is = tt
 
+-- ---- what is known of an act besides
+
+pub source_few : {D M : Type 0} (limit : ℕ) (end : SourceEnd D M) (core : SourceHost D M) → end ≡ source_end.Open core → source_steps end < limit → core.steps < limit
+source_few {D} {M} limit end core is few = subst (λ (e : SourceEnd D M). source_steps e < limit) is few
+
+pub dest_few : {D M : Type 0} (limit : ℕ) (end : DestEnd D M) (core : DestHost D M) → end ≡ dest_end.Open core → dest_steps end < limit → core.steps < limit
+dest_few {D} {M} limit end core is few = subst (λ (e : DestEnd D M). dest_steps e < limit) is few
+
+-- one result is another
+pub same_result : {E : Type 0} (given now : Result Outbox E) (P : Outbox → Type 0) → now ≡ given → IfOk given P → IfOk now P
+same_result {E} given now P same is = subst (λ (r : Result Outbox E). IfOk r P) (sym same) is
+
+pub handled : {E : Type 0} (r : Result Outbox E) (made limit : ℕ) (took : Option (List ℕ)) → made < limit → IfSome took IsBytes → IfOk r (λ out. AreBytes out.sent) → IfOk r (IsHandled made limit took)
+handled (Ok out) made limit took few taken sent = record { few = few; taken = taken; sent = sent }
+handled (Err e) made limit took few taken sent = tt
+
+none_sent : (out : Outbox) (P : List Outgoing → Type 0) → out ≡ nothing → P [] → P out.sent
+none_sent out P none empty = subst (λ (o : Outbox). P o.sent) (sym none) empty
+
+no_bytes : AreBytes []
+no_bytes = All-nil (λ (o : Outgoing). IsBytes o.bytes)
+
+no_short : AreShort []
+no_short = All-nil (λ (o : Outgoing). IsShort o.bytes)
+
+pub quiet_bytes : {E : Type 0} (r : Result Outbox E) → IfOk r (λ out. out ≡ nothing) → IfOk r (λ out. AreBytes out.sent)
+quiet_bytes (Ok out) none = none_sent out AreBytes none no_bytes
+quiet_bytes (Err e) none = tt
+
+pub quiet_short : {E : Type 0} (r : Result Outbox E) → IfOk r (λ out. out ≡ nothing) → IfOk r (λ out. AreShort out.sent)
+quiet_short (Ok out) none = none_sent out AreShort none no_short
+quiet_short (Err e) none = tt
+
+-- what an act does, and what is known of it
+pub served : {E : Type 0} (r : Result Outbox E) (P Q S : Outbox → Type 0) → IfOk r Q → IfOk r S → IfOk r P → IfOk r (λ out. P out × Q out × S out)
+served (Ok out) P Q S q s p = (p, q, s)
+served (Err e) P Q S q s p = tt
+
 pub nothing_fails : {E : Type 0} (r : Result Outbox E) → IfOk r (λ out. out ≡ nothing) → IfOk r (λ out. steps.any_failed out.used ≡ false)
 nothing_fails (Ok out) none = ap (λ (o : Outbox). steps.any_failed o.used) none
 nothing_fails (Err e) none = tt
@@ -194,19 +238,23 @@ heard_at words there worker bytes now s t d (Ok out) is h = (subst (λ (b : Bool
 heard_at words there worker bytes now s t d (Err e) is h = tt
 
 pub unheard : {D M E : Type 0} (told : Type 0) (words : Words M ℕ) (faults size : D → ℕ) (worker : ℕ) (bytes : List ℕ) (now : ℕ) (end : DestEnd D M) (core : DestHost D M) (r : Result Outbox E)
-    → end ≡ dest_end.Open core → is_worker worker ≡ false → IfOk r (λ out. out ≡ nothing)
+    → end ≡ dest_end.Open core → core.steps < server.MOST_STEPS → IsBytes bytes → is_worker worker ≡ false → IfOk r (λ out. out ≡ nothing)
     → IfOk r (λ out. (d : ℕ) → DestActs told (machines words) faults size (acts.Hears worker bytes) now end d end d out)
-unheard told words faults size worker bytes now end core (Ok out) is none quiet = λ d. record {
+unheard told words faults size worker bytes now end core (Ok out) is few taken none quiet = λ d. record {
   was = core;
   next = core;
   was_is = is;
   next_is = is;
   stays = λ t. record { files = refl; tag = refl; boot = refl };
-  acts = λ t. (subst (λ (b : Bool). hears words b worker bytes now (host_of size core) (host_of size core) out) (sym none) (refl, quiet), refl);
+  acts = λ t. (
+    (subst (λ (b : Bool). hears words b worker bytes now (host_of size core) (host_of size core) out) (sym none) (refl, quiet), refl),
+    record { few = few; taken = taken; sent = none_sent out AreBytes quiet no_bytes },
+    none_sent out AreShort quiet no_short,
+  );
   counted = omega arith;
   later = λ t. still_later faults size core.server.files.volume core.server.files.volume (steps.any_failed out.used) refl (ap (λ (o : Outbox). steps.any_failed o.used) quiet);
 }
-unheard told words faults size worker bytes now end core (Err e) is none quiet = tt
+unheard told words faults size worker bytes now end core (Err e) is few taken none quiet = tt
 
 -- ---- peeks
 
@@ -218,16 +266,19 @@ peek_is : {A : Type 0} (v : Volume) (file off : ℕ) (old new : List ℕ) (r : R
     → (IsOk r → new ≡ bytes_at (file_at v file).now off (length old)) → PeekIs v file off old new (peeked_of r)
 peek_is v file off old new (Ok done) broken bytes = record {
   broken = λ e. absurd cc;
+  refused = λ b. let other = broken.1 b in absurd cc;
   whole = λ e. not_true v.broken (λ b. let other = broken.1 b in absurd cc);
   bytes = λ e. bytes refl;
 }
 peek_is v file off old new (Err read_faults.Broken) broken bytes = record {
   broken = λ e. broken.0 refl;
+  refused = λ b. refl;
   whole = λ e. absurd cc;
   bytes = λ e. absurd cc;
 }
 peek_is v file off old new (Err read_faults.DiskFailed) broken bytes = record {
   broken = λ e. absurd cc;
+  refused = λ b. let other = broken.1 b in absurd cc;
   whole = λ e. absurd cc;
   bytes = λ e. absurd cc;
 }

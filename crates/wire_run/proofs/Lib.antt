@@ -20,6 +20,7 @@ pub mod Peeks
 pub mod Servers
 pub mod Settled
 pub mod Shapes
+pub mod Shown
 pub mod Smalls
 pub mod Sound
 pub mod Systems

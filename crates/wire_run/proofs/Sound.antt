@@ -148,10 +148,14 @@ module _ {D M : Type 0} (told : Type 0) (size : D → ℕ) (context : Context) (
     delivered = sound.delivered;
   }
 
-  -- a server's volume has a file
-  pub has_file_at : (side : Side) (file : ℕ) → IsReady s → has_file context side file ≡ true → HasFileAt told side file s
-  has_file_at Source file opened has = has_in_source told context.source s.source file sound.source_fits has opened.source
-  has_file_at Dest file opened has = has_in_dest told context.dest s.dest file sound.dest_fits has opened.dest
+  -- the volume of a server that is there has a file
+  pub has_there : (side : Side) (file : ℕ) → IsOpenAt side s → has_file context side file ≡ true → HasFileAt told side file s
+  has_there Source file opened has = has_in_source told context.source s.source file sound.source_fits has opened
+  has_there Dest file opened has = has_in_dest told context.dest s.dest file sound.dest_fits has opened
+
+  has_file_at : (side : Side) (file : ℕ) → IsReady s → has_file context side file ≡ true → HasFileAt told side file s
+  has_file_at Source file opened has = has_there Source file opened.source has
+  has_file_at Dest file opened has = has_there Dest file opened.dest has
 
   -- so it is there
   pub open_at : (side : Side) (file : ℕ) → HasDisks (running_of size context s) → has_file context side file ≡ true → IsOpenAt side s

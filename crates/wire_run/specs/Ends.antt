@@ -5,6 +5,7 @@ use Rattle.client_core.specs.Commands.{IsBegun, IsWork, query_step, retry_step, 
 use Rattle.client_core.specs.Endings.{Ways, ways_of}
 use Rattle.client_core.specs.Records as client
 use Rattle.client_core.specs.State.{ClientState}
+use Rattle.client_core.specs.declared.client.TheConstants as caller
 use Rattle.dest_core.specs.Stepping as dest
 use Rattle.dest_core.specs.Stepping.{DestState}
 use Rattle.dest_tasks.specs.declared.workers.TheConstants.{WORKERS}
@@ -12,7 +13,9 @@ use Rattle.gss_ctx.specs.Seals.{Mic}
 use Rattle.gss_mech.specs.declared.mechanism.Accepted.{Accepted}
 use Rattle.outbox.specs.declared.outgoing.Outbox.{Outbox}
 use Rattle.session_server.specs.Host.{HostState}
+use Rattle.session_server.specs.Lengths.{AreShort}
 use Rattle.session_server.specs.Steps.{IsTurn, ticked}
+use Rattle.session_server.specs.declared.host.TheConstants as server
 use Rattle.source_core.specs.Core.{nothing, source_rules}
 use Rattle.source_core.specs.declared.carried.Carried.{Carried}
 use Rattle.source_core.specs.declared.source.Source.{Source}
@@ -22,6 +25,7 @@ use Rattle.streams.specs.declared.draws.Drawn.TheVariants.{Got}
 use Rattle.write_queue.specs.declared.work.Work.TheVariants as works
 use Rattle.wire_machine.specs.Ends.{ClientAct, DestAct, Machines, SourceAct}
 use Rattle.wire_machine.specs.Ends as acts
+use Rattle.wire_run.specs.Handling.{IsHandled, client_took, dest_took, source_took}
 
 -- what a mechanism and the draws tell of themselves
 pub record Words (M W : Type 0) : Type 1 where
@@ -83,13 +87,24 @@ module _ {M W : Type 0} (words : Words M W) where
   client_does (acts.ClientTakes from bytes) now c before t after out = client.IsRecord (ways c) words.gives from bytes now c before after (t, out)
   client_does acts.ClientTicks now c before t after out = ((t, out) ≡ tick_step words.mic now c) × (after ≡ before)
 
-  -- ---- all three
+  -- ---- all three, with what is known of each act besides; no record that a server sends is longer than one may be
+
+  abbrev pub source_goes : SourceAct → (now : ℕ) → SourceState M → W → SourceState M → W → Outbox → Type 0
+  source_goes act now s before t after out =
+      source_does act now s before t after out × IsHandled s.steps server.MOST_STEPS (source_took act) out × AreShort out.sent
+
+  abbrev pub dest_goes : DestAct → (now : ℕ) → DestState M → W → DestState M → W → Outbox → Type 0
+  dest_goes act now s before t after out =
+      dest_does act now s before t after out × IsHandled s.steps server.MOST_STEPS (dest_took act) out × AreShort out.sent
+
+  abbrev pub client_goes : ClientAct → (now : ℕ) → ClientState M → W → ClientState M → W → Outbox → Type 0
+  client_goes act now c before t after out = client_does act now c before t after out × IsHandled c.steps caller.MOST_STEPS (client_took act) out
 
   abbrev pub machines : Machines (SourceState M) (DestState M) (ClientState M) W
   machines = record {
-    source = source_does;
-    dest = dest_does;
-    client = client_does;
+    source = source_goes;
+    dest = dest_goes;
+    client = client_goes;
     source_volume = λ s. s.state.machine.store.volume;
     dest_volume = λ s. s.state.machine.store.volume;
   }

@@ -1,6 +1,7 @@
 pub mod Commanding
 pub mod Ends
 pub mod Fresh
+pub mod Handling
 pub mod Making
 pub mod Run
 pub mod Running

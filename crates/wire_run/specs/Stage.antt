@@ -178,8 +178,13 @@ pub record ClientActs {M : Type 0} (m : RunMachines M) (act : ClientAct) (now : 
 
 pub record PeekIs (v : Volume) (file off : ℕ) (old new : List ℕ) (answer : Peeked) : Type 0 where
   pub broken : answer ≡ peeks.Refused → v.broken ≡ true
+  pub refused : v.broken ≡ true → answer ≡ peeks.Refused
   pub whole : answer ≡ peeks.Shown → v.broken ≡ false
   pub bytes : answer ≡ peeks.Shown → new ≡ bytes_at (file_at v file).now off (length old)
+
+abbrev pub is_shown : Peeked → Bool
+is_shown peeks.Shown = true
+is_shown answer = false
 
 abbrev pub has_failed : Peeked → Bool
 has_failed peeks.Failed = true

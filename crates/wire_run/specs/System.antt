@@ -1,5 +1,6 @@
 -- How the parts of a system stand for what contracts see of it, and what always holds of them.
-use Rattle.std.specs.Prelude.{◌≡◌, ℕ, ◌+◌, ◌*◌, ◌≤◌, ◌<◌, true, false, List, length, Option, Some, None, IfSome, option_map}
+use Rattle.std.specs.Option.{option_map_or}
+use Rattle.std.specs.Prelude.{◌≡◌, ◌⊎◌, ℕ, ◌+◌, ◌*◌, ◌≤◌, ◌<◌, Bool, true, false, List, length, Option, Some, None, IfSome, option_map}
 use Rattle.block_file.specs.Opened.{MayBeLeft}
 use Rattle.client_core.specs.Telling.{copy_of}
 use Rattle.copy_model.specs.Volume.{Volume, bytes_at, file_at}
@@ -8,11 +9,12 @@ use Rattle.disk_model.specs.Disk.{Image, MayLeave}
 use Rattle.disk_model.specs.Elapsed.{Timeline, present}
 use Rattle.nfs_base.specs.declared.side.Side.{Side}
 use Rattle.nfs_base.specs.declared.side.Side.TheVariants.{Source, Dest}
+use Rattle.outcome.specs.Causes.{Rose}
 use Rattle.session_server.specs.Host.{host_of}
 use Rattle.wire_machine.specs.Runs.{most_bytes}
 use Rattle.wire_machine.specs.World.{bytes_of}
 use Rattle.wire_run.specs.Ends.{SourceState}
-use Rattle.wire_run.specs.Running.{Running}
+use Rattle.wire_run.specs.Running.{Running, disk_of, faults_in}
 use Rattle.wire_run.specs.Stage.{AllDelivered, IsBelow, dest_disk, most_records, source_disk}
 use Rattle.wire_run.specs.declared.ends.DestEnd.{DestEnd}
 use Rattle.wire_run.specs.declared.ends.DestEnd.TheVariants as dest_end
@@ -104,6 +106,19 @@ shown_at source dest Dest = option_map (λ s. s.state.machine.store.volume) dest
 
 abbrev pub IsShown : {D M : Type 0} → Running D M → Side → (file off : ℕ) → List ℕ → (len : ℕ) → Type 0
 IsShown r side file off bytes len = IfSome (shown_at r.source_state r.dest_state side) (λ v. bytes ≡ bytes_at (file_at v file).now off len)
+
+-- a server's volume is broken
+abbrev pub is_broken : {D M : Type 0} → Running D M → Side → Bool
+is_broken r side = option_map_or (λ v. v.broken) (shown_at r.source_state r.dest_state side) false
+
+-- why its bytes weren't shown: it is broken, or its disk failed
+abbrev pub IsUnread : {D M : Type 0} → (faults : D → ℕ) → (old new : Running D M) → Side → Type 0
+IsUnread faults old new side = (is_broken old side ≡ true) ⊎ Rose (faults_in faults (disk_of old side)) (faults_in faults (disk_of new side))
+
+-- all but a server's disk is as it was
+abbrev pub with_disk : {D M : Type 0} → Side → Option D → Running D M → Running D M
+with_disk Source disk r = record r { source = disk }
+with_disk Dest disk r = record r { dest = disk }
 
 -- ---- an event that is one small step
 

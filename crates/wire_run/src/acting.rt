@@ -8,6 +8,7 @@ ghost use Rattle.wire_machine.specs.Steps.{command_of};
 ghost use Rattle.wire_run.specs.Ends.{is_worker, run_machines};
 ghost use Rattle.wire_run.specs.Stage.{dest_boot, dest_steps, peeked_of, source_boot, source_steps, ClientActs, DestActs, DestPeeks, IsCommand, IsDestOpen, IsSourceOpen, SourceActs, SourcePeeks};
 
+use crate::bytes::{are_bytes, of_bytes};
 use crate::client_turn::command;
 use crate::ends::{DestEnd, SourceEnd};
 use crate::system::Peeked;
@@ -46,7 +47,8 @@ impl<D: Disk, M: Mechanism> SourceEnd<D, M> {
         let SourceEnd::Open(core) = self else {
             unreachable!()
         };
-        core.on_record(alloc, conn, bytes, now, draws)
+        are_bytes(bytes);
+        of_bytes(core.on_record(alloc, conn, bytes, now, draws))
     }
 
     /// A second comes.
@@ -108,7 +110,8 @@ impl<D: Disk, M: Mechanism> DestEnd<D, M> {
         let DestEnd::Open(core) = self else {
             unreachable!()
         };
-        core.on_record(alloc, 0, bytes, now, draws)
+        are_bytes(bytes);
+        of_bytes(core.on_record(alloc, 0, bytes, now, draws))
     }
 
     /// A worker makes its next step.
@@ -130,7 +133,7 @@ impl<D: Disk, M: Mechanism> DestEnd<D, M> {
         let DestEnd::Open(core) = self else {
             unreachable!()
         };
-        core.work(alloc, worker, now, draws)
+        of_bytes(core.work(alloc, worker, now, draws))
     }
 
     /// A worker hears a record of the source. One that isn't there hears nothing.
@@ -144,6 +147,7 @@ impl<D: Disk, M: Mechanism> DestEnd<D, M> {
         if there {
             self.hear_at(alloc, worker as u8, bytes, now)
         } else {
+            are_bytes(bytes);
             no_outbox(alloc)
         }
     }
@@ -160,7 +164,8 @@ impl<D: Disk, M: Mechanism> DestEnd<D, M> {
         let DestEnd::Open(core) = self else {
             unreachable!()
         };
-        core.on_source_reply(alloc, worker, bytes, now)
+        are_bytes(bytes);
+        of_bytes(core.on_source_reply(alloc, worker, bytes, now))
     }
 
     /// A second comes.
@@ -173,7 +178,7 @@ impl<D: Disk, M: Mechanism> DestEnd<D, M> {
         let DestEnd::Open(core) = self else {
             unreachable!()
         };
-        core.tick(alloc, now)
+        of_bytes(core.tick(alloc, now))
     }
 
     /// The number of its volume's opening.
@@ -225,7 +230,7 @@ pub(crate) fn client_commanded<M: Mechanism>(
 {
     client_laws::each_step_counts_one::<M, CountDraws>();
     client_laws::copies_begin_by_command::<M, CountDraws>();
-    command(client, alloc, event, now, draws)
+    of_bytes(command(client, alloc, event, now, draws))
 }
 
 /// The client takes a record of a server.
@@ -243,7 +248,8 @@ pub(crate) fn client_takes<M: Mechanism>(
 {
     client_laws::each_step_counts_one::<M, CountDraws>();
     client_laws::copies_begin_by_command::<M, CountDraws>();
-    client.on_record(alloc, from, bytes, now, draws)
+    are_bytes(bytes);
+    of_bytes(client.on_record(alloc, from, bytes, now, draws))
 }
 
 /// A second comes at the client.
@@ -258,7 +264,7 @@ pub(crate) fn client_ticks<M: Mechanism>(
 {
     client_laws::each_step_counts_one::<M, CountDraws>();
     client_laws::copies_begin_by_command::<M, CountDraws>();
-    client.tick(alloc, now)
+    of_bytes(client.tick(alloc, now))
 }
 
 /// What a read of a volume comes to.

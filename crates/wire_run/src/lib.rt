@@ -6,6 +6,7 @@
 #![tactic(auto)]
 
 mod acting;
+mod bytes;
 mod client_turn;
 mod ends;
 mod flowing;

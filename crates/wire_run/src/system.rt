@@ -1,5 +1,8 @@
 //! The three machines of a run, and its events.
 
+ghost use Rattle.std.specs.Prelude.{◌≡◌};
+ghost use Rattle.wire_run.specs.Stage.{is_shown};
+
 use crate::ends::{DestEnd, Disks, SourceEnd};
 use crate::fresh::Unmade;
 use crate::setting::{dest_place, source_place, user};
@@ -44,6 +47,15 @@ pub(crate) enum Peeked {
     Failed,
 }
 
+fn was_shown(read: Peeked) -> bool
+    ensures { result ≡ is_shown read }
+{
+    match read {
+        Peeked::Shown => true,
+        Peeked::Refused | Peeked::Failed => false,
+    }
+}
+
 /// A client, a source and a destination, the clock, the draws, and all records.
 ///
 /// Contracts see a `Running`: what the events so far leave open, the disks and the two servers, the client, the draws, the
@@ -67,13 +79,13 @@ impl<D: Disk, M> Model for System<D, M> {
 }
 
 impl<D: Disk + Drop, M: Mechanism + Copy> System<D, M> {
-    ghost use Rattle.std.specs.Prelude.{◌≡◌, ◌≤◌, ◌<◌, ◌↔◌, true, length, None, Some, IfOk, IsTrue, MatchOption};
+    ghost use Rattle.std.specs.Prelude.{◌≡◌, ◌≤◌, ◌<◌, ◌↔◌, true, false, length, None, Some, IfOk, IsTrue, MatchOption};
     ghost use Rattle.wire_log.specs.Keeping.{reading};
     ghost use Rattle.wire_log.specs.Keeping as keeping;
     ghost use Rattle.wire_machine.specs.World.{posted_at};
     ghost use Rattle.wire_run.specs.Ends.{run_machines};
-    ghost use Rattle.wire_run.specs.Running.{at_rest, context_after, mech_of, HasDisks, StepIs};
-    ghost use Rattle.wire_run.specs.System.{shown_at, HasFile, Holds, IsShown, IsSingle};
+    ghost use Rattle.wire_run.specs.Running.{at_rest, context_after, disk_of, mech_of, HasDisks, Later, StepIs};
+    ghost use Rattle.wire_run.specs.System.{is_broken, shown_at, with_disk, HasFile, Holds, IsShown, IsSingle, IsUnread};
     ghost use Rattle.wire_run.specs.declared.setting.TheConstants.{SOURCE_TAG, DEST_TAG};
     ghost use Rattle.wire_schedule.specs.Admission.{admits};
 
@@ -140,15 +152,20 @@ impl<D: Disk + Drop, M: Mechanism + Copy> System<D, M> {
         self.stage.log.count()
     }
 
-    /// Fills `out` with a file's bytes from `off` on, and with zeros past its end. False exactly where the volume's read was
-    /// refused. It is no step.
+    /// Fills `out` with a file's bytes from `off` on as they are now, and with zeros past its end. False where the volume is
+    /// broken, and else only where its disk failed, whose count of faults then rose. It is no step: but for that disk all is as
+    /// it was.
     pub fn peek(&mut self, side: Side, file: u32, off: u64, out: &mut [u8]) -> bool
         requires file { HasFile self.old.context side file }
         requires disks { HasDisks self.old }
         ensures bytes { D.Told → IsTrue result → IsShown self.old side file off out.new (length out.old) }
-        ensures still { D.Told → self.new ≡ record self.old { source = self.new.source; dest = self.new.dest } }
+        ensures unread { D.Told → result ≡ false → IsUnread D.faults self.old self.new side }
+        ensures broken { D.Told → is_broken self.old side ≡ true → result ≡ false }
+        ensures still { D.Told → self.new ≡ with_disk side (disk_of self.new side) self.old }
+        ensures later { D.Told → Later D.faults D.size 0 (disk_of self.old side) (disk_of self.new side) }
+        ensures disks { HasDisks self.new }
     {
-        self.stage.read(side, file, off, out) == Peeked::Shown
+        was_shown(self.stage.read(side, file, off, out))
     }
 
     /// Carries out one event, small step by small step, and gives the text of their lines. Where a volume can't be made, a

@@ -1,13 +1,16 @@
-use Rattle.std.proofs.Common.{refl}
+use Rattle.std.proofs.Common.{None, refl}
+use Rattle.session_server.specs.declared.host.TheConstants.{MOST_STEPS}
 use Rattle.wire_machine.specs.Ends as acts
 use Rattle.wire_run.specs.Ends.{run_machines}
-use Rattle.wire_run.proofs.Acts.{all_draws, nothing_fails, source_rests, ticked_alone}
+use Rattle.wire_run.proofs.Acts.{all_draws, handled, nothing_fails, quiet_bytes, quiet_short, served, source_few, source_rests, ticked_alone}
 use Rattle.wire_run.proofs.ends.SourceEnd.tick.Goals as goal
 
 pub returns-clause-acts : goal.returns-clause-acts
 returns-clause-acts g c =
+    let few = source_few MOST_STEPS c.args.self.now c.in-Open.core c.in-Open.is c.requires.few in
     all_draws c.tick.result _
     (λ d. source_rests g.D.Disk.Told (run_machines g.M.Mechanism.mic_of g.M.Mechanism.derived g.M.Mechanism.started g.M.Mechanism.accepted g.M.Mechanism.finished)
     g.D.Disk.faults g.D.Disk.size acts.SourceTicks c.args.now c.args.self.now _ c.in-Open.core c.tick.new.self d d c.tick.result c.in-Open.is refl
-    (λ t. ticked_alone c.tick.result d c.tick.ensures.out c.tick.ensures.is)
+    (λ t. served c.tick.result _ _ _ (handled c.tick.result c.in-Open.core.steps MOST_STEPS None few tt (quiet_bytes c.tick.result c.tick.ensures.out))
+    (quiet_short c.tick.result c.tick.ensures.out) (ticked_alone c.tick.result d c.tick.ensures.out c.tick.ensures.is))
     c.tick.ensures.volume (nothing_fails c.tick.result c.tick.ensures.out) c.tick.ensures.counted)

@@ -1,0 +1,139 @@
+-- What a peek shows and leaves, by what contracts see of a system.
+use Rattle.std.proofs.Common.{◌≡◌, ◌⊎◌, inl, inr, ℕ, ◌<◌, Bool, true, false, List, length, Option, Some, refl, sym, ap, ◌∙◌, subst, arith}
+use Rattle.std.specs.Option.{option_map_or}
+use Rattle.std.specs.Prelude.{IfSome, is_some}
+use Rattle.copy_model.specs.Volume.{Volume, bytes_at, file_at}
+use Rattle.nfs_base.specs.declared.side.Side.{Side}
+use Rattle.nfs_base.specs.declared.side.Side.TheVariants.{Source, Dest}
+use Rattle.outcome.specs.Causes.{Rose, RoseBy}
+use Rattle.dest_core.specs.Stepping.{DestState}
+use Rattle.wire_run.specs.Ends.{SourceState}
+use Rattle.wire_run.specs.Running.{HasDisks, Later, Running, disk_of, faults_in}
+use Rattle.wire_run.specs.Stage.{DestPeeks, HasFileAt, IsOpenAt, PeekIs, Peeks, SourcePeeks, bit, dest_disk, dest_files, has_failed, is_shown, source_disk, source_files}
+use Rattle.wire_run.specs.System.{HasFile, IsShown, IsSound, IsUnread, dest_state, is_broken, running_of, shown_at, source_state, with_disk}
+use Rattle.wire_run.specs.declared.ends.DestEnd.{DestEnd}
+use Rattle.wire_run.specs.declared.ends.SourceEnd.{SourceEnd}
+use Rattle.wire_run.specs.declared.stage.Stage.{Stage}
+use Rattle.wire_run.specs.declared.system.Peeked.{Peeked}
+use Rattle.wire_run.specs.declared.system.Peeked.TheVariants as peeks
+use Rattle.wire_run.proofs.Sound.{has_there, open_at}
+use Rattle.wire_schedule.specs.declared.context.Context.{Context}
+
+-- What is said of a peek.
+pub record Says {D M : Type 0} (told : Type 0) (faults size : D → ℕ) (side : Side) (file off : ℕ) (old new : Running D M) (bytes_old bytes_new : List ℕ) (answer : Peeked) : Type 0 where
+  pub shown : told → is_shown answer ≡ true → IsShown old side file off bytes_new (length bytes_old)
+  pub unread : told → is_shown answer ≡ false → IsUnread faults old new side
+  pub broken : told → is_broken old side ≡ true → is_shown answer ≡ false
+  pub still : told → new ≡ with_disk side (disk_of new side) old
+  pub later : told → Later faults size 0 (disk_of old side) (disk_of new side)
+  pub disks : HasDisks old → HasDisks new
+
+unread_by : (A B : Type 0) (answer : Peeked) → is_shown answer ≡ false → (answer ≡ peeks.Refused → A) → (answer ≡ peeks.Failed → B) → A ⊎ B
+unread_by A B peeks.Shown never refused failed = absurd (cc)
+unread_by A B peeks.Refused never refused failed = inl (refused refl)
+unread_by A B peeks.Failed never refused failed = inr (failed refl)
+
+shown_is : (answer : Peeked) → is_shown answer ≡ true → answer ≡ peeks.Shown
+shown_is peeks.Shown shown = refl
+shown_is peeks.Refused shown = absurd (cc)
+shown_is peeks.Failed shown = absurd (cc)
+
+rose_none : (n before now : ℕ) → RoseBy n before now → RoseBy 0 before now
+rose_none n before now rose = omega (arith, rose)
+
+later_none : {D : Type 0} (faults size : D → ℕ) (n : ℕ) (old new : Option D) → Later faults size n old new → Later faults size 0 old new
+later_none faults size n old new l =
+    record { there = l.there; rose = rose_none n (faults_in faults old) (faults_in faults new) l.rose; as_large = l.as_large }
+
+later_at : {D : Type 0} (faults size : D → ℕ) (n : ℕ) (old new a b : Option D) → old ≡ a → new ≡ b → Later faults size n a b → Later faults size n old new
+later_at faults size n old new a b p q l = subst (λ o. Later faults size n o new) (sym p) (subst (λ o. Later faults size n a o) (sym q) l)
+
+rose_failed : {D : Type 0} (faults size : D → ℕ) (old new : Option D) (answer : Peeked) → answer ≡ peeks.Failed → Later faults size (bit (has_failed answer)) old new
+    → Rose (faults_in faults old) (faults_in faults new)
+rose_failed faults size old new answer failed l = subst (λ a. RoseBy (bit (has_failed a)) (faults_in faults old) (faults_in faults new)) failed l.rose
+
+-- ---- a peek at either server
+
+not_shown : (v : Volume) (file off : ℕ) (old new : List ℕ) (answer : Peeked) → PeekIs v file off old new answer → v.broken ≡ true → is_shown answer ≡ false
+not_shown v file off old new answer is broken = ap is_shown (is.refused broken)
+
+module _ {D M : Type 0} (told : Type 0) (faults size : D → ℕ) (file off : ℕ) (bytes_old bytes_new : List ℕ) (answer : Peeked) where
+  -- a system whose servers' disks and states are these
+  abbrev seen_as : Context → Stage D M → (source dest : Option D) → Option (SourceState M) → Option (DestState M) → Running D M
+  seen_as context s source dest source_state dest_state =
+      record (running_of size context s) { source = source; dest = dest; source_state = source_state; dest_state = dest_state }
+
+  source_says : (context : Context) (s new : Stage D M) → HasFileAt told Source file s → Peeks told faults size Source file off s new bytes_old bytes_new answer
+      → Says told faults size Source file off (running_of size context s) (running_of size context new) bytes_old bytes_new answer
+  source_says context s new has q =
+      let p : SourcePeeks told faults size file off s.source new.source bytes_old bytes_new answer = q.peeks in
+      let v = p.was.server.files.volume.volume in
+      let seen : shown_at (source_state size s.source) (dest_state size s.dest) Source ≡ Some v =
+      ap (λ (e : SourceEnd D M). shown_at (source_state size e) (dest_state size s.dest) Source) p.was_is in
+      let broken : is_broken (running_of size context s) Source ≡ v.broken = ap (λ (o : Option Volume). option_map_or (λ v. v.broken) o false) seen in
+      let was : source_disk s.source ≡ Some p.was.server.files.volume.disk = ap (λ (e : SourceEnd D M). source_disk e) p.was_is in
+      let now : source_disk new.source ≡ Some p.next.server.files.volume.disk = ap (λ (e : SourceEnd D M). source_disk e) p.next_is in
+      let is : told → PeekIs v file off bytes_old bytes_new answer = λ t. p.is t (subst (λ (e : SourceEnd D M). file < source_files e) p.was_is (has.there t)) in
+      let later : told → Later faults size (bit (has_failed answer)) (source_disk s.source) (source_disk new.source) = λ t. later_at faults size _ _ _ _ _ was now (p.later t) in
+      record {
+        shown = λ t shown. subst (λ (o : Option Volume). IfSome o (λ v. bytes_new ≡ bytes_at (file_at v file).now off (length bytes_old))) (sym seen) ((is t).bytes (shown_is answer shown));
+        unread = λ t never. unread_by _ _ answer never (λ refused. broken ∙ (is t).broken refused)
+            (λ failed. rose_failed faults size (source_disk s.source) (source_disk new.source) answer failed (later t));
+        broken = λ t b. not_shown v file off bytes_old bytes_new answer (is t) (sym broken ∙ b);
+        still = λ t.
+            ap (λ (x : Stage D M). running_of size context x) q.rest
+            ∙ ap (λ (st : Option (SourceState M)). seen_as context s (source_disk new.source) (dest_disk s.dest) st (dest_state size s.dest))
+            (ap (λ (e : SourceEnd D M). source_state size e) p.next_is ∙ ap (λ (x : SourceState M). Some x) (p.same t) ∙ sym (ap (λ (e : SourceEnd D M). source_state size e) p.was_is));
+        later = λ t. later_none faults size _ _ _ (later t);
+        disks = λ there. record { source_there = ap (λ (o : Option D). is_some o) now; dest_there = ap (λ (x : Stage D M). is_some (dest_disk x.dest)) q.rest ∙ there.dest_there };
+      }
+
+  dest_says : (context : Context) (s new : Stage D M) → HasFileAt told Dest file s → Peeks told faults size Dest file off s new bytes_old bytes_new answer
+      → Says told faults size Dest file off (running_of size context s) (running_of size context new) bytes_old bytes_new answer
+  dest_says context s new has q =
+      let p : DestPeeks told faults size file off s.dest new.dest bytes_old bytes_new answer = q.peeks in
+      let v = p.was.server.files.volume.volume in
+      let seen : shown_at (source_state size s.source) (dest_state size s.dest) Dest ≡ Some v =
+      ap (λ (e : DestEnd D M). shown_at (source_state size s.source) (dest_state size e) Dest) p.was_is in
+      let broken : is_broken (running_of size context s) Dest ≡ v.broken = ap (λ (o : Option Volume). option_map_or (λ v. v.broken) o false) seen in
+      let was : dest_disk s.dest ≡ Some p.was.server.files.volume.disk = ap (λ (e : DestEnd D M). dest_disk e) p.was_is in
+      let now : dest_disk new.dest ≡ Some p.next.server.files.volume.disk = ap (λ (e : DestEnd D M). dest_disk e) p.next_is in
+      let is : told → PeekIs v file off bytes_old bytes_new answer = λ t. p.is t (subst (λ (e : DestEnd D M). file < dest_files e) p.was_is (has.there t)) in
+      let later : told → Later faults size (bit (has_failed answer)) (dest_disk s.dest) (dest_disk new.dest) = λ t. later_at faults size _ _ _ _ _ was now (p.later t) in
+      record {
+        shown = λ t shown. subst (λ (o : Option Volume). IfSome o (λ v. bytes_new ≡ bytes_at (file_at v file).now off (length bytes_old))) (sym seen) ((is t).bytes (shown_is answer shown));
+        unread = λ t never. unread_by _ _ answer never (λ refused. broken ∙ (is t).broken refused)
+            (λ failed. rose_failed faults size (dest_disk s.dest) (dest_disk new.dest) answer failed (later t));
+        broken = λ t b. not_shown v file off bytes_old bytes_new answer (is t) (sym broken ∙ b);
+        still = λ t.
+            ap (λ (x : Stage D M). running_of size context x) q.rest
+            ∙ ap (λ (st : Option (DestState M)). seen_as context s (source_disk s.source) (dest_disk new.dest) (source_state size s.source) st)
+            (ap (λ (e : DestEnd D M). dest_state size e) p.next_is ∙ ap (λ (x : DestState M). Some x) (p.same t) ∙ sym (ap (λ (e : DestEnd D M). dest_state size e) p.was_is));
+        later = λ t. later_none faults size _ _ _ (later t);
+        disks = λ there. record { source_there = ap (λ (x : Stage D M). is_some (source_disk x.source)) q.rest ∙ there.source_there; dest_there = ap (λ (o : Option D). is_some o) now };
+      }
+
+-- ---- of a system as contracts see it
+
+module _ {D M : Type 0} (told : Type 0) (size : D → ℕ) (file : ℕ) (context : Context) (mech : M) (s : Stage D M) (r : Running D M)
+    (sound : IsSound told context mech s) (seen : running_of size context s ≡ r) where
+  pub is_open : (side : Side) → HasFile r.context side file → HasDisks r → IsOpenAt side s
+  is_open side has disks =
+      open_at told size context mech s sound side file (subst HasDisks (sym seen) disks) (subst (λ (x : Running D M). HasFile x.context side file) (sym seen) has)
+
+  has_at : (side : Side) → HasFile r.context side file → HasDisks r → HasFileAt told side file s
+  has_at side has disks =
+      has_there told size context mech s sound side file (is_open side has disks) (subst (λ (x : Running D M). HasFile x.context side file) (sym seen) has)
+
+module _ {D M : Type 0} (told : Type 0) (faults size : D → ℕ) (file off : ℕ) (bytes_old bytes_new : List ℕ) (answer : Peeked) where
+  says_by : (side : Side) (context : Context) (s new : Stage D M) → HasFileAt told side file s → Peeks told faults size side file off s new bytes_old bytes_new answer
+      → Says told faults size side file off (running_of size context s) (running_of size context new) bytes_old bytes_new answer
+  says_by Source context s new has q = source_says told faults size file off bytes_old bytes_new answer context s new has q
+  says_by Dest context s new has q = dest_says told faults size file off bytes_old bytes_new answer context s new has q
+
+  pub says : (context : Context) (mech : M) (s new : Stage D M) (r : Running D M) → IsSound told context mech s → running_of size context s ≡ r
+      → (side : Side) → HasFile r.context side file → HasDisks r → Peeks told faults size side file off s new bytes_old bytes_new answer
+      → Says told faults size side file off r (running_of size context new) bytes_old bytes_new answer
+  says context mech s new r sound seen side has disks q =
+      subst (λ (x : Running D M). Says told faults size side file off x (running_of size context new) bytes_old bytes_new answer) seen
+      (says_by side context s new (has_at told size file context mech s r sound seen side has disks) q)

@@ -1,0 +1,23 @@
+use Rattle.std.proofs.Common.{sym, ◌∙◌}
+use Rattle.wire_run.proofs.Shown.{Says, is_open, says}
+use Rattle.wire_run.proofs.system.System.peek.Goals as goal
+
+pub read-requires-clause-open : goal.read-requires-clause-open
+read-requires-clause-open g c =
+    is_open g.D.Disk.Told g.D.Disk.size c.args.file c.self.inside.context c.self.inside.mech c.self.inside.stage c.args.self.now c.self.invariant c.self.view_is
+    c.args.side c.requires.file c.requires.disks
+
+pub returns : goal.returns
+returns g c =
+    let said : Says g.D.Disk.Told g.D.Disk.faults g.D.Disk.size c.args.side c.args.file c.args.off c.args.self.now _ c.args.out.now c.read.new.out c.read.result =
+    says g.D.Disk.Told g.D.Disk.faults g.D.Disk.size c.args.file c.args.off c.args.out.now c.read.new.out c.read.result
+    c.self.inside.context c.self.inside.mech c.self.inside.stage c.read.new.self c.args.self.now c.self.invariant c.self.view_is
+    c.args.side c.requires.file c.requires.disks c.read.ensures in
+    record {
+      bytes = λ t is. said.shown t (sym c.was_shown.ensures ∙ is);
+      unread = λ t is. said.unread t (sym c.was_shown.ensures ∙ is);
+      broken = λ t is. c.was_shown.ensures ∙ said.broken t is;
+      still = said.still;
+      later = said.later;
+      disks = said.disks c.requires.disks;
+    }
