@@ -1,0 +1,5 @@
+pub mod CheckLaws
+pub mod Growing
+pub mod Listed
+pub mod Right
+pub mod RunLaws

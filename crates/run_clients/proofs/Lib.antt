@@ -1,0 +1,4 @@
+pub mod Lawful
+pub mod Openings
+pub mod Turning
+pub mod Whole

@@ -1,0 +1,4 @@
+pub mod Boots
+pub mod Goes
+pub mod Moments
+pub mod Shown

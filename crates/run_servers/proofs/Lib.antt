@@ -1,0 +1,5 @@
+pub mod SourceSteps
+pub mod SourceRuns
+pub mod DestSteps
+pub mod DestRuns
+pub mod SourceCalls
