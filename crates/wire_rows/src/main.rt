@@ -2,8 +2,11 @@
 //! `nfscopy::nfscopy`. Prints the name of each that is answered otherwise, and then how many there were and how many differ.
 //!
 //! A case is a line `case NAME STATUS LENGTH LENGTH`, a schedule of the first length in bytes, a transcript of the second, and
-//! a newline. Other lines between cases are passed over.
+//! a newline. Other lines between cases are passed over. Behind the cases one copy is made again and again, with each record
+//! lost, each repeated, and the last ones in each order, and what stands in the end is compared with the promise (`promise.rt`).
 #![tactic(auto)]
+
+mod promise;
 
 use disk_model::MemoryDisk;
 use gss_mech::Realm;
@@ -79,17 +82,23 @@ fn realm(alloc: Global) -> Mem<Realm> {
     Realm::new(alloc, &[user, dest])
 }
 
-/// Whether a case is answered as is due.
-fn is_met(alloc: Global, realm: &Realm, case: Case<'_>) -> Mem<bool> {
+/// What the top call puts for a schedule, and its status.
+pub(crate) fn ran(alloc: Global, realm: &Realm, schedule: &[u8]) -> Mem<(u8, MemSink)> {
     let mut words = Vec::new(alloc);
     words.push(String::from_str(alloc, "run")?)?;
-    let mut input = MemSource::new(Vec::from_slice(alloc, case.schedule)?, Vec::new(alloc));
+    let mut input = MemSource::new(Vec::from_slice(alloc, schedule)?, Vec::new(alloc));
     let mut output = MemSink::new(alloc, Vec::new(alloc));
     let mut disks = Disks {
         source: Some(disk(alloc)),
         dest: Some(disk(alloc)),
     };
     let status = nfscopy::nfscopy(alloc, &words, &mut input, &mut output, &mut disks, realm);
+    Ok((status, output))
+}
+
+/// Whether a case is answered as is due.
+fn is_met(alloc: Global, realm: &Realm, case: Case<'_>) -> Mem<bool> {
+    let (status, output) = ran(alloc, realm, case.schedule)?;
     Ok(status == case.status && output.bytes() == case.transcript)
 }
 
@@ -127,6 +136,7 @@ fn run(alloc: Global, text: &[u8]) -> Mem<String> {
     }
     let last = format!(in alloc; "{tried} tried, {differ} differ\n")?;
     lines.push_str(last.as_str())?;
+    promise::judge_all(alloc, &realm, &mut lines)?;
     Ok(lines)
 }
 

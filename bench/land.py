@@ -1,0 +1,43 @@
+#!/usr/bin/env python3
+"""Lands a copy of 64 MiB in chunks of 64 KiB, and prints what a chunk takes beside bare SHA-256 over its bytes.
+
+The whole of a chunk is a READ that the source answers, and its answer that the destination takes and lands on a volume in
+memory: the difference of two runs of `nfscopy`, of which one makes no copy. What the source's sealing takes is timed apart
+(`seal_bench`), and the rest is the destination's: it checks the answer's code, writes the chunk and enters it, with what the
+runner keeps of a record. All runs alternate, and the fastest of each counts.
+"""
+
+from programs import built, nfscopy, timed, timed_over
+
+CHUNK = 65_536
+CHUNKS = 1024
+ROUNDS = 5
+
+# A file of 64 MiB at the source, of which one byte is written.
+FILE = b"volume s 1 16384\nvolume d 1 16384\nwrite s 1 67108863 01\nflow 12\n"
+COPY = FILE + b"copy 1 1 0 1 0 0 c\nrounds 2112\npeek d 1 67108863 1\n"
+
+
+def main():
+    program, seal = nfscopy("run"), built("seal_bench")
+    runs = {
+        "none": lambda: timed_over(program, FILE),
+        "copy": lambda: timed_over(program, COPY),
+        "hash": lambda: timed([seal, str(CHUNKS), "hash"]),
+        "serve": lambda: timed([seal, str(CHUNKS), "serve"]),
+        "start": lambda: timed([seal, "1", "hash"]),
+    }
+    best = dict.fromkeys(runs, float("inf"))
+    for _ in range(ROUNDS):
+        for name, run in runs.items():
+            best[name] = min(best[name], run().seconds)
+    whole = best["copy"] - best["none"]
+    bare = best["hash"] - best["start"]
+    serve = best["serve"] - best["start"]
+    print(f"{'':>10} {'us a chunk':>11} {'B/s':>15} {'ratio':>7}")
+    for name, seconds in (("hash", bare), ("copy", whole), ("serve", serve), ("land", whole - serve)):
+        print(f"{name:>10} {1e6 * seconds / CHUNKS:11.1f} {CHUNKS * CHUNK / seconds:15,.0f} {bare / seconds:7.3f}")
+
+
+if __name__ == "__main__":
+    main()
