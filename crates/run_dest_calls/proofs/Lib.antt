@@ -1,3 +1,0 @@
-mod DestSteps
-mod RunSteps
-mod Runs
