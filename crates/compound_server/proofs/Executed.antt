@@ -6,8 +6,8 @@ use Rattle.nfs_compound.specs.declared.res.Res.{Res}
 use Rattle.nfs_compound.specs.Results.{outcome, reply}
 use Rattle.nfs_compound.specs.Walk.{last_status}
 use Rattle.server_volume.specs.declared.used.Used.{Used}
-use Rattle.server_volume.specs.Moments.{Ran}
-use Rattle.server_volume.specs.MomentLaws.{ran_none}
+use Rattle.server_volume.specs.Moments.{Counted}
+use Rattle.server_volume.specs.MomentLaws.{counted_none}
 use Rattle.server_volume.specs.Store.{Seat}
 use Rattle.sess_slots.specs.declared.answers.Place.{Place}
 use Rattle.sess_slots.specs.Begins.{finished}
@@ -63,9 +63,9 @@ executed_as who place tag a w r e =
 
 -- ---- an answer without a call on the volume
 
-pub ran_told : {D X E : Type 0} (size : D → ℕ) (new : Server D X) (r : Result Reply E) (g : Given X) (old after : Seat)
-    → IfOk r (λ told. given_of size new told ≡ g) → g.used ≡ [] → after ≡ old → IfOk r (λ told. Ran old after [] told.used)
-ran_told size new (Err e) g old after gives none same = tt
-ran_told size new (Ok told) g old after gives none same =
-    subst (λ (s : Seat). Ran old s [] told.used) (sym same)
-    (subst (λ (us : List Used). Ran old old [] us) (sym (ap (λ t. t.used) gives ∙ none)) (ran_none old []))
+pub ran_told : {told D X E : Type 0} (size : D → ℕ) (new : Server D X) (r : Result Reply E) (g : Given X) (old after : Seat)
+    → IfOk r (λ told. given_of size new told ≡ g) → g.used ≡ [] → after ≡ old → IfOk r (λ reply. Counted told old after [] reply.used)
+ran_told {told} size new (Err e) g old after gives none same = tt
+ran_told {told} size new (Ok reply) g old after gives none same =
+    subst (λ (s : Seat). Counted told old s [] reply.used) (sym same)
+    (subst (λ (us : List Used). Counted told old old [] us) (sym (ap (λ t. t.used) gives ∙ none)) (counted_none told old []))

@@ -21,8 +21,8 @@ use Rattle.nfs_compound.specs.Ops.{op_number}
 use Rattle.nfs_compound.specs.Results.{outcome, res_body, res_status}
 use Rattle.server_volume.specs.declared.used.Used.{Used}
 use Rattle.server_volume.specs.Choices.{Choice}
-use Rattle.server_volume.specs.MomentLaws.{ran_none}
-use Rattle.server_volume.specs.Moments.{Ran}
+use Rattle.server_volume.specs.MomentLaws.{counted_none}
+use Rattle.server_volume.specs.Moments.{Counted}
 use Rattle.server_volume.specs.Store.{Seat}
 use Rattle.sess_slots.specs.Table.{SessionTable}
 use Rattle.wire_xdr.specs.Words.{word_bytes}
@@ -33,12 +33,12 @@ use Rattle.compound_server.specs.Serves.{Served, told_of}
 use Rattle.compound_server.specs.State.{begun}
 
 -- no call was made
-pub ran_still : {seat : Seat} {used more : List Used} → more ≡ used → Ran seat seat used more
-ran_still {seat} {used} {more} same = subst (λ (us : List Used). Ran seat seat used us) (sym same) (ran_none seat used)
+pub ran_still : {told : Type 0} {seat : Seat} {used more : List Used} → more ≡ used → Counted told seat seat used more
+ran_still {told} {seat} {used} {more} same = subst (λ (us : List Used). Counted told seat seat used us) (sym same) (counted_none told seat used)
 
 -- nor anything else done to the volume
-pub ran_kept : {V : Type 0} (seat : V → Seat) {old new : V} {used more : List Used} → new ≡ old → more ≡ used → Ran (seat old) (seat new) used more
-ran_kept seat {old} {new} {used} {more} same still = subst (λ v. Ran (seat old) (seat v) used more) (sym same) (ran_still still)
+pub ran_kept : {told V : Type 0} (seat : V → Seat) {old new : V} {used more : List Used} → new ≡ old → more ≡ used → Counted told (seat old) (seat new) used more
+ran_kept {told} seat {old} {new} {used} {more} same still = subst (λ v. Counted told (seat old) (seat v) used more) (sym same) (ran_still still)
 
 -- ---- refusals
 

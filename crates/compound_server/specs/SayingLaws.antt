@@ -16,17 +16,17 @@ use Rattle.nfs_base.specs.Forms.{answer, status}
 use Rattle.nfs_base.specs.declared.answer.Answer.TheVariants.{Done, Refused}
 use Rattle.nfs_base.specs.declared.status.Status.{Status}
 use Rattle.server_volume.specs.Choices.{Agrees}
-use Rattle.server_volume.specs.MomentLaws.{ran_none}
-use Rattle.server_volume.specs.Moments.{Ran}
+use Rattle.server_volume.specs.MomentLaws.{counted_none}
+use Rattle.server_volume.specs.Moments.{Counted}
 use Rattle.server_volume.specs.Store.{Seat}
 use Rattle.server_volume.specs.declared.used.Used.{Used}
 use Rattle.wire_xdr.specs.Words.{word_bytes}
 use Rattle.compound_server.specs.Serves.{Told, served, served_bytes, told_of}
 
 -- no call was made
-pub ran_kept : {V : Type 0} (seat : V → Seat) (old new : V) (used more : List Used) → new ≡ old → more ≡ used → Ran (seat old) (seat new) used more
-ran_kept seat old new used more same still =
-    subst (λ v. Ran (seat old) (seat v) used more) (sym same) (subst (λ (us : List Used). Ran (seat old) (seat old) used us) (sym still) (ran_none (seat old) used))
+pub ran_kept : {told V : Type 0} (seat : V → Seat) (old new : V) (used more : List Used) → new ≡ old → more ≡ used → Counted told (seat old) (seat new) used more
+ran_kept {told} seat old new used more same still =
+    subst (λ v. Counted told (seat old) (seat v) used more) (sym same) (subst (λ (us : List Used). Counted told (seat old) (seat old) used us) (sym still) (counted_none told (seat old) used))
 
 abbrev pub going_at : {X : Type 0} → Machine X → Progress → Going X
 going_at m p = record { machine = m; held = p.held; used = p.used; has_read = p.has_read }

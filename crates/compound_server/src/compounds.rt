@@ -6,7 +6,7 @@ ghost use Rattle.file_server.specs.declared.progress.TheConstants.{MOST_RESULT};
 ghost use Rattle.compound_server.specs.Refusals.{tail_refusal};
 ghost use Rattle.sess_slots.specs.declared.answers.Begin.{Begin};
 ghost use Rattle.file_server.specs.Answering.{Ready, IsNew};
-ghost use Rattle.server_volume.specs.Moments.{Ran};
+ghost use Rattle.server_volume.specs.Moments.{Counted};
 ghost use Rattle.server_volume.specs.Store.{seat_of};
 ghost use Rattle.sess_slots.specs.Begins.{client_at, reply_at};
 ghost use Rattle.sess_slots.specs.Table.{numbers_made};
@@ -63,7 +63,7 @@ impl<D: Disk, X> Server<D, X> {
         requires own { X.given self.old.files.extra + MOST_OPERATIONS < 2 ^ 32 }
         ensures gives { D.Told → IfOk result (λ told. Gives (λ choice. on_compound (record { gate = X.gated; serve = X.serves }) (record { leave = X.leaves; lapse = X.lapses }) choice who.now principal.now carry.now compound (state_of D.size self.old)) (state_of D.size self.new) told.used told.body) }
         ensures short { IfOk result (λ told. length told.body ≤ MOST_REPLY) }
-        ensures ran { D.Told → IfOk result (λ told. Ran (seat_of D.size D.fuse D.timeline D.faults self.old.files.volume) (seat_of D.size D.fuse D.timeline D.faults self.new.files.volume) [] told.used) }
+        ensures ran { IfOk result (λ told. Counted D.Told (seat_of D.size D.fuse D.timeline D.faults self.old.files.volume) (seat_of D.size D.fuse D.timeline D.faults self.new.files.volume) [] told.used) }
         ensures err { OnErr result (self.new ≡ self.old) }
         ensures counted { IsCounted X.given self.old self.new }
     {
@@ -163,7 +163,7 @@ impl<D: Disk, X> Server<D, X> {
         requires own { X.given self.old.files.extra + MOST_OPERATIONS < 2 ^ 32 }
         ensures gives { D.Told → IfOk result (λ told. Gives (λ choice. by_first (record { gate = X.gated; serve = X.serves }) (record { leave = X.leaves; lapse = X.lapses }) choice who.now principal.now carry.now tag count ops.items tail (with_own (X.lapses who.now.second self.old.files.extra) (state_of D.size self.old))) (state_of D.size self.new) told.used told.body) }
         ensures short { IfOk result (λ told. length told.body ≤ MOST_REPLY) }
-        ensures ran { D.Told → IfOk result (λ told. Ran (seat_of D.size D.fuse D.timeline D.faults self.old.files.volume) (seat_of D.size D.fuse D.timeline D.faults self.new.files.volume) [] told.used) }
+        ensures ran { IfOk result (λ told. Counted D.Told (seat_of D.size D.fuse D.timeline D.faults self.old.files.volume) (seat_of D.size D.fuse D.timeline D.faults self.new.files.volume) [] told.used) }
         ensures err { OnErr result (self.new ≡ self.old) }
         ensures counted { IsCounted X.given self.old self.new }
     {
@@ -310,7 +310,7 @@ impl<D: Disk, X> Server<D, X> {
         requires own { X.given self.old.files.extra + MOST_OPERATIONS < 2 ^ 32 }
         ensures gives { D.Told → IfOk result (λ told. Gives (λ choice. sequence (record { gate = X.gated; serve = X.serves }) choice who.now carry.now tag args.now ops.items tail (with_own (X.lapses who.now.second self.old.files.extra) (state_of D.size self.old))) (state_of D.size self.new) told.used told.body) }
         ensures short { IfOk result (λ told. length told.body ≤ MOST_REPLY) }
-        ensures ran { D.Told → IfOk result (λ told. Ran (seat_of D.size D.fuse D.timeline D.faults self.old.files.volume) (seat_of D.size D.fuse D.timeline D.faults self.new.files.volume) [] told.used) }
+        ensures ran { IfOk result (λ told. Counted D.Told (seat_of D.size D.fuse D.timeline D.faults self.old.files.volume) (seat_of D.size D.fuse D.timeline D.faults self.new.files.volume) [] told.used) }
         ensures err { OnErr result (self.new ≡ self.old) }
         ensures counted { IsCounted X.given self.old self.new }
     {
@@ -386,7 +386,7 @@ impl<D: Disk, X> Server<D, X> {
         requires own { X.given self.old.files.extra + MOST_OPERATIONS < 2 ^ 32 }
         ensures gives { D.Told → IfOk result (λ told. Gives (λ choice. by_begin (Begin.New place) (record { gate = X.gated; serve = X.serves }) choice who.now carry.now tag.now args.now ops.items tail (with_own (X.lapses who.now.second self.old.files.extra) (state_of D.size self.old))) (state_of D.size self.new) told.used told.body) }
         ensures short { IfOk result (λ told. length told.body ≤ MOST_REPLY) }
-        ensures ran { D.Told → IfOk result (λ told. Ran (seat_of D.size D.fuse D.timeline D.faults self.old.files.volume) (seat_of D.size D.fuse D.timeline D.faults self.new.files.volume) [] told.used) }
+        ensures ran { IfOk result (λ told. Counted D.Told (seat_of D.size D.fuse D.timeline D.faults self.old.files.volume) (seat_of D.size D.fuse D.timeline D.faults self.new.files.volume) [] told.used) }
         ensures err { OnErr result (self.new ≡ self.old) }
         ensures counted { IsCounted X.given self.old self.new }
     {
@@ -438,7 +438,7 @@ impl<D: Disk, X> Server<D, X> {
         requires own { X.given self.old.files.extra + MOST_OPERATIONS < 2 ^ 32 }
         ensures gives { D.Told → Gives (λ choice. executed who.now place tag.now args.now (walk (record { gate = X.gated; serve = X.serves }) choice caller.now carry.now tail (map op_of ops) (begun (state_of D.size self.old)))) (state_of D.size self.new) result.used result.body }
         ensures short { length result.body ≤ MOST_REPLY }
-        ensures ran { D.Told → Ran (seat_of D.size D.fuse D.timeline D.faults self.old.files.volume) (seat_of D.size D.fuse D.timeline D.faults self.new.files.volume) [] result.used }
+        ensures ran { Counted D.Told (seat_of D.size D.fuse D.timeline D.faults self.old.files.volume) (seat_of D.size D.fuse D.timeline D.faults self.new.files.volume) [] result.used }
         ensures counted { IsCounted X.given self.old self.new }
     {
         let done = self.evaluate(caller, carry, ops, tail, 1, &mut p);

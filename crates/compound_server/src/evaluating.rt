@@ -4,7 +4,7 @@ ghost use Rattle.std.specs.Prelude.{◌≡◌, ◌+◌, ◌-◌, ◌^◌, ◌<�
 ghost use Rattle.file_server.specs.Answering.{Ready};
 ghost use Rattle.nfs_base.specs.declared.limits.TheConstants.{MOST_OPERATIONS};
 ghost use Rattle.nfs_compound.specs.Walk.{next_number};
-ghost use Rattle.server_volume.specs.Moments.{Ran};
+ghost use Rattle.server_volume.specs.Moments.{Counted};
 ghost use Rattle.server_volume.specs.Store.{seat_of};
 ghost use Rattle.compound_server.specs.Course.{course_of};
 ghost use Rattle.compound_server.specs.Preparing.{op_of, AreSuited};
@@ -51,7 +51,7 @@ impl<D: Disk, X> Server<D, X> {
         ensures walks { D.Told → Walks (λ choice. walk (record { gate = X.gated; serve = X.serves }) choice caller.now carry.now tail (map op_of ops) (course_of D.size self.old p.old)) p.old.page.bytes count (course_of D.size self.new p.new) p.new.page.bytes result.status.number result.count }
         ensures room { p.new.page.room ≡ p.old.page.room }
         ensures fits { length p.new.page.bytes ≤ p.old.page.room }
-        ensures ran { D.Told → Ran (seat_of D.size D.fuse D.timeline D.faults self.old.files.volume) (seat_of D.size D.fuse D.timeline D.faults self.new.files.volume) p.old.used p.new.used }
+        ensures ran { Counted D.Told (seat_of D.size D.fuse D.timeline D.faults self.old.files.volume) (seat_of D.size D.fuse D.timeline D.faults self.new.files.volume) p.old.used p.new.used }
         ensures counted { AreCounted X.given (length ops) self.old self.new }
     {
         let mut rest = ops.into_deque();

@@ -2,7 +2,7 @@
 
 ghost use Rattle.std.specs.Prelude.{◌≡◌, ◌+◌, ◌-◌, ◌^◌, ◌<◌, ◌≤◌};
 ghost use Rattle.file_server.specs.Answering.{Ready, Keeps};
-ghost use Rattle.server_volume.specs.Moments.{Ran};
+ghost use Rattle.server_volume.specs.Moments.{Counted};
 ghost use Rattle.server_volume.specs.Store.{seat_of};
 ghost use Rattle.compound_server.specs.Course.{Performs, course_of};
 ghost use Rattle.compound_server.specs.Performing.{perform, gated, done, file_done, asks_later};
@@ -41,7 +41,7 @@ impl<D: Disk, X> Server<D, X> {
         requires given { X.given self.old.files.extra < 2 ^ 32 - 1 }
         ensures performs { D.Told → Performs (λ choice. perform (record { gate = X.gated; serve = X.serves }) choice caller.now carry.now next (op_of one) (course_of D.size self.old p.old)) p.old.page.bytes (course_of D.size self.new p.new) p.new.page.bytes result.number }
         ensures keeps { Keeps p.old p.new }
-        ensures ran { D.Told → Ran (seat_of D.size D.fuse D.timeline D.faults self.old.files.volume) (seat_of D.size D.fuse D.timeline D.faults self.new.files.volume) p.old.used p.new.used }
+        ensures ran { Counted D.Told (seat_of D.size D.fuse D.timeline D.faults self.old.files.volume) (seat_of D.size D.fuse D.timeline D.faults self.new.files.volume) p.old.used p.new.used }
         ensures counted { AreCounted X.given 1 self.old self.new }
     {
         let op = one.number();
@@ -67,7 +67,7 @@ impl<D: Disk, X> Server<D, X> {
         requires given { X.given self.old.files.extra < 2 ^ 32 - 1 }
         ensures performs { D.Told → Performs (λ choice. gated (asks_later (op_number (op_of one))) (record { gate = X.gated; serve = X.serves }) choice caller.now carry.now next (op_of one) (course_of D.size self.old p.old)) p.old.page.bytes (course_of D.size self.new p.new) p.new.page.bytes result.number }
         ensures keeps { Keeps p.old p.new }
-        ensures ran { D.Told → Ran (seat_of D.size D.fuse D.timeline D.faults self.old.files.volume) (seat_of D.size D.fuse D.timeline D.faults self.new.files.volume) p.old.used p.new.used }
+        ensures ran { Counted D.Told (seat_of D.size D.fuse D.timeline D.faults self.old.files.volume) (seat_of D.size D.fuse D.timeline D.faults self.new.files.volume) p.old.used p.new.used }
         ensures counted { AreCounted X.given 1 self.old self.new }
     {
         let op = one.number();
@@ -101,7 +101,7 @@ impl<D: Disk, X> Server<D, X> {
         requires given { X.given self.old.files.extra < 2 ^ 32 - 1 }
         ensures performs { D.Told → Performs (λ choice. done (record { gate = X.gated; serve = X.serves }) choice caller.now carry.now next (op_of one) (course_of D.size self.old p.old)) p.old.page.bytes (course_of D.size self.new p.new) p.new.page.bytes result.number }
         ensures keeps { Keeps p.old p.new }
-        ensures ran { D.Told → Ran (seat_of D.size D.fuse D.timeline D.faults self.old.files.volume) (seat_of D.size D.fuse D.timeline D.faults self.new.files.volume) p.old.used p.new.used }
+        ensures ran { Counted D.Told (seat_of D.size D.fuse D.timeline D.faults self.old.files.volume) (seat_of D.size D.fuse D.timeline D.faults self.new.files.volume) p.old.used p.new.used }
         ensures counted { AreCounted X.given 1 self.old self.new }
     {
         match one {
@@ -125,7 +125,7 @@ impl<D: Disk, X> Server<D, X> {
         requires opens { self.old.files.opens.made < 2 ^ 32 - 1 }
         ensures performs { D.Told → Performs (λ choice. file_done (record { gate = X.gated; serve = X.serves }) choice caller.now carry.now next arg (course_of D.size self.old p.old)) p.old.page.bytes (course_of D.size self.new p.new) p.new.page.bytes result.number }
         ensures keeps { Keeps p.old p.new }
-        ensures ran { D.Told → Ran (seat_of D.size D.fuse D.timeline D.faults self.old.files.volume) (seat_of D.size D.fuse D.timeline D.faults self.new.files.volume) p.old.used p.new.used }
+        ensures ran { Counted D.Told (seat_of D.size D.fuse D.timeline D.faults self.old.files.volume) (seat_of D.size D.fuse D.timeline D.faults self.new.files.volume) p.old.used p.new.used }
         ensures counted { AreCounted X.given 1 self.old self.new }
     {
         match arg {

@@ -6,7 +6,7 @@ ghost use Rattle.file_server.specs.declared.extension.Caller.{Caller};
 ghost use Rattle.file_server.specs.Answering.{Ready, Keeps, going_of};
 ghost use Rattle.file_server.specs.Machine.{Going};
 ghost use Rattle.server_volume.specs.Choices.{Choice};
-ghost use Rattle.server_volume.specs.Moments.{Ran};
+ghost use Rattle.server_volume.specs.Moments.{Counted};
 ghost use Rattle.server_volume.specs.Store.{seat_of};
 ghost use Rattle.compound_server.specs.declared.client_end.ClientEnd.{ClientEnd};
 ghost use Rattle.compound_server.specs.Serves.{Served, Serves};
@@ -67,7 +67,7 @@ pub trait Serving<C>: Extension<Option<C>> + Drop {
         requires numbered { given files.old.extra < 2 ^ 32 - 1 }
         ensures serves { D.Told → Serves (λ choice. serves choice caller.now carry.now op (going_of D.size files.old p.old)) p.old.page.bytes (going_of D.size files.new p.new) p.new.page.bytes result.number }
         ensures keeps { Keeps p.old p.new }
-        ensures ran { D.Told → Ran (seat_of D.size D.fuse D.timeline D.faults files.old.volume) (seat_of D.size D.fuse D.timeline D.faults files.new.volume) p.old.used p.new.used }
+        ensures ran { Counted D.Told (seat_of D.size D.fuse D.timeline D.faults files.old.volume) (seat_of D.size D.fuse D.timeline D.faults files.new.volume) p.old.used p.new.used }
         ensures opens { files.new.opens ≡ files.old.opens }
         ensures given { given files.new.extra ≤ given files.old.extra + 1 };
 

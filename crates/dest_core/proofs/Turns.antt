@@ -26,7 +26,7 @@ use Rattle.outbox.specs.declared.note.Note.{Note}
 use Rattle.outbox.specs.declared.outgoing.Outbox.{Outbox}
 use Rattle.outbox.specs.declared.outgoing.Outgoing.{Outgoing}
 use Rattle.server_volume.specs.Choices.{Agrees, Choice}
-use Rattle.server_volume.specs.Moments.{Ran}
+use Rattle.server_volume.specs.Moments.{Counted}
 use Rattle.server_volume.specs.Store.{Seat, store_of}
 use Rattle.server_volume.specs.declared.used.Used.{Used}
 use Rattle.session_server.specs.Host.{host_of, stepped_of}
@@ -49,13 +49,13 @@ finish_told size h extra notes sent accepted used undrawn quiet told =
     ∙ ap (λ (ns : List Note). stepped_of size (with_server (put_extra (silent h.server.files.extra) h.server) h) (record { sent = sent; notes = ns; accepted = accepted; used = used; undrawn = undrawn })) told
 
 -- the calls on the volume are those of its part in the middle
-pub ran_within : {V : Type 0} (seat : V → Seat) (old before after new : V) (none used more : List Used) → before ≡ old → new ≡ after → none ≡ [] → more ≡ used
-    → Ran (seat before) (seat after) none used → Ran (seat old) (seat new) [] more
-ran_within seat old before after new none used more first last empty same ran =
-    subst (λ v. Ran (seat v) (seat new) [] more) first
-    (subst (λ v. Ran (seat before) (seat v) [] more) (sym last)
-    (subst (λ (us : List Used). Ran (seat before) (seat after) us more) empty
-    (subst (λ (us : List Used). Ran (seat before) (seat after) none us) (sym same) ran)))
+pub ran_within : {told V : Type 0} (seat : V → Seat) (old before after new : V) (none used more : List Used) → before ≡ old → new ≡ after → none ≡ [] → more ≡ used
+    → Counted told (seat before) (seat after) none used → Counted told (seat old) (seat new) [] more
+ran_within {told} seat old before after new none used more first last empty same ran =
+    subst (λ v. Counted told (seat v) (seat new) [] more) first
+    (subst (λ v. Counted told (seat before) (seat v) [] more) (sym last)
+    (subst (λ (us : List Used). Counted told (seat before) (seat after) us more) empty
+    (subst (λ (us : List Used). Counted told (seat before) (seat after) none us) (sym same) ran)))
 
 -- ---- a worker's turn
 

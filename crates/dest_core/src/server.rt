@@ -13,7 +13,7 @@ ghost use Rattle.disk_model.specs.Disk.{Image, MayLeave};
 ghost use Rattle.disk_model.specs.Elapsed.{contents, present, set_to, IsOut};
 ghost use Rattle.job_book.specs.Book.{book_bytes, IsSound};
 ghost use Rattle.outcome.specs.Causes.{Rose};
-ghost use Rattle.server_volume.specs.Moments.{Ran};
+ghost use Rattle.server_volume.specs.Moments.{Counted};
 ghost use Rattle.server_volume.specs.Store.{seat_of};
 ghost use Rattle.session_server.specs.Host.{host_of, stepped_of};
 ghost use Rattle.session_server.specs.Lengths.{AreShort};
@@ -166,7 +166,7 @@ impl<D: Disk, M: Mechanism> DestCore<D, M> {
     ) -> Mem<Outbox>
         requires few { self.old.steps < MOST_STEPS }
         ensures turn { D.Told → IfOk result (λ out. IsRecord (record { mic = M.mic_of; derived = M.derived }) (M.accepted self.old.server.files.extra.mech) W.gives conn record_.now now (host_of D.size self.old) draws.old draws.new (stepped_of D.size self.new out)) }
-        ensures ran { D.Told → IfOk result (λ out. Ran (seat_of D.size D.fuse D.timeline D.faults self.old.server.files.volume) (seat_of D.size D.fuse D.timeline D.faults self.new.server.files.volume) [] out.used) }
+        ensures ran { IfOk result (λ out. Counted D.Told (seat_of D.size D.fuse D.timeline D.faults self.old.server.files.volume) (seat_of D.size D.fuse D.timeline D.faults self.new.server.files.volume) [] out.used) }
         ensures short { IfOk result (λ out. AreShort out.sent) }
         ensures undrawn { IfOk result (λ out. out.undrawn ≡ true → Rose (W.faults draws.old) (W.faults draws.new)) }
         ensures counted { IfOk result (λ _. self.new.steps ≡ self.old.steps + 1) }
@@ -203,7 +203,7 @@ impl<D: Disk, M: Mechanism> DestCore<D, M> {
         requires worker { 1 ≤ worker }
         requires workers { worker ≤ WORKERS }
         ensures is { D.Told → IfOk result (λ out. IsWork W.gives (M.started self.old.server.files.extra.mech) (record { mic = M.mic_of; derived = M.derived }) (worker - 1) now (host_of D.size self.old) draws.old draws.new (stepped_of D.size self.new out)) }
-        ensures ran { D.Told → IfOk result (λ out. Ran (seat_of D.size D.fuse D.timeline D.faults self.old.server.files.volume) (seat_of D.size D.fuse D.timeline D.faults self.new.server.files.volume) [] out.used) }
+        ensures ran { IfOk result (λ out. Counted D.Told (seat_of D.size D.fuse D.timeline D.faults self.old.server.files.volume) (seat_of D.size D.fuse D.timeline D.faults self.new.server.files.volume) [] out.used) }
         ensures once { IfOk result (λ out. length out.used ≤ 1) }
         ensures undrawn { IfOk result (λ out. out.undrawn ≡ true → Rose (W.faults draws.old) (W.faults draws.new)) }
         ensures short { IfOk result (λ out. AreShort out.sent) }
@@ -227,7 +227,7 @@ impl<D: Disk, M: Mechanism> DestCore<D, M> {
         requires worker { 1 ≤ worker }
         requires workers { worker ≤ WORKERS }
         ensures is { D.Told → IfOk result (λ out. IsReply (record { mic = M.mic_of; derived = M.derived }) (M.finished self.old.server.files.extra.mech self.old.server.files.extra.copier.principal) (worker - 1) record_.now now (host_of D.size self.old) (stepped_of D.size self.new out)) }
-        ensures ran { D.Told → IfOk result (λ out. Ran (seat_of D.size D.fuse D.timeline D.faults self.old.server.files.volume) (seat_of D.size D.fuse D.timeline D.faults self.new.server.files.volume) [] out.used) }
+        ensures ran { IfOk result (λ out. Counted D.Told (seat_of D.size D.fuse D.timeline D.faults self.old.server.files.volume) (seat_of D.size D.fuse D.timeline D.faults self.new.server.files.volume) [] out.used) }
         ensures once { IfOk result (λ out. length out.used ≤ 1) }
         ensures short { IfOk result (λ out. AreShort out.sent) }
         ensures counted { IfOk result (λ _. self.new.steps ≡ self.old.steps + 1) }

@@ -17,7 +17,7 @@ ghost use Rattle.dest_steps.specs.declared.turning.Turn.TheVariants as turns;
 ghost use Rattle.dest_tasks.specs.declared.workers.TheConstants.{WORKERS};
 ghost use Rattle.outcome.specs.Causes.{Rose};
 ghost use Rattle.server_volume.specs.Choices.{Agrees, Choice};
-ghost use Rattle.server_volume.specs.Moments.{Ran};
+ghost use Rattle.server_volume.specs.Moments.{Counted};
 ghost use Rattle.server_volume.specs.Store.{seat_of, store_of};
 ghost use Rattle.session_server.specs.Host.{host_of, stepped_of, IsCounted};
 ghost use Rattle.session_server.specs.Lengths.{AreShort};
@@ -84,7 +84,7 @@ pub(crate) fn work<D: Disk, M: Mechanism, W: Draws>(
     requires counted { IsCounted given host.old }
     requires place { place < WORKERS }
     ensures is { D.Told → IfOk result (λ out. IsWork W.gives (M.started host.old.server.files.extra.mech) (record { mic = M.mic_of; derived = M.derived }) place now (host_of D.size host.old) draws.old draws.new (stepped_of D.size host.new out)) }
-    ensures ran { D.Told → IfOk result (λ out. Ran (seat_of D.size D.fuse D.timeline D.faults host.old.server.files.volume) (seat_of D.size D.fuse D.timeline D.faults host.new.server.files.volume) [] out.used) }
+    ensures ran { IfOk result (λ out. Counted D.Told (seat_of D.size D.fuse D.timeline D.faults host.old.server.files.volume) (seat_of D.size D.fuse D.timeline D.faults host.new.server.files.volume) [] out.used) }
     ensures once { IfOk result (λ out. length out.used ≤ 1) }
     ensures undrawn { IfOk result (λ out. out.undrawn ≡ true → Rose (W.faults draws.old) (W.faults draws.new)) }
     ensures short { IfOk result (λ out. AreShort out.sent) }
@@ -137,7 +137,7 @@ fn make_turn<D: Disk, M: Mechanism>(
     requires short { TurnIsShort turn }
     ensures short { AreShort result.sent }
     ensures is { D.Told → (choice : Choice) → Agrees choice result.used → stepped_of D.size host.new result ≡ turn_step choice place now turn (host_of D.size host.old) }
-    ensures ran { D.Told → Ran (seat_of D.size D.fuse D.timeline D.faults host.old.server.files.volume) (seat_of D.size D.fuse D.timeline D.faults host.new.server.files.volume) [] result.used }
+    ensures ran { Counted D.Told (seat_of D.size D.fuse D.timeline D.faults host.old.server.files.volume) (seat_of D.size D.fuse D.timeline D.faults host.new.server.files.volume) [] result.used }
     ensures once { length result.used ≤ 1 }
     ensures steps { host.new.steps ≡ host.old.steps + 1 }
     ensures counted { IsCounted given host.new }
@@ -174,7 +174,7 @@ fn make_turn_on<D: Disk, M>(
     requires room { room.items ≡ [] }
     requires one { 1 ≤ vec_capacity room }
     ensures does { D.Told → Does (λ choice. turn_made choice place turn (doing_of files.old.extra.copier (store_of D.size files.old.volume) used.old)) files.new.extra.copier (store_of D.size files.new.volume) used.new result }
-    ensures ran { D.Told → Ran (seat_of D.size D.fuse D.timeline D.faults files.old.volume) (seat_of D.size D.fuse D.timeline D.faults files.new.volume) used.old used.new }
+    ensures ran { Counted D.Told (seat_of D.size D.fuse D.timeline D.faults files.old.volume) (seat_of D.size D.fuse D.timeline D.faults files.new.volume) used.old used.new }
     ensures short { AreShort result }
     ensures once { length used.new ≤ 1 }
     ensures opening { SameOpening files.old.volume.volume files.new.volume.volume }
@@ -229,7 +229,7 @@ pub(crate) fn take_reply<D: Disk, M: Mechanism>(
     requires counted { IsCounted given host.old }
     requires place { place < WORKERS }
     ensures is { D.Told → IfOk result (λ out. IsReply (record { mic = M.mic_of; derived = M.derived }) (M.finished host.old.server.files.extra.mech host.old.server.files.extra.copier.principal) place record_.now now (host_of D.size host.old) (stepped_of D.size host.new out)) }
-    ensures ran { D.Told → IfOk result (λ out. Ran (seat_of D.size D.fuse D.timeline D.faults host.old.server.files.volume) (seat_of D.size D.fuse D.timeline D.faults host.new.server.files.volume) [] out.used) }
+    ensures ran { IfOk result (λ out. Counted D.Told (seat_of D.size D.fuse D.timeline D.faults host.old.server.files.volume) (seat_of D.size D.fuse D.timeline D.faults host.new.server.files.volume) [] out.used) }
     ensures once { IfOk result (λ out. length out.used ≤ 1) }
     ensures short { IfOk result (λ out. AreShort out.sent) }
     ensures err { OnErr result (host.new ≡ host.old) }
@@ -275,7 +275,7 @@ fn make_effect<D: Disk, M: Mechanism>(
     requires short { EffectIsShort heard.effect }
     ensures short { AreShort result.sent }
     ensures is { D.Told → (choice : Choice) → Agrees choice result.used → stepped_of D.size host.new result ≡ reply_step choice place now heard (host_of D.size host.old) }
-    ensures ran { D.Told → Ran (seat_of D.size D.fuse D.timeline D.faults host.old.server.files.volume) (seat_of D.size D.fuse D.timeline D.faults host.new.server.files.volume) [] result.used }
+    ensures ran { Counted D.Told (seat_of D.size D.fuse D.timeline D.faults host.old.server.files.volume) (seat_of D.size D.fuse D.timeline D.faults host.new.server.files.volume) [] result.used }
     ensures once { length result.used ≤ 1 }
     ensures steps { host.new.steps ≡ host.old.steps + 1 }
     ensures counted { IsCounted given host.new }
@@ -303,7 +303,7 @@ fn make_effect_on<D: Disk, M>(
     requires calls { used.old ≡ [] }
     requires room { room.items ≡ [] }
     ensures does { D.Told → Does (λ choice. effect_done choice place effect (doing_of files.old.extra.copier (store_of D.size files.old.volume) used.old)) files.new.extra.copier (store_of D.size files.new.volume) used.new result }
-    ensures ran { D.Told → Ran (seat_of D.size D.fuse D.timeline D.faults files.old.volume) (seat_of D.size D.fuse D.timeline D.faults files.new.volume) used.old used.new }
+    ensures ran { Counted D.Told (seat_of D.size D.fuse D.timeline D.faults files.old.volume) (seat_of D.size D.fuse D.timeline D.faults files.new.volume) used.old used.new }
     ensures short { AreShort result }
     ensures once { length used.new ≤ 1 }
     ensures opening { SameOpening files.old.volume.volume files.new.volume.volume }
@@ -419,7 +419,7 @@ pub(crate) fn take_record<D: Disk, M: Mechanism, W: Draws>(
     requires few { host.old.steps < MOST_STEPS }
     requires counted { IsCounted given host.old }
     ensures turn { D.Told → IfOk result (λ out. IsRecord (record { mic = M.mic_of; derived = M.derived }) (M.accepted host.old.server.files.extra.mech) W.gives conn record_.now now (host_of D.size host.old) draws.old draws.new (stepped_of D.size host.new out)) }
-    ensures ran { D.Told → IfOk result (λ out. Ran (seat_of D.size D.fuse D.timeline D.faults host.old.server.files.volume) (seat_of D.size D.fuse D.timeline D.faults host.new.server.files.volume) [] out.used) }
+    ensures ran { IfOk result (λ out. Counted D.Told (seat_of D.size D.fuse D.timeline D.faults host.old.server.files.volume) (seat_of D.size D.fuse D.timeline D.faults host.new.server.files.volume) [] out.used) }
     ensures short { IfOk result (λ out. AreShort out.sent) }
     ensures undrawn { IfOk result (λ out. out.undrawn ≡ true → Rose (W.faults draws.old) (W.faults draws.new)) }
     ensures err { OnErr result (host.new ≡ host.old) }

@@ -4,7 +4,7 @@ ghost use Rattle.dest_steps.specs.Short.{AreShort, LandingIsShort};
 ghost use Rattle.std.specs.Prelude.{◌≡◌, ◌<◌, ◌≤◌, ◌+◌, [], length, IfOk, IfSome, None};
 ghost use Rattle.block_file.specs.Opened.{SameOpening};
 ghost use Rattle.server_volume.specs.Choices.{Grows};
-ghost use Rattle.server_volume.specs.Moments.{Ran};
+ghost use Rattle.server_volume.specs.Moments.{Counted};
 ghost use Rattle.server_volume.specs.Store.{seat_of, store_of};
 ghost use Rattle.server_volume.specs.declared.used.TheConstants.{MOST_CALLS};
 ghost use Rattle.dest_tasks.specs.declared.workers.TheConstants.{WORKERS};
@@ -88,7 +88,7 @@ impl Copier {
 
 /// Lands a chunk of a job, whose bytes a worker has. Where it has to wait for an earlier one, the worker holds it; where the job
 /// takes it no more, nothing is written.
-#[tactic(auto, using(crate::proofs::Doing::grows_none, crate::proofs::Doing::same_opening, server_volume::specs::MomentLaws::ran_none))]
+#[tactic(auto, using(crate::proofs::Doing::grows_none, crate::proofs::Doing::same_opening, server_volume::specs::MomentLaws::counted_none))]
 pub(crate) fn land<D: Disk>(
     copier: &mut Copier,
     volume: &mut Volume<D>,
@@ -105,7 +105,7 @@ pub(crate) fn land<D: Disk>(
     requires calls { length used.old < MOST_CALLS }
     requires room { room.items ≡ [] }
     ensures does { D.Told → Does (λ choice. landed choice place job chunk bytes told (doing_of copier.old (store_of D.size volume.old) used.old)) copier.new (store_of D.size volume.new) used.new result }
-    ensures ran { D.Told → Ran (seat_of D.size D.fuse D.timeline D.faults volume.old) (seat_of D.size D.fuse D.timeline D.faults volume.new) used.old used.new }
+    ensures ran { Counted D.Told (seat_of D.size D.fuse D.timeline D.faults volume.old) (seat_of D.size D.fuse D.timeline D.faults volume.new) used.old used.new }
     ensures grows { Grows used.old used.new }
     ensures short { AreShort result }
     ensures once { length used.new ≤ length used.old + 1 }
@@ -129,7 +129,7 @@ pub(crate) fn land<D: Disk>(
     }
 }
 
-#[tactic(auto, using(crate::proofs::Doing::grows_none, crate::proofs::Doing::same_opening, server_volume::specs::MomentLaws::ran_none))]
+#[tactic(auto, using(crate::proofs::Doing::grows_none, crate::proofs::Doing::same_opening, server_volume::specs::MomentLaws::counted_none))]
 fn write<D: Disk>(
     copier: &mut Copier,
     volume: &mut Volume<D>,
@@ -145,7 +145,7 @@ fn write<D: Disk>(
     requires calls { length used.old < MOST_CALLS }
     requires room { room.items ≡ [] }
     ensures does { D.Told → Does (λ choice. written_to choice job chunk bytes.now told (doing_of copier.old (store_of D.size volume.old) used.old)) copier.new (store_of D.size volume.new) used.new result }
-    ensures ran { D.Told → Ran (seat_of D.size D.fuse D.timeline D.faults volume.old) (seat_of D.size D.fuse D.timeline D.faults volume.new) used.old used.new }
+    ensures ran { Counted D.Told (seat_of D.size D.fuse D.timeline D.faults volume.old) (seat_of D.size D.fuse D.timeline D.faults volume.new) used.old used.new }
     ensures grows { Grows used.old used.new }
     ensures short { AreShort result }
     ensures once { length used.new ≤ length used.old + 1 }
@@ -183,7 +183,7 @@ fn write_at<D: Disk>(
     requires calls { length used.old < MOST_CALLS }
     requires room { room.items ≡ [] }
     ensures does { D.Told → Does (λ choice. written_at choice job chunk file off bytes.now told (doing_of copier.old (store_of D.size volume.old) used.old)) copier.new (store_of D.size volume.new) used.new result }
-    ensures ran { D.Told → Ran (seat_of D.size D.fuse D.timeline D.faults volume.old) (seat_of D.size D.fuse D.timeline D.faults volume.new) used.old used.new }
+    ensures ran { Counted D.Told (seat_of D.size D.fuse D.timeline D.faults volume.old) (seat_of D.size D.fuse D.timeline D.faults volume.new) used.old used.new }
     ensures grows { Grows used.old used.new }
     ensures short { AreShort result }
     ensures once { length used.new ≤ length used.old + 1 }

@@ -4,7 +4,7 @@ ghost use Rattle.dest_steps.specs.Short.{AreShort, EffectIsShort};
 ghost use Rattle.std.specs.Prelude.{◌≡◌, ◌<◌, ◌≤◌, ◌+◌, [], length, IfOk, IfSome, IsSome, None};
 ghost use Rattle.block_file.specs.Opened.{SameOpening};
 ghost use Rattle.server_volume.specs.Choices.{Grows};
-ghost use Rattle.server_volume.specs.Moments.{Ran};
+ghost use Rattle.server_volume.specs.Moments.{Counted};
 ghost use Rattle.server_volume.specs.Store.{seat_of, store_of};
 ghost use Rattle.server_volume.specs.declared.used.TheConstants.{MOST_CALLS};
 ghost use Rattle.dest_tasks.specs.declared.workers.TheConstants.{WORKERS};
@@ -285,7 +285,7 @@ fn is_read(alloc: Global, record_: &[u8]) -> Mem<bool>
 }
 
 /// Does what an answer does, and gives what goes out.
-#[tactic(auto, using(crate::proofs::Doing::grows_none, crate::proofs::Doing::same_opening, server_volume::specs::MomentLaws::ran_none))]
+#[tactic(auto, using(crate::proofs::Doing::grows_none, crate::proofs::Doing::same_opening, server_volume::specs::MomentLaws::counted_none))]
 pub fn take_effect<D: Disk>(
     copier: &mut Copier,
     volume: &mut Volume<D>,
@@ -299,7 +299,7 @@ pub fn take_effect<D: Disk>(
     requires calls { length used.old < MOST_CALLS }
     requires room { room.items ≡ [] }
     ensures does { D.Told → Does (λ choice. effect_done choice place effect (doing_of copier.old (store_of D.size volume.old) used.old)) copier.new (store_of D.size volume.new) used.new result }
-    ensures ran { D.Told → Ran (seat_of D.size D.fuse D.timeline D.faults volume.old) (seat_of D.size D.fuse D.timeline D.faults volume.new) used.old used.new }
+    ensures ran { Counted D.Told (seat_of D.size D.fuse D.timeline D.faults volume.old) (seat_of D.size D.fuse D.timeline D.faults volume.new) used.old used.new }
     ensures grows { Grows used.old used.new }
     ensures short { AreShort result }
     ensures once { length used.new ≤ length used.old + 1 }

@@ -5,7 +5,7 @@ ghost use Rattle.std.specs.Prelude.{◌≡◌, ◌<◌, ◌≤◌, ◌+◌, [], 
 ghost use Rattle.block_file.specs.Opened.{SameOpening};
 ghost use Rattle.server_volume.specs.Calls.{commit_call};
 ghost use Rattle.server_volume.specs.Choices.{Grows};
-ghost use Rattle.server_volume.specs.Moments.{Ran};
+ghost use Rattle.server_volume.specs.Moments.{Counted};
 ghost use Rattle.server_volume.specs.Store.{seat_of, store_of};
 ghost use Rattle.server_volume.specs.declared.used.TheConstants.{MOST_CALLS};
 ghost use Rattle.dest_tasks.specs.declared.workers.TheConstants.{WORKERS};
@@ -31,7 +31,7 @@ use server_volume::call_commit;
 use wire_xdr::Items;
 
 /// Makes a worker's turn, and gives what goes out. `room` has room for one record.
-#[tactic(auto, using(crate::proofs::Doing::grows_none, crate::proofs::Doing::same_opening, server_volume::specs::MomentLaws::ran_none))]
+#[tactic(auto, using(crate::proofs::Doing::grows_none, crate::proofs::Doing::same_opening, server_volume::specs::MomentLaws::counted_none))]
 pub fn take_turn<D: Disk>(
     copier: &mut Copier,
     volume: &mut Volume<D>,
@@ -46,7 +46,7 @@ pub fn take_turn<D: Disk>(
     requires room { room.items ≡ [] }
     requires one { 1 ≤ vec_capacity room }
     ensures does { D.Told → Does (λ choice. turn_made choice place turn (doing_of copier.old (store_of D.size volume.old) used.old)) copier.new (store_of D.size volume.new) used.new result }
-    ensures ran { D.Told → Ran (seat_of D.size D.fuse D.timeline D.faults volume.old) (seat_of D.size D.fuse D.timeline D.faults volume.new) used.old used.new }
+    ensures ran { Counted D.Told (seat_of D.size D.fuse D.timeline D.faults volume.old) (seat_of D.size D.fuse D.timeline D.faults volume.new) used.old used.new }
     ensures grows { Grows used.old used.new }
     ensures short { AreShort result }
     ensures once { length used.new ≤ length used.old + 1 }
@@ -104,7 +104,7 @@ impl Copier {
 }
 
 /// The worker tries to land the chunk that it holds.
-#[tactic(auto, using(crate::proofs::Doing::grows_none, crate::proofs::Doing::same_opening, server_volume::specs::MomentLaws::ran_none))]
+#[tactic(auto, using(crate::proofs::Doing::grows_none, crate::proofs::Doing::same_opening, server_volume::specs::MomentLaws::counted_none))]
 fn land_held<D: Disk>(
     copier: &mut Copier,
     volume: &mut Volume<D>,
@@ -118,7 +118,7 @@ fn land_held<D: Disk>(
     requires calls { length used.old < MOST_CALLS }
     requires room { room.items ≡ [] }
     ensures does { D.Told → Does (λ choice. held_landed choice place told (post_at copier.old.work.workers place) (doing_of copier.old (store_of D.size volume.old) used.old)) copier.new (store_of D.size volume.new) used.new result }
-    ensures ran { D.Told → Ran (seat_of D.size D.fuse D.timeline D.faults volume.old) (seat_of D.size D.fuse D.timeline D.faults volume.new) used.old used.new }
+    ensures ran { Counted D.Told (seat_of D.size D.fuse D.timeline D.faults volume.old) (seat_of D.size D.fuse D.timeline D.faults volume.new) used.old used.new }
     ensures grows { Grows used.old used.new }
     ensures short { AreShort result }
     ensures once { length used.new ≤ length used.old + 1 }
@@ -139,7 +139,7 @@ fn land_held<D: Disk>(
 }
 
 /// The file of a job is committed, where it still runs and all of it has landed; then the client is told.
-#[tactic(auto, using(crate::proofs::Doing::grows_none, crate::proofs::Doing::same_opening, server_volume::specs::MomentLaws::ran_none))]
+#[tactic(auto, using(crate::proofs::Doing::grows_none, crate::proofs::Doing::same_opening, server_volume::specs::MomentLaws::counted_none))]
 fn commit<D: Disk>(
     copier: &mut Copier,
     volume: &mut Volume<D>,
@@ -153,7 +153,7 @@ fn commit<D: Disk>(
     requires calls { length used.old < MOST_CALLS }
     requires room { room.items ≡ [] }
     ensures does { D.Told → Does (λ choice. commit_if (may_commit job copier.old) choice job told (doing_of copier.old (store_of D.size volume.old) used.old)) copier.new (store_of D.size volume.new) used.new result }
-    ensures ran { D.Told → Ran (seat_of D.size D.fuse D.timeline D.faults volume.old) (seat_of D.size D.fuse D.timeline D.faults volume.new) used.old used.new }
+    ensures ran { Counted D.Told (seat_of D.size D.fuse D.timeline D.faults volume.old) (seat_of D.size D.fuse D.timeline D.faults volume.new) used.old used.new }
     ensures grows { Grows used.old used.new }
     ensures short { AreShort result }
     ensures once { length used.new ≤ length used.old + 1 }
@@ -187,7 +187,7 @@ fn commit_file<D: Disk>(
     requires there { file < length volume.old.volume.files }
     requires calls { length used.old < MOST_CALLS }
     ensures does { D.Told → Does (λ choice. commit_by job told (commit_call choice used.old (store_of D.size volume.old) file) (doing_of copier.old (store_of D.size volume.old) used.old)) copier.new (store_of D.size volume.new) used.new result }
-    ensures ran { D.Told → Ran (seat_of D.size D.fuse D.timeline D.faults volume.old) (seat_of D.size D.fuse D.timeline D.faults volume.new) used.old used.new }
+    ensures ran { Counted D.Told (seat_of D.size D.fuse D.timeline D.faults volume.old) (seat_of D.size D.fuse D.timeline D.faults volume.new) used.old used.new }
     ensures grows { Grows used.old used.new }
     ensures short { AreShort result }
     ensures once { length used.new ≤ length used.old + 1 }

@@ -12,8 +12,8 @@ use Rattle.file_ops.specs.declared.results.FileRes.{FileRes}
 use Rattle.file_ops.specs.Results.{file_res, file_res_status}
 use Rattle.server_volume.specs.declared.used.Used.{Used}
 use Rattle.server_volume.specs.Choices.{Choice, Agrees, Grows}
-use Rattle.server_volume.specs.MomentLaws.{ran_none}
-use Rattle.server_volume.specs.Moments.{Ran}
+use Rattle.server_volume.specs.MomentLaws.{counted_none}
+use Rattle.server_volume.specs.Moments.{Counted}
 use Rattle.server_volume.specs.Store.{Seat}
 use Rattle.file_server.specs.declared.held.Held.{Held}
 use Rattle.file_server.specs.declared.progress.TheConstants.{MOST_RESULT}
@@ -22,12 +22,12 @@ use Rattle.file_server.specs.Machine.{Machine, Going, Shown, shown, res_bytes}
 use Rattle.file_server.specs.Answering.{answered, Says, Keeps, CommitKeeps, set_aside}
 
 -- no call was made
-pub ran_still : (seat : Seat) (used more : List Used) → more ≡ used → Ran seat seat used more
-ran_still seat used more same = subst (λ (us : List Used). Ran seat seat used us) (sym same) (ran_none seat used)
+pub ran_still : {told : Type 0} (seat : Seat) (used more : List Used) → more ≡ used → Counted told seat seat used more
+ran_still {told} seat used more same = subst (λ (us : List Used). Counted told seat seat used us) (sym same) (counted_none told seat used)
 
 -- calls were made, and then none
-pub ran_more : (old new : Seat) (used some more : List Used) → more ≡ some → Ran old new used some → Ran old new used more
-ran_more old new used some more same ran = subst (λ (us : List Used). Ran old new used us) (sym same) ran
+pub ran_more : {told : Type 0} (old new : Seat) (used some more : List Used) → more ≡ some → Counted told old new used some → Counted told old new used more
+ran_more {told} old new used some more same ran = subst (λ (us : List Used). Counted told old new used us) (sym same) ran
 
 -- what agrees with the calls of one progress agrees with the same of another
 pub agrees_as : (choice : Choice) (used more : List Used) → more ≡ used → Agrees choice more → Agrees choice used

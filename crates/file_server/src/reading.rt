@@ -3,7 +3,7 @@
 ghost use Rattle.std.specs.Prelude.{◌≡◌, ◌≤◌, ◌<◌, length, Ok, Option, false};
 ghost use Rattle.nfs_base.specs.declared.limits.TheConstants.{DATA_LIMIT};
 ghost use Rattle.server_volume.specs.Store.{seat_of};
-ghost use Rattle.server_volume.specs.Moments.{Ran};
+ghost use Rattle.server_volume.specs.Moments.{Counted};
 ghost use Rattle.file_server.specs.Machine.{Does};
 ghost use Rattle.file_server.specs.Answering.{Ready, Keeps, AsksOnce, going_of};
 ghost use Rattle.file_server.specs.Reading.{read, read_file, read_from, read_bytes, read_refusal, read_length, read_eof};
@@ -32,7 +32,7 @@ impl<D: Disk, X> Files<D, X> {
         requires { Ready p.old 1 }
         ensures does { D.Told → Does (λ choice. read (record { gate = X.gated }) choice caller.now carry.now args.now (going_of D.size self.old p.old)) p.old.page.bytes (going_of D.size self.new p.new) p.new.page.bytes result.number }
         ensures keeps { Keeps p.old p.new }
-        ensures ran { D.Told → Ran (seat_of D.size D.fuse D.timeline D.faults self.old.volume) (seat_of D.size D.fuse D.timeline D.faults self.new.volume) p.old.used p.new.used }
+        ensures ran { Counted D.Told (seat_of D.size D.fuse D.timeline D.faults self.old.volume) (seat_of D.size D.fuse D.timeline D.faults self.new.volume) p.old.used p.new.used }
         ensures opens { self.new.opens ≡ self.old.opens }
         ensures asked { AsksOnce X.gated self.old.extra caller.now carry.now self.new.extra }
     {
@@ -62,7 +62,7 @@ impl<D: Disk, X> Files<D, X> {
         requires there { file < length self.old.volume.volume.files }
         ensures does { D.Told → Does (λ choice. read_file (record { gate = X.gated }) choice caller.now carry.now args.now (Ok file) (going_of D.size self.old p.old)) p.old.page.bytes (going_of D.size self.new p.new) p.new.page.bytes result.number }
         ensures keeps { Keeps p.old p.new }
-        ensures ran { D.Told → Ran (seat_of D.size D.fuse D.timeline D.faults self.old.volume) (seat_of D.size D.fuse D.timeline D.faults self.new.volume) p.old.used p.new.used }
+        ensures ran { Counted D.Told (seat_of D.size D.fuse D.timeline D.faults self.old.volume) (seat_of D.size D.fuse D.timeline D.faults self.new.volume) p.old.used p.new.used }
         ensures opens { self.new.opens ≡ self.old.opens }
         ensures asked { AsksOnce X.gated self.old.extra caller.now carry.now self.new.extra }
     {
@@ -101,7 +101,7 @@ impl<D: Disk, X> Files<D, X> {
         requires there { file < length self.old.volume.volume.files }
         ensures does { D.Told → Does (λ choice. read_from choice off count file (going_of D.size self.old p.old)) p.old.page.bytes (going_of D.size self.new p.new) p.new.page.bytes result.number }
         ensures keeps { Keeps p.old p.new }
-        ensures ran { D.Told → Ran (seat_of D.size D.fuse D.timeline D.faults self.old.volume) (seat_of D.size D.fuse D.timeline D.faults self.new.volume) p.old.used p.new.used }
+        ensures ran { Counted D.Told (seat_of D.size D.fuse D.timeline D.faults self.old.volume) (seat_of D.size D.fuse D.timeline D.faults self.new.volume) p.old.used p.new.used }
         ensures opens { self.new.opens ≡ self.old.opens }
         ensures extra { self.new.extra ≡ self.old.extra }
     {
@@ -129,7 +129,7 @@ impl<D: Disk, X> Files<D, X> {
         requires out { length out.old ≡ len }
         ensures does { D.Told → Does (λ choice. read_bytes choice off len eof file (going_of D.size self.old p.old)) p.old.page.bytes (going_of D.size self.new p.new) p.new.page.bytes result.number }
         ensures keeps { Keeps p.old p.new }
-        ensures ran { D.Told → Ran (seat_of D.size D.fuse D.timeline D.faults self.old.volume) (seat_of D.size D.fuse D.timeline D.faults self.new.volume) p.old.used p.new.used }
+        ensures ran { Counted D.Told (seat_of D.size D.fuse D.timeline D.faults self.old.volume) (seat_of D.size D.fuse D.timeline D.faults self.new.volume) p.old.used p.new.used }
         ensures opens { self.new.opens ≡ self.old.opens }
         ensures extra { self.new.extra ≡ self.old.extra }
     {

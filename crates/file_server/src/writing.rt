@@ -3,7 +3,7 @@
 ghost use Rattle.std.specs.Prelude.{◌≡◌, ◌+◌, ◌≤◌, ◌<◌, take, length, Ok};
 ghost use Rattle.nfs_base.specs.declared.limits.TheConstants.{DATA_LIMIT};
 ghost use Rattle.server_volume.specs.Store.{seat_of};
-ghost use Rattle.server_volume.specs.Moments.{Ran};
+ghost use Rattle.server_volume.specs.Moments.{Counted};
 ghost use Rattle.file_server.specs.Machine.{Does};
 ghost use Rattle.file_server.specs.Answering.{Ready, Keeps, CanCommit, CommitKeeps, going_of};
 ghost use Rattle.file_server.specs.Writing.{commit, commit_file, write, write_file, write_at, write_settled, sync_written, taken_bytes, write_status};
@@ -24,7 +24,7 @@ impl<D: Disk, X> Files<D, X> {
         requires { Ready p.old 1 }
         ensures does { D.Told → Does (λ choice. commit choice (going_of D.size self.old p.old)) p.old.page.bytes (going_of D.size self.new p.new) p.new.page.bytes result.number }
         ensures keeps { Keeps p.old p.new }
-        ensures ran { D.Told → Ran (seat_of D.size D.fuse D.timeline D.faults self.old.volume) (seat_of D.size D.fuse D.timeline D.faults self.new.volume) p.old.used p.new.used }
+        ensures ran { Counted D.Told (seat_of D.size D.fuse D.timeline D.faults self.old.volume) (seat_of D.size D.fuse D.timeline D.faults self.new.volume) p.old.used p.new.used }
         ensures opens { self.new.opens ≡ self.old.opens }
         ensures extra { self.new.extra ≡ self.old.extra }
     {
@@ -41,7 +41,7 @@ impl<D: Disk, X> Files<D, X> {
         requires there { file < length self.old.volume.volume.files }
         ensures does { D.Told → Does (λ choice. commit_file choice (Ok file) (going_of D.size self.old p.old)) p.old.page.bytes (going_of D.size self.new p.new) p.new.page.bytes result.number }
         ensures keeps { Keeps p.old p.new }
-        ensures ran { D.Told → Ran (seat_of D.size D.fuse D.timeline D.faults self.old.volume) (seat_of D.size D.fuse D.timeline D.faults self.new.volume) p.old.used p.new.used }
+        ensures ran { Counted D.Told (seat_of D.size D.fuse D.timeline D.faults self.old.volume) (seat_of D.size D.fuse D.timeline D.faults self.new.volume) p.old.used p.new.used }
         ensures opens { self.new.opens ≡ self.old.opens }
         ensures extra { self.new.extra ≡ self.old.extra }
     {
@@ -59,7 +59,7 @@ impl<D: Disk, X> Files<D, X> {
         requires { Ready p.old 1 }
         ensures does { D.Told → Does (λ choice. write choice args.now (going_of D.size self.old p.old)) p.old.page.bytes (going_of D.size self.new p.new) p.new.page.bytes result.number }
         ensures keeps { Keeps p.old p.new }
-        ensures ran { D.Told → Ran (seat_of D.size D.fuse D.timeline D.faults self.old.volume) (seat_of D.size D.fuse D.timeline D.faults self.new.volume) p.old.used p.new.used }
+        ensures ran { Counted D.Told (seat_of D.size D.fuse D.timeline D.faults self.old.volume) (seat_of D.size D.fuse D.timeline D.faults self.new.volume) p.old.used p.new.used }
         ensures opens { self.new.opens ≡ self.old.opens }
         ensures extra { self.new.extra ≡ self.old.extra }
     {
@@ -76,7 +76,7 @@ impl<D: Disk, X> Files<D, X> {
         requires there { file < length self.old.volume.volume.files }
         ensures does { D.Told → Does (λ choice. write_file choice args.now (Ok file) (going_of D.size self.old p.old)) p.old.page.bytes (going_of D.size self.new p.new) p.new.page.bytes result.number }
         ensures keeps { Keeps p.old p.new }
-        ensures ran { D.Told → Ran (seat_of D.size D.fuse D.timeline D.faults self.old.volume) (seat_of D.size D.fuse D.timeline D.faults self.new.volume) p.old.used p.new.used }
+        ensures ran { Counted D.Told (seat_of D.size D.fuse D.timeline D.faults self.old.volume) (seat_of D.size D.fuse D.timeline D.faults self.new.volume) p.old.used p.new.used }
         ensures opens { self.new.opens ≡ self.old.opens }
         ensures extra { self.new.extra ≡ self.old.extra }
     {
@@ -106,7 +106,7 @@ impl<D: Disk, X> Files<D, X> {
         requires short { length bytes.now ≤ DATA_LIMIT }
         ensures does { D.Told → Does (λ choice. write_at choice off bytes.now how file (going_of D.size self.old p.old)) p.old.page.bytes (going_of D.size self.new p.new) p.new.page.bytes result.number }
         ensures keeps { Keeps p.old p.new }
-        ensures ran { D.Told → Ran (seat_of D.size D.fuse D.timeline D.faults self.old.volume) (seat_of D.size D.fuse D.timeline D.faults self.new.volume) p.old.used p.new.used }
+        ensures ran { Counted D.Told (seat_of D.size D.fuse D.timeline D.faults self.old.volume) (seat_of D.size D.fuse D.timeline D.faults self.new.volume) p.old.used p.new.used }
         ensures opens { self.new.opens ≡ self.old.opens }
         ensures extra { self.new.extra ≡ self.old.extra }
     {
@@ -123,7 +123,7 @@ impl<D: Disk, X> Files<D, X> {
         requires there { file < length self.old.volume.volume.files }
         ensures does { D.Told → Does (λ choice. write_settled choice file count how (going_of D.size self.old p.old)) p.old.page.bytes (going_of D.size self.new p.new) p.new.page.bytes result.number }
         ensures keeps { CommitKeeps p.old p.new }
-        ensures ran { D.Told → Ran (seat_of D.size D.fuse D.timeline D.faults self.old.volume) (seat_of D.size D.fuse D.timeline D.faults self.new.volume) p.old.used p.new.used }
+        ensures ran { Counted D.Told (seat_of D.size D.fuse D.timeline D.faults self.old.volume) (seat_of D.size D.fuse D.timeline D.faults self.new.volume) p.old.used p.new.used }
         ensures opens { self.new.opens ≡ self.old.opens }
         ensures extra { self.new.extra ≡ self.old.extra }
     {
@@ -140,7 +140,7 @@ impl<D: Disk, X> Files<D, X> {
         requires there { file < length self.old.volume.volume.files }
         ensures does { D.Told → Does (λ choice. sync_written choice file count (going_of D.size self.old p.old)) p.old.page.bytes (going_of D.size self.new p.new) p.new.page.bytes result.number }
         ensures keeps { CommitKeeps p.old p.new }
-        ensures ran { D.Told → Ran (seat_of D.size D.fuse D.timeline D.faults self.old.volume) (seat_of D.size D.fuse D.timeline D.faults self.new.volume) p.old.used p.new.used }
+        ensures ran { Counted D.Told (seat_of D.size D.fuse D.timeline D.faults self.old.volume) (seat_of D.size D.fuse D.timeline D.faults self.new.volume) p.old.used p.new.used }
         ensures opens { self.new.opens ≡ self.old.opens }
         ensures extra { self.new.extra ≡ self.old.extra }
     {

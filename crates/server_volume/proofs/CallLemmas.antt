@@ -19,7 +19,7 @@ use Rattle.server_volume.specs.declared.used.VolumeCall.{VolumeCall}
 use Rattle.server_volume.specs.Choices.{Choice, Agrees, Grows, noted, no_call, fate_of}
 use Rattle.server_volume.specs.Store.{Store, Seat}
 use Rattle.server_volume.specs.Calls.{Asked, Reads, Writes, Commits, Called, called, call_of, done_by, failed_by, left_by, broken_fault, fault_in, read_answer, write_answer, write_fault}
-use Rattle.server_volume.specs.Moments.{Ran, failed_in, Serves, IsTaken, within, NowLeft, LeftBy, IsCovered}
+use Rattle.server_volume.specs.Moments.{Counted, Ran, failed_in, Serves, IsTaken, within, NowLeft, LeftBy, IsCovered}
 
 -- ---- what is noted
 
@@ -60,8 +60,6 @@ pub record Stays (old new : Seat) : Type 0 where
 pub record ReadFacts {A : Type 0} (result : Result A ReadFault) (asked : Asked) (old new : Seat) : Type 0 where
   pub broken : (result ≡ Err reading.Broken) ↔ (old.store.volume.broken ≡ true)
   pub kept : result ≡ Err reading.Broken → Stays old new
-  pub later : old.faults ≤ new.faults
-  pub cause : result ≡ Err reading.DiskFailed → Rose old.faults new.faults
   pub done : IsOk result → new.store ≡ done_by asked old.store
   pub failed : result ≡ Err reading.DiskFailed → new.store ≡ failed_by asked old.store
   pub serves : old.store.volume.broken ≡ false → Serves old.store asked
@@ -102,8 +100,6 @@ pub record WriteFacts {A : Type 0} (result : Result A WriteFault) (file off : �
   pub tested : (fault : WriteFault) → write_fault old.store.volume off bytes ≡ Some fault → result ≡ Err fault
   pub passed : write_fault old.store.volume off bytes ≡ None → IsErr result → result ≡ Err writing.DiskFailed
   pub kept : IsErr result → (result ≡ Err writing.DiskFailed → ⊥) → Stays old new
-  pub later : old.faults ≤ new.faults
-  pub cause : result ≡ Err writing.DiskFailed → Rose old.faults new.faults
   pub done : IsOk result → new.store ≡ done_by (Writes file off bytes) old.store
   pub failed : result ≡ Err writing.DiskFailed → new.store ≡ failed_by (Writes file off bytes) old.store
   pub there : file < length old.store.volume.files
@@ -180,23 +176,14 @@ ran_one : (asked : Asked) (answer : CallAnswer) (old new : Seat) (used more : Li
     → more ≡ noted used (call_of asked old.store) answer → IsTaken answer old.store asked → new.store ≡ left_by asked answer old.store
     → ((stores : List Store) → NowLeft old.timeline stores → IsCovered (within asked answer old.store ∷ []) stores
     → Passes old.fuse new.fuse old.timeline new.timeline (LeftBy stores))
-    → RoseBy (failed_in answer + 0) old.faults new.faults
     → Ran old new used more
-ran_one asked answer old new used more is taken store moments rose = record {
+ran_one asked answer old new used more is taken store moments = record {
   calls = record { asked = asked; answer = answer } ∷ [];
   noted = is;
   taken = (taken, tt);
   store = store;
   moments = moments;
-  rose = rose;
 }
-
--- a count that didn't fall, and one that rose
-not_fell : (before now : ℕ) → before ≤ now → RoseBy (0 + 0) before now
-not_fell before now later = omega (arith, later)
-
-rose_once : (before now : ℕ) → Rose before now → RoseBy (1 + 0) before now
-rose_once before now rose = omega (arith, rose)
 
 within_same : (asked : Asked) (s : Store) → within asked DiskFailed s ≡ within asked Done s
 within_same (Reads file off len) s = refl
@@ -211,15 +198,14 @@ pub reads_ran : {A : Type 0} (result : Result A ReadFault) (asked : Asked) (old 
     → ReadFacts result asked old new → more ≡ noted used (call_of asked old.store) (read_answer result) → Ran old new used more
 reads_ran (Ok a) asked old new used more facts is =
     let whole = whole_unless old.store.volume.broken facts.broken (λ e. cc) in
-    ran_one asked Done old new used more is (facts.serves whole) (facts.done refl) (facts.moments whole) (not_fell old.faults new.faults facts.later)
+    ran_one asked Done old new used more is (facts.serves whole) (facts.done refl) (facts.moments whole)
 reads_ran (Err reading.DiskFailed) asked old new used more facts is =
     let whole = whole_unless old.store.volume.broken facts.broken (λ e. cc) in
     ran_one asked DiskFailed old new used more is (facts.serves whole) (facts.failed refl)
     (λ stores now covered. facts.moments whole stores now (subst (λ (s : Store). IsCovered (s ∷ []) stores) (within_same asked old.store) covered))
-    (rose_once old.faults new.faults (facts.cause refl))
 reads_ran (Err reading.Broken) asked old new used more facts is =
     ran_one asked Refused old new used more is tt (facts.kept refl).store
-    (λ stores now covered. still_passes old new stores (facts.kept refl) now) (not_fell old.faults new.faults facts.later)
+    (λ stores now covered. still_passes old new stores (facts.kept refl) now)
 
 passed_by : {A : Type 0} (refusal : Option WriteFault) (result : Result A WriteFault)
     → ((fault : WriteFault) → refusal ≡ Some fault → (result ≡ Err fault → ⊥)) → ((fault : WriteFault) → refusal ≡ Some fault → result ≡ Err fault)
@@ -235,23 +221,45 @@ writes_ran (Ok a) file off bytes old new used more facts is =
     let passed = passed_by (write_fault v off bytes) (Ok a) (λ fault e h. cc) facts.tested in
     let whole = whole_by v.broken v.writes v.capacity off (length bytes) passed in
     ran_one (Writes file off bytes) Done old new used more is (record { there = facts.there; whole = whole }, passed) (facts.done refl) (facts.moments whole)
-    (not_fell old.faults new.faults facts.later)
 writes_ran (Err writing.DiskFailed) file off bytes old new used more facts is =
     let v = old.store.volume in
     let passed = passed_by (write_fault v off bytes) (Err writing.DiskFailed)
     (λ fault e h. refusal_tests v.broken v.writes v.capacity off (length bytes) (e ∙ sym (ap fault_in h))) facts.tested in
     let whole = whole_by v.broken v.writes v.capacity off (length bytes) passed in
     ran_one (Writes file off bytes) DiskFailed old new used more is (record { there = facts.there; whole = whole }, passed) (facts.failed refl) (facts.moments whole)
-    (rose_once old.faults new.faults (facts.cause refl))
 writes_ran (Err writing.TooFar) file off bytes old new used more facts is =
     let same = facts.kept refl (λ e. cc) in
     ran_one (Writes file off bytes) Refused old new used more is tt same.store (λ stores now covered. still_passes old new stores same now)
-    (not_fell old.faults new.faults facts.later)
 writes_ran (Err writing.Worn) file off bytes old new used more facts is =
     let same = facts.kept refl (λ e. cc) in
     ran_one (Writes file off bytes) Refused old new used more is tt same.store (λ stores now covered. still_passes old new stores same now)
-    (not_fell old.faults new.faults facts.later)
 writes_ran (Err writing.Broken) file off bytes old new used more facts is =
     let same = facts.kept refl (λ e. cc) in
     ran_one (Writes file off bytes) Refused old new used more is tt same.store (λ stores now covered. still_passes old new stores same now)
-    (not_fell old.faults new.faults facts.later)
+
+-- ---- the disk's count of faults
+
+pub reads_rise : {A : Type 0} (result : Result A ReadFault) (before now : ℕ) → before ≤ now → (result ≡ Err reading.DiskFailed → Rose before now)
+    → RoseBy (failed_in (read_answer result) + 0) before now
+reads_rise (Ok a) before now later cause = omega (arith, later)
+reads_rise (Err reading.DiskFailed) before now later cause = omega (arith, cause refl)
+reads_rise (Err reading.Broken) before now later cause = omega (arith, later)
+
+pub writes_rise : {A : Type 0} (result : Result A WriteFault) (before now : ℕ) → before ≤ now → (result ≡ Err writing.DiskFailed → Rose before now)
+    → RoseBy (failed_in (write_answer result) + 0) before now
+writes_rise (Ok a) before now later cause = omega (arith, later)
+writes_rise (Err writing.DiskFailed) before now later cause = omega (arith, cause refl)
+writes_rise (Err writing.TooFar) before now later cause = omega (arith, later)
+writes_rise (Err writing.Worn) before now later cause = omega (arith, later)
+writes_rise (Err writing.Broken) before now later cause = omega (arith, later)
+
+-- one call
+pub counted_one : (told : Type 0) (call : VolumeCall) (answer : CallAnswer) (old new : Seat) (used more : List Used) → more ≡ noted used call answer
+    → new.store.size ≡ old.store.size → RoseBy (failed_in answer + 0) old.faults new.faults → (told → Ran old new used more) → Counted told old new used more
+counted_one told call answer old new used more is as_large rose ran = record {
+  added = record { call = call; answer = answer } ∷ [];
+  noted = is;
+  as_large = as_large;
+  rose = rose;
+  ran = ran;
+}

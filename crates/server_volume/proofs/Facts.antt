@@ -1,7 +1,6 @@
 -- The clauses of a volume's calls, as facts on the store and its moments.
 use Rattle.std.proofs.Common.{◌≡◌, ℕ, ◌<◌, ◌≤◌, true, false, Some, None, Result, Err, List, length, refl, sym, ap, subst, ◌∙◌, inl}
 use Rattle.std.specs.Prelude.{◌↔◌, IsOk, IsErr}
-use Rattle.outcome.specs.Causes.{Rose}
 use Rattle.copy_model.specs.Volume.{Volume, write, commit, fail_write, fail_commit}
 use Rattle.disk_model.specs.declared.fuse.Fuse.{Fuse}
 use Rattle.disk_model.specs.Elapsed.{Timeline}
@@ -43,15 +42,12 @@ pub read_facts : {D A : Type 0} (size : D → ℕ) (fuse : D → Fuse) (timeline
     → ((result ≡ Err reading.Broken) ↔ (old.volume.broken ≡ true))
     → new.volume ≡ old.volume → new.tag ≡ old.tag → new.homes ≡ old.homes → size new.disk ≡ size old.disk
     → fuse new.disk ≡ fuse old.disk → timeline new.disk ≡ timeline old.disk
-    → faults old.disk ≤ faults new.disk → (result ≡ Err reading.DiskFailed → Rose (faults old.disk) (faults new.disk))
     → ReadFacts result (Reads file off len) (seat_of size fuse timeline faults old) (seat_of size fuse timeline faults new)
-read_facts size fuse timeline faults file off len result old new there broken volume tag homes blocks lit time later cause =
+read_facts size fuse timeline faults file off len result old new there broken volume tag homes blocks lit time =
     let same : store_of size new ≡ store_of size old = store_is volume tag homes blocks in
     record {
       broken = broken;
       kept = λ e. record { store = same; fuse = lit; timeline = time };
-      later = later;
-      cause = cause;
       done = λ ok. same;
       failed = λ e. same;
       serves = λ whole. record { there = there; whole = whole };
@@ -71,13 +67,10 @@ pub commit_facts : {D A : Type 0} (size : D → ℕ) (fuse : D → Fuse) (timeli
     → (old.volume.broken ≡ false → Passes (fuse old.disk) (fuse new.disk) (timeline old.disk) (timeline new.disk)
     (MayBeLeft (size old.disk) old.tag (homes_by old.homes) (fail_commit old.volume file)))
     → new.tag ≡ old.tag → size new.disk ≡ size old.disk
-    → faults old.disk ≤ faults new.disk → (result ≡ Err reading.DiskFailed → Rose (faults old.disk) (faults new.disk))
     → ReadFacts result (Commits file) (seat_of size fuse timeline faults old) (seat_of size fuse timeline faults new)
-commit_facts size fuse timeline faults file result old new there broken kept done failed homes homes_kept moments tag blocks later cause = record {
+commit_facts size fuse timeline faults file result old new there broken kept done failed homes homes_kept moments tag blocks = record {
   broken = broken;
   kept = λ e. stays_as size fuse timeline faults old new (kept e);
-  later = later;
-  cause = cause;
   done = λ ok. store_is (done ok) tag (homes ok) blocks;
   failed = λ e. store_is (failed e) tag (homes_kept (is_err result reading.DiskFailed e)) blocks;
   serves = λ whole. record { there = there; whole = whole };
@@ -97,14 +90,11 @@ pub write_facts : {D A : Type 0} (size : D → ℕ) (fuse : D → Fuse) (timelin
     → (old.volume.broken ≡ false → Passes (fuse old.disk) (fuse new.disk) (timeline old.disk) (timeline new.disk)
     (MayBeLeft (size old.disk) old.tag (homes_by old.homes) old.volume))
     → new.tag ≡ old.tag → new.homes ≡ old.homes → size new.disk ≡ size old.disk
-    → faults old.disk ≤ faults new.disk → (result ≡ Err writing.DiskFailed → Rose (faults old.disk) (faults new.disk))
     → WriteFacts result file off bytes (seat_of size fuse timeline faults old) (seat_of size fuse timeline faults new)
-write_facts size fuse timeline faults file off bytes result old new there tested passed kept done failed moments tag homes blocks later cause = record {
+write_facts size fuse timeline faults file off bytes result old new there tested passed kept done failed moments tag homes blocks = record {
   tested = tested;
   passed = passed;
   kept = λ err other. stays_as size fuse timeline faults old new (kept err other);
-  later = later;
-  cause = cause;
   done = λ ok. store_is (done ok) tag homes blocks;
   failed = λ e. store_is (failed e) tag homes blocks;
   there = there;

@@ -5,7 +5,7 @@ use Rattle.disk_model.specs.Passes.{passes_none, passes_on}
 use Rattle.server_volume.specs.declared.used.Used.{Used}
 use Rattle.server_volume.specs.Calls.{left_by, call_of}
 use Rattle.server_volume.specs.Store.{Store, Seat}
-use Rattle.server_volume.specs.Moments.{Made, Ran, after_calls, failed_in, failures, stores_within, uses_of, AreTaken, NowLeft, LeftBy}
+use Rattle.server_volume.specs.Moments.{Counted, Made, Ran, after_calls, failed_in, failures_in, stores_within, uses_of, AreTaken, NowLeft, LeftBy}
 
 -- no call
 pub ran_none : (seat : Seat) (used : List Used) → Ran seat seat used used
@@ -15,7 +15,6 @@ ran_none seat used = record {
   taken = tt;
   store = refl;
   moments = λ stores now covered. passes_none (LeftBy stores) seat.fuse seat.timeline now;
-  rose = omega arith;
 }
 
 after_both : (s : Store) (first second : List Made) → after_calls s (first ++ second) ≡ after_calls (after_calls s first) second
@@ -30,10 +29,6 @@ uses_both s (m ∷ ms) second =
 taken_both : (s : Store) (first second : List Made) → AreTaken s first → AreTaken (after_calls s first) second → AreTaken s (first ++ second)
 taken_both s [] second before after = after
 taken_both s (m ∷ ms) second before after = (before.0, taken_both (left_by m.asked m.answer s) ms second before.1 after)
-
-failures_both : (first second : List Made) → failures (first ++ second) ≡ failures first + failures second
-failures_both [] second = omega arith
-failures_both (m ∷ ms) second = omega (arith, failures_both ms second)
 
 -- what a crash inside the calls of one part may leave, one inside all of them may
 covered_first : (s : Store) (first second : List Made) (image : Image) → LeftBy (stores_within s first) image → LeftBy (stores_within s (first ++ second)) image
@@ -68,5 +63,31 @@ ran_on old middle new used some more before after =
           (λ image left. covered image (covered_second old.store before.calls after.calls image
           (subst (λ (s : Store). LeftBy (stores_within s after.calls) image) stores_are left))) in
           passes_on (LeftBy stores) old.fuse middle.fuse new.fuse old.timeline middle.timeline new.timeline first second;
-      rose = omega (arith, before.rose, after.rose, failures_both before.calls after.calls);
     }
+
+-- ---- of any disk
+
+failures_both : (first second : List Used) → failures_in (first ++ second) ≡ failures_in first + failures_in second
+failures_both [] second = omega arith
+failures_both (u ∷ us) second = omega (arith, failures_both us second)
+
+pub counted_none : (told : Type 0) (seat : Seat) (used : List Used) → Counted told seat seat used used
+counted_none told seat used = record {
+  added = [];
+  noted = sym (append-nil used);
+  as_large = refl;
+  rose = omega arith;
+  ran = λ t. ran_none seat used;
+}
+
+pub counted_on : (told : Type 0) (old middle new : Seat) (used some more : List Used) → Counted told old middle used some → Counted told middle new some more
+    → Counted told old new used more
+counted_on told old middle new used some more before after = record {
+  added = before.added ++ after.added;
+  noted =
+      after.noted ∙ ap (λ (us : List Used). us ++ after.added) before.noted
+      ∙ append_assoc used before.added after.added;
+  as_large = after.as_large ∙ before.as_large;
+  rose = omega (arith, before.rose, after.rose, failures_both before.added after.added);
+  ran = λ t. ran_on old middle new used some more (before.ran t) (after.ran t);
+}

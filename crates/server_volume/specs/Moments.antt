@@ -65,15 +65,15 @@ abbrev pub AreTaken : Store → List Made → Type 0
 AreTaken s [] = Unit {0}
 AreTaken s (m ∷ ms) = IsTaken m.answer s m.asked × AreTaken (left_by m.asked m.answer s) ms
 
--- how many of them failed on the disk
+-- how many of the calls that are noted failed on the disk
 abbrev pub failed_in : CallAnswer → ℕ
 failed_in Done = 0
 failed_in DiskFailed = 1
 failed_in Refused = 0
 
-abbrev pub failures : List Made → ℕ
-failures [] = 0
-failures (m ∷ ms) = failed_in m.answer + failures ms
+abbrev pub failures_in : List Used → ℕ
+failures_in [] = 0
+failures_in (u ∷ us) = failed_in u.answer + failures_in us
 
 -- ---- what a crash may leave
 
@@ -96,7 +96,7 @@ IsCovered those these = (image : Image) → LeftBy those image → LeftBy these 
 
 -- What was done to a volume in some calls, which are noted behind those before. Whatever a crash at any moment of
 -- them may leave is left by one of these stores, where they have what a crash before the calls may leave and what one
--- inside a call may. The disk's count of faults rose by one at least for each call that failed on it.
+-- inside a call may.
 pub record Ran (old new : Seat) (used more : List Used) : Type 0 where
   pub calls : List Made
   pub noted : more ≡ used ++ uses_of old.store calls
@@ -104,4 +104,12 @@ pub record Ran (old new : Seat) (used more : List Used) : Type 0 where
   pub store : new.store ≡ after_calls old.store calls
   pub moments : (stores : List Store) → NowLeft old.timeline stores → IsCovered (stores_within old.store calls) stores
       → Passes old.fuse new.fuse old.timeline new.timeline (LeftBy stores)
-  pub rose : RoseBy (failures calls) old.faults new.faults
+
+-- The same of any disk: those calls are noted behind those before, the disk is as large as it was, and its count of faults rose by
+-- one at least for each call that failed on it. Of a disk that tells what it holds, the calls ran.
+pub record Counted (told : Type 0) (old new : Seat) (used more : List Used) : Type 0 where
+  pub added : List Used
+  pub noted : more ≡ used ++ added
+  pub as_large : new.store.size ≡ old.store.size
+  pub rose : RoseBy (failures_in added) old.faults new.faults
+  pub ran : told → Ran old new used more

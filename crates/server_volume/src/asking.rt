@@ -8,7 +8,7 @@ ghost use Rattle.server_volume.specs.declared.used.TheConstants.{MOST_CALLS};
 ghost use Rattle.server_volume.specs.Choices.{Grows};
 ghost use Rattle.server_volume.specs.Store.{store_of, seat_of};
 ghost use Rattle.server_volume.specs.Calls.{read_call, write_call, commit_call, read_answer, write_answer, Makes};
-ghost use Rattle.server_volume.specs.Moments.{Ran};
+ghost use Rattle.server_volume.specs.Moments.{Counted};
 
 use crate::used::{CallAnswer, CallList, VolumeCall};
 use block_file::{ReadFault, Volume, WriteFault};
@@ -28,7 +28,7 @@ pub fn call_read<D: Disk>(
     requires room { length used.old < MOST_CALLS }
     ensures makes { D.Told → Makes (λ choice. read_call choice used.old (store_of D.size volume.old) file off (length out.old)) (store_of D.size volume.new) used.new result }
     ensures bytes { D.Told → IsOk result → out.new ≡ bytes_at (file_at volume.old.volume file).now off (length out.old) }
-    ensures ran { D.Told → Ran (seat_of D.size D.fuse D.timeline D.faults volume.old) (seat_of D.size D.fuse D.timeline D.faults volume.new) used.old used.new }
+    ensures ran { Counted D.Told (seat_of D.size D.fuse D.timeline D.faults volume.old) (seat_of D.size D.fuse D.timeline D.faults volume.new) used.old used.new }
     ensures grows { Grows used.old used.new }
     ensures counted { length used.new ≡ length used.old + 1 }
     ensures opening { SameOpening volume.old.volume volume.new.volume }
@@ -54,7 +54,7 @@ pub fn call_write<D: Disk>(
     requires short { length bytes.now ≤ DATA_LIMIT }
     requires room { length used.old < MOST_CALLS }
     ensures makes { D.Told → Makes (λ choice. write_call choice used.old (store_of D.size volume.old) file off bytes.now) (store_of D.size volume.new) used.new result }
-    ensures ran { D.Told → Ran (seat_of D.size D.fuse D.timeline D.faults volume.old) (seat_of D.size D.fuse D.timeline D.faults volume.new) used.old used.new }
+    ensures ran { Counted D.Told (seat_of D.size D.fuse D.timeline D.faults volume.old) (seat_of D.size D.fuse D.timeline D.faults volume.new) used.old used.new }
     ensures grows { Grows used.old used.new }
     ensures counted { length used.new ≡ length used.old + 1 }
     ensures opening { SameOpening volume.old.volume volume.new.volume }
@@ -76,7 +76,7 @@ pub fn call_commit<D: Disk>(
     requires there { file < length volume.old.volume.files }
     requires room { length used.old < MOST_CALLS }
     ensures makes { D.Told → Makes (λ choice. commit_call choice used.old (store_of D.size volume.old) file) (store_of D.size volume.new) used.new result }
-    ensures ran { D.Told → Ran (seat_of D.size D.fuse D.timeline D.faults volume.old) (seat_of D.size D.fuse D.timeline D.faults volume.new) used.old used.new }
+    ensures ran { Counted D.Told (seat_of D.size D.fuse D.timeline D.faults volume.old) (seat_of D.size D.fuse D.timeline D.faults volume.new) used.old used.new }
     ensures grows { Grows used.old used.new }
     ensures counted { length used.new ≡ length used.old + 1 }
     ensures opening { SameOpening volume.old.volume volume.new.volume }

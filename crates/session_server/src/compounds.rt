@@ -4,7 +4,7 @@ ghost use Rattle.std.specs.Prelude.{◌≡◌, ◌+◌, ◌<◌, ◌≤◌, fals
 ghost use Rattle.nfs_base.specs.declared.limits.TheConstants.{TEXT_LIMIT};
 ghost use Rattle.nfs_compound.specs.Compounds.{compound_of};
 ghost use Rattle.rpc_calls.specs.Judging.{HasSpelling, IsAdmitted, IsThere};
-ghost use Rattle.server_volume.specs.Moments.{Ran};
+ghost use Rattle.server_volume.specs.Moments.{Counted};
 ghost use Rattle.server_volume.specs.Store.{seat_of};
 ghost use Rattle.session_server.specs.declared.host.TheConstants.{MOST_STEPS};
 ghost use Rattle.session_server.specs.Host.{host_of, rules_of, stepped_of, IsCounted};
@@ -46,7 +46,7 @@ impl<D: Disk, X, C: Drop> Host<D, X, C> {
         requires there { IsThere self.old.contexts call.now }
         requires admitted { IsAdmitted call.now }
         ensures is { D.Told → IfOk result (λ out. IsCompoundTurn (rules_of X.gated X.serves X.leaves X.lapses X.judges X.tells X.silent) (record { mic = X.Mech.mic_of; derived = X.Mech.derived }) second conn call.now (compound_of args.now) (host_of D.size self.old) (stepped_of D.size self.new out)) }
-        ensures ran { D.Told → IfOk result (λ out. Ran (seat_of D.size D.fuse D.timeline D.faults self.old.server.files.volume) (seat_of D.size D.fuse D.timeline D.faults self.new.server.files.volume) [] out.used) }
+        ensures ran { IfOk result (λ out. Counted D.Told (seat_of D.size D.fuse D.timeline D.faults self.old.server.files.volume) (seat_of D.size D.fuse D.timeline D.faults self.new.server.files.volume) [] out.used) }
         ensures short { IfOk result (λ out. AreShort out.sent) }
         ensures drawn { IfOk result (λ out. out.undrawn ≡ false) }
         ensures steps { IfOk result (λ _. self.new.steps ≡ self.old.steps + 1) }
@@ -78,7 +78,7 @@ impl<D: Disk, X, C: Drop> Host<D, X, C> {
         requires tag { length compound.tag ≤ TEXT_LIMIT }
         requires short { length compound.ops ≤ compound.count }
         ensures is { D.Told → IfOk result (λ out. IsCompoundTurn (rules_of X.gated X.serves X.leaves X.lapses X.judges X.tells X.silent) (record { mic = X.Mech.mic_of; derived = X.Mech.derived }) second conn call.now (Ok compound) (host_of D.size self.old) (stepped_of D.size self.new out)) }
-        ensures ran { D.Told → IfOk result (λ out. Ran (seat_of D.size D.fuse D.timeline D.faults self.old.server.files.volume) (seat_of D.size D.fuse D.timeline D.faults self.new.server.files.volume) [] out.used) }
+        ensures ran { IfOk result (λ out. Counted D.Told (seat_of D.size D.fuse D.timeline D.faults self.old.server.files.volume) (seat_of D.size D.fuse D.timeline D.faults self.new.server.files.volume) [] out.used) }
         ensures short { IfOk result (λ out. AreShort out.sent) }
         ensures drawn { IfOk result (λ out. out.undrawn ≡ false) }
         ensures steps { IfOk result (λ _. self.new.steps ≡ self.old.steps + 1) }

@@ -3,7 +3,7 @@
 ghost use Rattle.std.specs.Prelude.{◌≡◌, ◌+◌, ◌-◌, ◌*◌, ◌^◌, ◌<◌, ◌≤◌, [], true, false, max, IfOk, OnErr};
 ghost use Rattle.outcome.specs.Causes.{Rose};
 ghost use Rattle.rpc_calls.specs.Judging.{IsSound, IsSoundWhere, judged_of};
-ghost use Rattle.server_volume.specs.Moments.{Ran};
+ghost use Rattle.server_volume.specs.Moments.{Counted};
 ghost use Rattle.server_volume.specs.Store.{seat_of};
 ghost use Rattle.session_server.specs.Host.{host_of, rules_of, stepped_of, IsCounted, IsCountedBy};
 ghost use Rattle.session_server.specs.Lengths.{AreShort};
@@ -78,7 +78,7 @@ impl<D: Disk, X, C: Drop> Host<D, X, C> {
         requires few { self.old.steps < MOST_STEPS }
         requires counted { IsCounted X.given self.old }
         ensures turn { D.Told → IfOk result (λ out. IsTurn (rules_of X.gated X.serves X.leaves X.lapses X.judges X.tells X.silent) (record { mic = X.Mech.mic_of; derived = X.Mech.derived }) (X.Mech.accepted (X.mech_of self.old.server.files.extra)) W.gives conn record_.now now (host_of D.size self.old) draws.old draws.new (stepped_of D.size self.new out)) }
-        ensures ran { D.Told → IfOk result (λ out. Ran (seat_of D.size D.fuse D.timeline D.faults self.old.server.files.volume) (seat_of D.size D.fuse D.timeline D.faults self.new.server.files.volume) [] out.used) }
+        ensures ran { IfOk result (λ out. Counted D.Told (seat_of D.size D.fuse D.timeline D.faults self.old.server.files.volume) (seat_of D.size D.fuse D.timeline D.faults self.new.server.files.volume) [] out.used) }
         ensures short { IfOk result (λ out. AreShort out.sent) }
         ensures undrawn { IfOk result (λ out. out.undrawn ≡ true → Rose (W.faults draws.old) (W.faults draws.new)) }
         ensures steps { IfOk result (λ _. self.new.steps ≡ self.old.steps + 1) }
@@ -112,7 +112,7 @@ impl<D: Disk, X, C: Drop> Host<D, X, C> {
         requires counted { IsCounted X.given self.old }
         requires sound { IsSound second self.old.contexts call.now }
         ensures turn { D.Told → IfOk result (λ out. IsCallTurn (rules_of X.gated X.serves X.leaves X.lapses X.judges X.tells X.silent) (record { mic = X.Mech.mic_of; derived = X.Mech.derived }) (X.Mech.accepted (X.mech_of self.old.server.files.extra)) W.gives second conn call.now (host_of D.size self.old) draws.old draws.new (stepped_of D.size self.new out)) }
-        ensures ran { D.Told → IfOk result (λ out. Ran (seat_of D.size D.fuse D.timeline D.faults self.old.server.files.volume) (seat_of D.size D.fuse D.timeline D.faults self.new.server.files.volume) [] out.used) }
+        ensures ran { IfOk result (λ out. Counted D.Told (seat_of D.size D.fuse D.timeline D.faults self.old.server.files.volume) (seat_of D.size D.fuse D.timeline D.faults self.new.server.files.volume) [] out.used) }
         ensures short { IfOk result (λ out. AreShort out.sent) }
         ensures undrawn { IfOk result (λ out. out.undrawn ≡ true → Rose (W.faults draws.old) (W.faults draws.new)) }
         ensures steps { IfOk result (λ _. self.new.steps ≡ self.old.steps + 1) }

@@ -9,7 +9,7 @@ ghost use Rattle.copy_model.specs.Volume.{bytes_at, file_at};
 ghost use Rattle.disk_model.specs.Disk.{Image, MayLeave};
 ghost use Rattle.disk_model.specs.Elapsed.{contents, present, set_to, IsOut};
 ghost use Rattle.outcome.specs.Causes.{Rose};
-ghost use Rattle.server_volume.specs.Moments.{Ran};
+ghost use Rattle.server_volume.specs.Moments.{Counted};
 ghost use Rattle.server_volume.specs.Store.{seat_of};
 ghost use Rattle.session_server.specs.declared.host.TheConstants.{MOST_STEPS};
 ghost use Rattle.session_server.specs.Host.{host_of, stepped_of};
@@ -142,7 +142,7 @@ impl<D: Disk, M: Mechanism> SourceCore<D, M> {
     ) -> Mem<Outbox>
         requires few { self.old.steps < MOST_STEPS }
         ensures turn { D.Told → IfOk result (λ out. IsTurn (source_rules M.mic_of) (record { mic = M.mic_of; derived = M.derived }) (M.accepted self.old.server.files.extra.mech) W.gives conn record_.now now (host_of D.size self.old) draws.old draws.new (stepped_of D.size self.new out)) }
-        ensures ran { D.Told → IfOk result (λ out. Ran (seat_of D.size D.fuse D.timeline D.faults self.old.server.files.volume) (seat_of D.size D.fuse D.timeline D.faults self.new.server.files.volume) [] out.used) }
+        ensures ran { IfOk result (λ out. Counted D.Told (seat_of D.size D.fuse D.timeline D.faults self.old.server.files.volume) (seat_of D.size D.fuse D.timeline D.faults self.new.server.files.volume) [] out.used) }
         ensures short { IfOk result (λ out. AreShort out.sent) }
         ensures undrawn { IfOk result (λ out. out.undrawn ≡ true → Rose (W.faults draws.old) (W.faults draws.new)) }
         ensures counted { IfOk result (λ _. self.new.steps ≡ self.old.steps + 1) }

@@ -8,12 +8,11 @@ use Rattle.block_file.specs.declared.faults.WriteFault.TheVariants as writing
 use Rattle.server_volume.specs.Calls as calls
 use Rattle.server_volume.specs.Calls.{Asked, broken_fault, called, commit_call, read_call, write_call, write_fault}
 use Rattle.server_volume.specs.Choices.{Choice, Failed, Fate, Went, choice_of, fate_of}
-use Rattle.server_volume.specs.Moments.{failed_in}
+use Rattle.server_volume.specs.Moments.{failed_in, failures_in}
 use Rattle.server_volume.specs.Store.{Store}
 use Rattle.server_volume.specs.declared.used.CallAnswer.{CallAnswer}
 use Rattle.server_volume.specs.declared.used.CallAnswer.TheVariants.{Done, DiskFailed, Refused}
 use Rattle.server_volume.specs.declared.used.Used.{Used}
-use Rattle.volume_laws.specs.Failing.{failures_in}
 use Rattle.volume_laws.specs.Taking.{HasRoomFor}
 
 -- ---- where none failed, each went through

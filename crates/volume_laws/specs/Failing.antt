@@ -8,11 +8,7 @@ use Rattle.server_volume.specs.declared.used.Used.{Used}
 use Rattle.server_volume.specs.declared.used.VolumeCall.{VolumeCall}
 use Rattle.server_volume.specs.declared.used.VolumeCall.TheVariants as calls
 
--- ---- how many of these calls the disk failed in, and whether it did in any
-
-abbrev pub failures_in : List Used → ℕ
-failures_in [] = 0
-failures_in (u ∷ us) = failed_in u.answer + failures_in us
+-- ---- whether the disk failed in any of these calls
 
 abbrev pub has_failed : CallAnswer → Bool
 has_failed Done = false

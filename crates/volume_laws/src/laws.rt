@@ -7,11 +7,13 @@ ghost use Rattle.outcome.specs.Causes.{Rose, RoseBy};
 ghost use Rattle.server_volume.specs.Calls.{broken_fault, commit_call, read_call, write_call, write_fault};
 ghost use Rattle.server_volume.specs.Choices.{Choice, Failed, choice_of};
 ghost use Rattle.server_volume.specs.declared.used.Used.{Used};
-ghost use Rattle.server_volume.specs.Moments.{Ran};
+ghost use Rattle.server_volume.specs.Moments.{Counted, Ran, failures_in};
 ghost use Rattle.server_volume.specs.Store.{Seat, Store};
-ghost use Rattle.volume_laws.specs.Failing.{AreRefused, any_failed, breaks_in, failures_in};
+ghost use Rattle.volume_laws.specs.Failing.{AreRefused, any_failed, breaks_in};
 ghost use Rattle.volume_laws.specs.Keeping.{KeepsFiles};
 ghost use Rattle.volume_laws.specs.Taking.{HasRoomFor};
+
+use disk_model::Disk;
 
 /// No call changes how many files a volume has and how long they may be, the number of its opening, its tag, and how many blocks
 /// its disk has.
@@ -33,11 +35,11 @@ pub fn sound_disks_have_no_faults()
 {}
 
 /// A disk's count of faults never falls, and rises by one at least for each call that is noted as failed.
-pub fn counts_rise_where_calls_fail()
-    ensures failed { (old new : Seat) (used more : List Used) → Ran old new used (used ++ more) → RoseBy (failures_in more) old.faults new.faults }
-    ensures some { (old new : Seat) (used more : List Used) → Ran old new used (used ++ more) → any_failed more ≡ true → Rose old.faults new.faults }
-    ensures none { (old new : Seat) (used more : List Used) → Ran old new used (used ++ more) → (Rose old.faults new.faults → ⊥) → failures_in more ≡ 0 }
-    ensures later { (old new : Seat) (used more : List Used) → Ran old new used more → RoseBy 0 old.faults new.faults }
+pub fn counts_rise_where_calls_fail<D: Disk>()
+    ensures failed { (old new : Seat) (used more : List Used) → Counted D.Told old new used (used ++ more) → RoseBy (failures_in more) old.faults new.faults }
+    ensures some { (old new : Seat) (used more : List Used) → Counted D.Told old new used (used ++ more) → any_failed more ≡ true → Rose old.faults new.faults }
+    ensures none { (old new : Seat) (used more : List Used) → Counted D.Told old new used (used ++ more) → (Rose old.faults new.faults → ⊥) → failures_in more ≡ 0 }
+    ensures later { (old new : Seat) (used more : List Used) → Counted D.Told old new used more → RoseBy 0 old.faults new.faults }
 {}
 
 /// A call is answered that the disk failed only where it did, in a call that the volume took.

@@ -66,7 +66,8 @@ module _ {M W : Type 0} (words : Words M W) where
       dest.IsRecord (record { mic = words.mic; derived = words.derived }) (words.accepted s.state.machine.extra.mech) words.gives conn bytes now s before after
       (record { host = t; out = out })
   dest_does (acts.Works worker) now s before t after out =
-      dest.IsWork words.gives (words.started s.state.machine.extra.mech) (record { mic = words.mic; derived = words.derived }) (worker - 1) now s before after
+      (is_worker worker ≡ true)
+      × dest.IsWork words.gives (words.started s.state.machine.extra.mech) (record { mic = words.mic; derived = words.derived }) (worker - 1) now s before after
       (record { host = t; out = out })
   dest_does (acts.Hears worker bytes) now s before t after out = hears (is_worker worker) worker bytes now s t out × (after ≡ before)
   dest_does acts.DestTicks now s before t after out =

@@ -19,8 +19,8 @@ returns-clause-is g c = λ told choice agrees.
     (made.ensures.does told choice (subst (λ (us : List Used). Agrees choice us) c.finish.ensures.used agrees)) c.is_undrawn-undrawn.ensures c.finish.ensures.is
 
 pub returns-clause-ran : goal.returns-clause-ran
-returns-clause-ran g c = λ told.
+returns-clause-ran g c =
     let D = g.D.Disk in
     let made = c.make_turn_on-sent in
     ran_within (seat_of D.size D.fuse D.timeline D.faults) c.args.host.now.server.files.volume c.second_comes.new.host.server.files.volume made.new.files.volume c.finish.new.host.server.files.volume
-    _ made.new.used c.finish.result.used c.second_comes.ensures.volume c.finish.ensures.volume (cc) c.finish.ensures.used (made.ensures.ran told)
+    _ made.new.used c.finish.result.used c.second_comes.ensures.volume c.finish.ensures.volume (cc) c.finish.ensures.used (made.ensures.ran)

@@ -1,5 +1,5 @@
 use Rattle.std.proofs.Common.{[], subst}
-use Rattle.server_volume.specs.Moments.{Ran}
+use Rattle.server_volume.specs.Moments.{Counted}
 use Rattle.server_volume.specs.Store.{seat_of}
 use Rattle.dest_core.proofs.Hosts.{counted_put}
 use Rattle.dest_core.proofs.Turns.{reply_told}
@@ -17,7 +17,7 @@ returns-clause-is g c = λ told.
     c.second_at-second.ensures c.hear.ensures.same c.in_ok-heard.ensures.heard (c.make_effect.ensures.is told)
 
 pub returns-clause-ran : goal.returns-clause-ran
-returns-clause-ran g c = λ told.
+returns-clause-ran g c =
     let D = g.D.Disk in
     let seat = seat_of D.size D.fuse D.timeline D.faults in
-    subst (λ s. Ran (seat s.files.volume) (seat c.make_effect.new.host.server.files.volume) [] c.make_effect.result.used) c.hear.ensures.same (c.make_effect.ensures.ran told)
+    subst (λ s. Counted D.Told (seat s.files.volume) (seat c.make_effect.new.host.server.files.volume) [] c.make_effect.result.used) c.hear.ensures.same (c.make_effect.ensures.ran)

@@ -1,5 +1,5 @@
 use Rattle.std.proofs.Common.{[], subst, sym, ◌∙◌}
-use Rattle.server_volume.specs.Moments.{Ran}
+use Rattle.server_volume.specs.Moments.{Counted}
 use Rattle.server_volume.specs.Store.{seat_of}
 use Rattle.dest_core.proofs.Hosts.{counted_put}
 use Rattle.dest_core.proofs.Turns.{undrawn_is, work_told}
@@ -17,10 +17,10 @@ returns-clause-is g c = λ told.
     c.second_at-second.ensures c.turn_due.ensures.same c.in_ok-turn.ensures.turn (c.make_turn.ensures.is told)
 
 pub returns-clause-ran : goal.returns-clause-ran
-returns-clause-ran g c = λ told.
+returns-clause-ran g c =
     let D = g.D.Disk in
     let seat = seat_of D.size D.fuse D.timeline D.faults in
-    subst (λ s. Ran (seat s.files.volume) (seat c.make_turn.new.host.server.files.volume) [] c.make_turn.result.used) c.turn_due.ensures.same (c.make_turn.ensures.ran told)
+    subst (λ s. Counted D.Told (seat s.files.volume) (seat c.make_turn.new.host.server.files.volume) [] c.make_turn.result.used) c.turn_due.ensures.same (c.make_turn.ensures.ran)
 
 pub returns-clause-undrawn : goal.returns-clause-undrawn
 returns-clause-undrawn g c = λ drawn. c.in_ok-turn.ensures.undrawn (undrawn_is c.in_ok-turn.turn (sym c.make_turn.ensures.undrawn ∙ drawn))

@@ -1,5 +1,10 @@
-use Rattle.volume_laws.proofs.Risen.{ran_any, ran_later, ran_quiet, ran_rose}
+use Rattle.volume_laws.proofs.Risen.{count_any, count_later, count_quiet, count_rose}
 use Rattle.volume_laws.proofs.laws.counts_rise_where_calls_fail.Goals as goal
 
 pub returns : goal.returns
-returns c = record { failed = ran_rose; some = ran_any; none = ran_quiet; later = ran_later }
+returns g c = record {
+  failed = count_rose g.D.Disk.Told;
+  some = count_any g.D.Disk.Told;
+  none = count_quiet g.D.Disk.Told;
+  later = count_later g.D.Disk.Told;
+}

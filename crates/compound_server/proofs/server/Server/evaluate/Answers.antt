@@ -2,7 +2,7 @@ use Rattle.std.proofs.Common.{rules, ◌≡◌, ℕ, map, Option, List, [], refl
 use Rattle.file_server.specs.Answering.{machine_of}
 use Rattle.server_volume.specs.Choices.{Agrees}
 use Rattle.server_volume.specs.declared.used.Used.{Used}
-use Rattle.server_volume.specs.MomentLaws.{ran_none, ran_on}
+use Rattle.server_volume.specs.MomentLaws.{counted_none, counted_on}
 use Rattle.compound_server.specs.Course.{Service, course_of, seen}
 use Rattle.compound_server.specs.Performing.{perform}
 use Rattle.compound_server.specs.Preparing.{op_of}
@@ -23,7 +23,7 @@ operations-init g c = rw c.into_deque-rest.ensures (record {
   seats = refl;
   numbers = refl;
   room = refl;
-  ran = λ told. ran_none _ _;
+  ran = counted_none _ _ _;
   walks = λ told choice agrees. refl;
 })
 
@@ -41,7 +41,7 @@ returns-then-status-ne0-clause-walks g c = rw (← c.into_deque-rest.ensures) (�
 
 -- src/evaluating.rt:67:17
 pub returns-then-status-ne0-clause-ran : goal.returns-then-status-ne0-clause-ran
-returns-then-status-ne0-clause-ran g c told = ran_on _ _ _ _ _ _ (c.operations.invariant.ran told) (c.perform-status.ensures.ran told)
+returns-then-status-ne0-clause-ran g c = counted_on _ _ _ _ _ _ _ (c.operations.invariant.ran) (c.perform-status.ensures.ran)
 
 -- src/evaluating.rt:62:9
 pub operations-preserved : goal.operations-preserved
@@ -75,7 +75,7 @@ operations-preserved g c =
       seats = performed.ensures.counted.sessions ∙ c.operations.invariant.seats;
       numbers = performed.ensures.counted.numbers ∙ c.operations.invariant.numbers;
       room = performed.ensures.keeps.room ∙ c.operations.invariant.room;
-      ran = λ told. ran_on _ _ _ _ _ _ (c.operations.invariant.ran told) (performed.ensures.ran told);
+      ran = counted_on _ _ _ _ _ _ _ (c.operations.invariant.ran) (performed.ensures.ran);
       walks = λ told choice agrees.
           let said = ap (λ (next : Option ℕ). seen (perform s choice c.args.caller.now c.args.carry.now next (op_of c.in-Some.one) was) c.operations.p.page.bytes) (sym c.next_number-next.ensures) ∙ performed.ensures.performs told choice agrees in
           c.operations.invariant.walks told choice (performed.ensures.keeps.grows choice agrees)

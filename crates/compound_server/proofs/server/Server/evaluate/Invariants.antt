@@ -2,7 +2,7 @@ use Rattle.std.proofs.Common.{◌≡◌, ◌+◌, ◌<◌, ◌≤◌, ◌^◌, l
 use Rattle.file_server.specs.Answering.{Ready}
 use Rattle.nfs_base.specs.declared.limits.TheConstants.{MOST_OPERATIONS}
 use Rattle.server_volume.specs.Choices.{Choice, Agrees}
-use Rattle.server_volume.specs.Moments.{Ran}
+use Rattle.server_volume.specs.Moments.{Counted}
 use Rattle.server_volume.specs.Store.{seat_of}
 use Rattle.sess_slots.specs.Table.{numbers_made}
 use Rattle.compound_server.specs.Course.{course_of}
@@ -22,7 +22,7 @@ invariant-operations g l = record {
   seats : l.self.sessions.sessions ≡ l.initial.self.sessions.sessions;
   numbers : numbers_made l.self.sessions ≡ numbers_made l.initial.self.sessions;
   room : l.p.page.room ≡ l.initial.p.page.room;
-  ran : g.D.Disk.Told → Ran (seat_of g.D.Disk.size g.D.Disk.fuse g.D.Disk.timeline g.D.Disk.faults l.initial.self.files.volume) (seat_of g.D.Disk.size g.D.Disk.fuse g.D.Disk.timeline g.D.Disk.faults l.self.files.volume) l.initial.p.used l.p.used;
+  ran : Counted g.D.Disk.Told (seat_of g.D.Disk.size g.D.Disk.fuse g.D.Disk.timeline g.D.Disk.faults l.initial.self.files.volume) (seat_of g.D.Disk.size g.D.Disk.fuse g.D.Disk.timeline g.D.Disk.faults l.self.files.volume) l.initial.p.used l.p.used;
   walks : g.D.Disk.Told → (choice : Choice) → Agrees choice l.p.used
       → results_of (walk (record { gate = g.X.Extension.gated; serve = g.X.Serving.serves }) choice l.caller l.carry l.tail (map op_of l.initial.rest.items) (course_of g.D.Disk.size l.initial.self l.initial.p)) l.initial.p.page.bytes l.initial.count
       ≡ results_of (walk (record { gate = g.X.Extension.gated; serve = g.X.Serving.serves }) choice l.caller l.carry l.tail (map op_of l.rest.items) (course_of g.D.Disk.size l.self l.p)) l.p.page.bytes l.count;

@@ -23,49 +23,49 @@ unfolding file_done
 returns-in-Close-clause-performs g c = λ told choice agrees. performs_known (record { gate = g.X.Extension.gated; serve = g.X.Serving.serves }) choice _ _ _ _ _ _ _ _ _ c.in-Close.is (c.close.ensures.does choice agrees) refl
 
 pub returns-in-Close-clause-ran : goal.returns-in-Close-clause-ran
-returns-in-Close-clause-ran g c = λ told. ran_kept (seat_of g.D.Disk.size g.D.Disk.fuse g.D.Disk.timeline g.D.Disk.faults) c.close.ensures.volume c.close.ensures.used
+returns-in-Close-clause-ran g c = ran_kept (seat_of g.D.Disk.size g.D.Disk.fuse g.D.Disk.timeline g.D.Disk.faults) c.close.ensures.volume c.close.ensures.used
 
 pub returns-in-Open-clause-performs : goal.returns-in-Open-clause-performs
 unfolding file_done
 returns-in-Open-clause-performs g c = λ told choice agrees. performs_known (record { gate = g.X.Extension.gated; serve = g.X.Serving.serves }) choice _ _ _ _ _ _ _ _ _ c.in-Open.is (c.open_by_name.ensures.does choice agrees) refl
 
 pub returns-in-Open-clause-ran : goal.returns-in-Open-clause-ran
-returns-in-Open-clause-ran g c = λ told. ran_kept (seat_of g.D.Disk.size g.D.Disk.fuse g.D.Disk.timeline g.D.Disk.faults) c.open_by_name.ensures.volume c.open_by_name.ensures.used
+returns-in-Open-clause-ran g c = ran_kept (seat_of g.D.Disk.size g.D.Disk.fuse g.D.Disk.timeline g.D.Disk.faults) c.open_by_name.ensures.volume c.open_by_name.ensures.used
 
 pub returns-in-GetFh-clause-performs : goal.returns-in-GetFh-clause-performs
 unfolding file_done
 returns-in-GetFh-clause-performs g c = λ told choice agrees. performs_known (record { gate = g.X.Extension.gated; serve = g.X.Serving.serves }) choice _ _ _ _ _ _ _ _ _ c.in-GetFh.is (c.get.ensures.does choice agrees) refl
 
 pub returns-in-GetFh-clause-ran : goal.returns-in-GetFh-clause-ran
-returns-in-GetFh-clause-ran g c = λ told. ran_still c.get.ensures.used
+returns-in-GetFh-clause-ran g c = ran_still c.get.ensures.used
 
 pub returns-in-PutFh-clause-performs : goal.returns-in-PutFh-clause-performs
 unfolding file_done
 returns-in-PutFh-clause-performs g c = λ told choice agrees. performs_known (record { gate = g.X.Extension.gated; serve = g.X.Serving.serves }) choice _ _ _ _ _ _ _ _ _ c.in-PutFh.is (c.put.ensures.does choice agrees) refl
 
 pub returns-in-PutFh-clause-ran : goal.returns-in-PutFh-clause-ran
-returns-in-PutFh-clause-ran g c = λ told. ran_still c.put.ensures.used
+returns-in-PutFh-clause-ran g c = ran_still c.put.ensures.used
 
 pub returns-in-PutRootFh-clause-performs : goal.returns-in-PutRootFh-clause-performs
 unfolding file_done
 returns-in-PutRootFh-clause-performs g c = λ told choice agrees. performs_known (record { gate = g.X.Extension.gated; serve = g.X.Serving.serves }) choice _ _ _ _ _ _ _ _ _ c.in-PutRootFh.is (c.put_root.ensures.does choice agrees) refl
 
 pub returns-in-PutRootFh-clause-ran : goal.returns-in-PutRootFh-clause-ran
-returns-in-PutRootFh-clause-ran g c = λ told. ran_still c.put_root.ensures.used
+returns-in-PutRootFh-clause-ran g c = ran_still c.put_root.ensures.used
 
 pub returns-in-RestoreFh-clause-performs : goal.returns-in-RestoreFh-clause-performs
 unfolding file_done
 returns-in-RestoreFh-clause-performs g c = λ told choice agrees. performs_known (record { gate = g.X.Extension.gated; serve = g.X.Serving.serves }) choice _ _ _ _ _ _ _ _ _ c.in-RestoreFh.is (c.restore.ensures.does choice agrees) refl
 
 pub returns-in-RestoreFh-clause-ran : goal.returns-in-RestoreFh-clause-ran
-returns-in-RestoreFh-clause-ran g c = λ told. ran_still c.restore.ensures.used
+returns-in-RestoreFh-clause-ran g c = ran_still c.restore.ensures.used
 
 pub returns-in-SaveFh-clause-performs : goal.returns-in-SaveFh-clause-performs
 unfolding file_done
 returns-in-SaveFh-clause-performs g c = λ told choice agrees. performs_known (record { gate = g.X.Extension.gated; serve = g.X.Serving.serves }) choice _ _ _ _ _ _ _ _ _ c.in-SaveFh.is (c.save.ensures.does choice agrees) refl
 
 pub returns-in-SaveFh-clause-ran : goal.returns-in-SaveFh-clause-ran
-returns-in-SaveFh-clause-ran g c = λ told. ran_still c.save.ensures.used
+returns-in-SaveFh-clause-ran g c = ran_still c.save.ensures.used
 
 pub returns-in-Commit-clause-performs : goal.returns-in-Commit-clause-performs
 unfolding file_done
@@ -87,7 +87,7 @@ returns-in-Lookup-clause-performs g c = λ told choice agrees.
     (ap (λ (name : List ℕ). of_file c.args.self.now.sessions (lookup name going)) (sym c.as_slice-in-Lookup.ensures))
 
 pub returns-in-Lookup-clause-ran : goal.returns-in-Lookup-clause-ran
-returns-in-Lookup-clause-ran g c = λ told. ran_still c.lookup.ensures.used
+returns-in-Lookup-clause-ran g c = ran_still c.lookup.ensures.used
 
 pub returns-in-GetAttr-clause-performs : goal.returns-in-GetAttr-clause-performs
 unfolding file_done
@@ -97,7 +97,7 @@ returns-in-GetAttr-clause-performs g c = λ told choice agrees.
     (ap (λ (mask : List ℕ). of_file c.args.self.now.sessions (get_attributes (record { gate = g.X.Extension.gated }) c.args.caller.now c.args.carry.now mask going)) (sym c.as_slice.ensures))
 
 pub returns-in-GetAttr-clause-ran : goal.returns-in-GetAttr-clause-ran
-returns-in-GetAttr-clause-ran g c = λ told. ran_kept (seat_of g.D.Disk.size g.D.Disk.fuse g.D.Disk.timeline g.D.Disk.faults) c.get_attributes.ensures.volume c.get_attributes.ensures.used
+returns-in-GetAttr-clause-ran g c = ran_kept (seat_of g.D.Disk.size g.D.Disk.fuse g.D.Disk.timeline g.D.Disk.faults) c.get_attributes.ensures.volume c.get_attributes.ensures.used
 
 -- ---- operations that are refused
 
@@ -108,7 +108,7 @@ returns-in-Illegal-clause-performs g c = λ told choice agrees.
     c.in-Illegal.is c.refuse-in-Illegal.ensures.says c.refuse-in-Illegal.ensures.status refl
 
 pub returns-in-Illegal-clause-ran : goal.returns-in-Illegal-clause-ran
-returns-in-Illegal-clause-ran g c = λ told. ran_still c.refuse-in-Illegal.ensures.says.used
+returns-in-Illegal-clause-ran g c = ran_still c.refuse-in-Illegal.ensures.says.used
 
 pub returns-in-ExchangeId-clause-performs : goal.returns-in-ExchangeId-clause-performs
 unfolding file_done
@@ -117,7 +117,7 @@ returns-in-ExchangeId-clause-performs g c = λ told choice agrees.
     c.in-ExchangeId.is c.refuse-in-ExchangeId.ensures.says c.refuse-in-ExchangeId.ensures.status refl
 
 pub returns-in-ExchangeId-clause-ran : goal.returns-in-ExchangeId-clause-ran
-returns-in-ExchangeId-clause-ran g c = λ told. ran_still c.refuse-in-ExchangeId.ensures.says.used
+returns-in-ExchangeId-clause-ran g c = ran_still c.refuse-in-ExchangeId.ensures.says.used
 
 pub returns-in-CreateSession-clause-performs : goal.returns-in-CreateSession-clause-performs
 unfolding file_done
@@ -126,7 +126,7 @@ returns-in-CreateSession-clause-performs g c = λ told choice agrees.
     c.in-CreateSession.is c.refuse-in-CreateSession.ensures.says c.refuse-in-CreateSession.ensures.status refl
 
 pub returns-in-CreateSession-clause-ran : goal.returns-in-CreateSession-clause-ran
-returns-in-CreateSession-clause-ran g c = λ told. ran_still c.refuse-in-CreateSession.ensures.says.used
+returns-in-CreateSession-clause-ran g c = ran_still c.refuse-in-CreateSession.ensures.says.used
 
 pub returns-in-DestroySession-clause-performs : goal.returns-in-DestroySession-clause-performs
 unfolding file_done
@@ -135,7 +135,7 @@ returns-in-DestroySession-clause-performs g c = λ told choice agrees.
     c.in-DestroySession.is c.refuse-in-DestroySession.ensures.says c.refuse-in-DestroySession.ensures.status refl
 
 pub returns-in-DestroySession-clause-ran : goal.returns-in-DestroySession-clause-ran
-returns-in-DestroySession-clause-ran g c = λ told. ran_still c.refuse-in-DestroySession.ensures.says.used
+returns-in-DestroySession-clause-ran g c = ran_still c.refuse-in-DestroySession.ensures.says.used
 
 pub returns-in-Sequence-clause-performs : goal.returns-in-Sequence-clause-performs
 unfolding file_done
@@ -144,7 +144,7 @@ returns-in-Sequence-clause-performs g c = λ told choice agrees.
     c.in-Sequence.is c.refuse-in-Sequence.ensures.says c.refuse-in-Sequence.ensures.status refl
 
 pub returns-in-Sequence-clause-ran : goal.returns-in-Sequence-clause-ran
-returns-in-Sequence-clause-ran g c = λ told. ran_still c.refuse-in-Sequence.ensures.says.used
+returns-in-Sequence-clause-ran g c = ran_still c.refuse-in-Sequence.ensures.says.used
 
 pub returns-clause-performs : goal.returns-clause-performs
 unfolding file_done
@@ -153,7 +153,7 @@ returns-clause-performs g c = λ told choice agrees.
     c.in-DestroyClientId.is c.refuse-in-DestroyClientId.ensures.says c.refuse-in-DestroyClientId.ensures.status refl
 
 pub returns-clause-ran : goal.returns-clause-ran
-returns-clause-ran g c = λ told. ran_still c.refuse-in-DestroyClientId.ensures.says.used
+returns-clause-ran g c = ran_still c.refuse-in-DestroyClientId.ensures.says.used
 
 -- ---- RECLAIM_COMPLETE
 
@@ -169,4 +169,4 @@ returns-in-ReclaimComplete-clause-performs g c = λ told choice agrees.
     c.reclaim-status.result c.refuse.result c.args.p.now c.refuse.new.self c.refuse.ensures.says (sym c.reclaim-status.ensures.answer) c.refuse.ensures.status
 
 pub returns-in-ReclaimComplete-clause-ran : goal.returns-in-ReclaimComplete-clause-ran
-returns-in-ReclaimComplete-clause-ran g c = λ told. ran_still c.refuse.ensures.says.used
+returns-in-ReclaimComplete-clause-ran g c = ran_still c.refuse.ensures.says.used

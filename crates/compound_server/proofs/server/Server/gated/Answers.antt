@@ -16,4 +16,4 @@ returns-in-Refuse-clause-performs g c = λ told choice agrees.
     c.refuse.result c.args.p.now c.refuse.new.self c.refuse.ensures.says refl c.refuse.ensures.status
 
 pub returns-in-Refuse-clause-ran : goal.returns-in-Refuse-clause-ran
-returns-in-Refuse-clause-ran g c = λ told. ran_still c.refuse.ensures.says.used
+returns-in-Refuse-clause-ran g c = ran_still c.refuse.ensures.says.used

@@ -16,4 +16,4 @@ returns-in-Some-clause-performs g c = λ told choice agrees.
     c.args.p.now c.refuse.new.self c.refuse.ensures.says refl c.refuse.ensures.status
 
 pub returns-in-Some-clause-ran : goal.returns-in-Some-clause-ran
-returns-in-Some-clause-ran g c = λ told. ran_still c.refuse.ensures.says.used
+returns-in-Some-clause-ran g c = ran_still c.refuse.ensures.says.used

@@ -31,26 +31,26 @@ returns-clause-serves g c = λ told choice agrees.
     c.refuse-in-Clone.ensures.says (clone_spelled NOTSUPP) (sym c.refuse-in-Clone.ensures.status)
 
 pub returns-in-Copy-clause-ran : goal.returns-in-Copy-clause-ran
-returns-in-Copy-clause-ran g c = λ told.
+returns-in-Copy-clause-ran g c =
     let D = g.D.Disk in
     ran_kept (seat_of D.size D.fuse D.timeline D.faults) c.args.files.now.volume c.copy.new.files.volume c.args.p.now.used c.copy.new.p.used c.copy.ensures.volume c.copy.ensures.used
 
 pub returns-in-CopyNotify-clause-ran : goal.returns-in-CopyNotify-clause-ran
-returns-in-CopyNotify-clause-ran g c = λ told.
+returns-in-CopyNotify-clause-ran g c =
     let D = g.D.Disk in
     ran_kept (seat_of D.size D.fuse D.timeline D.faults) c.args.files.now.volume c.args.files.now.volume c.args.p.now.used c.refuse.new.self.used refl c.refuse.ensures.says.used
 
 pub returns-in-OffloadCancel-clause-ran : goal.returns-in-OffloadCancel-clause-ran
-returns-in-OffloadCancel-clause-ran g c = λ told.
+returns-in-OffloadCancel-clause-ran g c =
     let D = g.D.Disk in
     ran_kept (seat_of D.size D.fuse D.timeline D.faults) c.args.files.now.volume c.offload_cancel.new.files.volume c.args.p.now.used c.offload_cancel.new.p.used c.offload_cancel.ensures.volume c.offload_cancel.ensures.used
 
 pub returns-in-OffloadStatus-clause-ran : goal.returns-in-OffloadStatus-clause-ran
-returns-in-OffloadStatus-clause-ran g c = λ told.
+returns-in-OffloadStatus-clause-ran g c =
     let D = g.D.Disk in
     ran_kept (seat_of D.size D.fuse D.timeline D.faults) c.args.files.now.volume c.offload_status.new.files.volume c.args.p.now.used c.offload_status.new.p.used c.offload_status.ensures.volume c.offload_status.ensures.used
 
 pub returns-clause-ran : goal.returns-clause-ran
-returns-clause-ran g c = λ told.
+returns-clause-ran g c =
     let D = g.D.Disk in
     ran_kept (seat_of D.size D.fuse D.timeline D.faults) c.args.files.now.volume c.args.files.now.volume c.args.p.now.used c.refuse-in-Clone.new.self.used refl c.refuse-in-Clone.ensures.says.used

@@ -3,6 +3,6 @@ use Rattle.file_server.proofs.Steps.{ran_still}
 use Rattle.file_server.proofs.files.Files.read_file.Goals as goal
 
 pub returns-in-Some-clause-ran : goal.returns-in-Some-clause-ran
-returns-in-Some-clause-ran g c = λ told.
+returns-in-Some-clause-ran g c =
     let D = g.D.Disk in
     ran_still (seat_of D.size D.fuse D.timeline D.faults c.args.self.now.volume) c.args.p.now.used c.refuse.new.self.used c.refuse.ensures.says.used

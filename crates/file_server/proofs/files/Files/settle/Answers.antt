@@ -26,6 +26,6 @@ returns-in-Unstable-clause-does g c = λ told choice agrees.
     (sym c.say_written.ensures.status)
 
 pub returns-in-Unstable-clause-ran : goal.returns-in-Unstable-clause-ran
-returns-in-Unstable-clause-ran g c = λ told.
+returns-in-Unstable-clause-ran g c =
     let D = g.D.Disk in
     ran_still (seat_of D.size D.fuse D.timeline D.faults c.args.self.now.volume) c.args.p.now.used c.say_written.new.self.used c.say_written.ensures.says.used

@@ -7,7 +7,7 @@ use Rattle.wire_xdr.specs.Words.{word_bytes}
 use Rattle.file_ops.specs.declared.results.FileRes.TheVariants as results
 use Rattle.file_ops.specs.Results.{file_res}
 use Rattle.server_volume.specs.Calls.{Called}
-use Rattle.server_volume.specs.MomentLaws.{ran_on}
+use Rattle.server_volume.specs.MomentLaws.{counted_on}
 use Rattle.server_volume.specs.Store.{seat_of}
 use Rattle.file_server.specs.Machine.{shown, with_call, res_bytes}
 use Rattle.file_server.specs.Answering.{going_of, machine_of}
@@ -37,8 +37,8 @@ returns-in-Ok-clause-keeps g c =
     refl refl c.call_write.ensures.grows (omega (arith, c.call_write.ensures.counted))
 
 pub returns-in-Ok-clause-ran : goal.returns-in-Ok-clause-ran
-returns-in-Ok-clause-ran g c = λ told.
+returns-in-Ok-clause-ran g c =
     let D = g.D.Disk in
-    ran_on (seat_of D.size D.fuse D.timeline D.faults c.args.self.now.volume) (seat_of D.size D.fuse D.timeline D.faults c.call_write.new.volume)
+    counted_on D.Told (seat_of D.size D.fuse D.timeline D.faults c.args.self.now.volume) (seat_of D.size D.fuse D.timeline D.faults c.call_write.new.volume)
     (seat_of D.size D.fuse D.timeline D.faults c.settle.new.self.volume) c.args.p.now.used c.call_write.new.used c.settle.new.p.used
-    (c.call_write.ensures.ran told) (c.settle.ensures.ran told)
+    (c.call_write.ensures.ran) (c.settle.ensures.ran)

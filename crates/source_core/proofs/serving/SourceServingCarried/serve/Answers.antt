@@ -22,17 +22,17 @@ returns-in-Copy-clause-serves g c = λ told choice agrees.
     c.refuse.ensures.says (copy_refused_spelled NOTSUPP) (sym c.refuse.ensures.status)
 
 pub returns-in-Copy-clause-ran : goal.returns-in-Copy-clause-ran
-returns-in-Copy-clause-ran g c = λ told.
+returns-in-Copy-clause-ran g c =
     let D = g.D.Disk in
     ran_kept (seat_of D.size D.fuse D.timeline D.faults) c.args.files.now.volume c.args.files.now.volume c.args.p.now.used c.refuse.new.self.used refl c.refuse.ensures.says.used
 
 pub returns-in-CopyNotify-clause-ran : goal.returns-in-CopyNotify-clause-ran
-returns-in-CopyNotify-clause-ran g c = λ told.
+returns-in-CopyNotify-clause-ran g c =
     let D = g.D.Disk in
     ran_kept (seat_of D.size D.fuse D.timeline D.faults) c.args.files.now.volume c.notify.new.files.volume c.args.p.now.used c.notify.new.p.used c.notify.ensures.volume c.notify.ensures.used
 
 pub returns-in-OffloadCancel-clause-ran : goal.returns-in-OffloadCancel-clause-ran
-returns-in-OffloadCancel-clause-ran g c = λ told.
+returns-in-OffloadCancel-clause-ran g c =
     let D = g.D.Disk in
     ran_kept (seat_of D.size D.fuse D.timeline D.faults) c.args.files.now.volume c.cancel.new.files.volume c.args.p.now.used c.cancel.new.p.used c.cancel.ensures.volume c.cancel.ensures.used
 
@@ -47,7 +47,7 @@ returns-in-OffloadStatus-clause-serves g c = λ told choice agrees.
     c.refuse-in-OffloadStatus.ensures.says (status_refused_spelled NOTSUPP) (sym c.refuse-in-OffloadStatus.ensures.status)
 
 pub returns-in-OffloadStatus-clause-ran : goal.returns-in-OffloadStatus-clause-ran
-returns-in-OffloadStatus-clause-ran g c = λ told.
+returns-in-OffloadStatus-clause-ran g c =
     let D = g.D.Disk in
     ran_kept (seat_of D.size D.fuse D.timeline D.faults) c.args.files.now.volume c.args.files.now.volume c.args.p.now.used c.refuse-in-OffloadStatus.new.self.used refl c.refuse-in-OffloadStatus.ensures.says.used
 
@@ -62,6 +62,6 @@ returns-clause-serves g c = λ told choice agrees.
     c.refuse-in-Clone.ensures.says (clone_spelled NOTSUPP) (sym c.refuse-in-Clone.ensures.status)
 
 pub returns-clause-ran : goal.returns-clause-ran
-returns-clause-ran g c = λ told.
+returns-clause-ran g c =
     let D = g.D.Disk in
     ran_kept (seat_of D.size D.fuse D.timeline D.faults) c.args.files.now.volume c.args.files.now.volume c.args.p.now.used c.refuse-in-Clone.new.self.used refl c.refuse-in-Clone.ensures.says.used

@@ -22,7 +22,7 @@ returns-in-Copy-clause-serves g c = λ told choice agrees.
     c.refuse.ensures.says (copy_refused_spelled NOTSUPP) (sym c.refuse.ensures.status)
 
 pub returns-in-Copy-clause-ran : goal.returns-in-Copy-clause-ran
-returns-in-Copy-clause-ran g c = λ told.
+returns-in-Copy-clause-ran g c =
     let D = g.D.Disk in
     ran_kept (seat_of D.size D.fuse D.timeline D.faults) c.args.files.now.volume c.args.files.now.volume c.args.p.now.used c.refuse.new.self.used refl c.refuse.ensures.says.used
 
@@ -38,7 +38,7 @@ returns-in-CopyNotify-clause-serves g c = λ told choice agrees.
     c.say_wide.ensures.says (notify_done_spelled grant) (sym c.say_wide.ensures.status)
 
 pub returns-in-CopyNotify-clause-ran : goal.returns-in-CopyNotify-clause-ran
-returns-in-CopyNotify-clause-ran g c = λ told.
+returns-in-CopyNotify-clause-ran g c =
     let D = g.D.Disk in
     ran_kept (seat_of D.size D.fuse D.timeline D.faults) c.args.files.now.volume c.args.files.now.volume c.args.p.now.used c.say_wide.new.p.used refl c.say_wide.ensures.says.used
 
@@ -54,7 +54,7 @@ returns-in-OffloadCancel-clause-serves g c = λ told choice agrees.
     c.refuse-in-OffloadCancel.ensures.says (cancel_spelled OK) (sym c.refuse-in-OffloadCancel.ensures.status)
 
 pub returns-in-OffloadCancel-clause-ran : goal.returns-in-OffloadCancel-clause-ran
-returns-in-OffloadCancel-clause-ran g c = λ told.
+returns-in-OffloadCancel-clause-ran g c =
     let D = g.D.Disk in
     ran_kept (seat_of D.size D.fuse D.timeline D.faults) c.args.files.now.volume c.args.files.now.volume c.args.p.now.used c.refuse-in-OffloadCancel.new.self.used refl c.refuse-in-OffloadCancel.ensures.says.used
 
@@ -69,7 +69,7 @@ returns-in-OffloadStatus-clause-serves g c = λ told choice agrees.
     c.refuse-in-OffloadStatus.ensures.says (status_refused_spelled NOTSUPP) (sym c.refuse-in-OffloadStatus.ensures.status)
 
 pub returns-in-OffloadStatus-clause-ran : goal.returns-in-OffloadStatus-clause-ran
-returns-in-OffloadStatus-clause-ran g c = λ told.
+returns-in-OffloadStatus-clause-ran g c =
     let D = g.D.Disk in
     ran_kept (seat_of D.size D.fuse D.timeline D.faults) c.args.files.now.volume c.args.files.now.volume c.args.p.now.used c.refuse-in-OffloadStatus.new.self.used refl c.refuse-in-OffloadStatus.ensures.says.used
 
@@ -84,6 +84,6 @@ returns-clause-serves g c = λ told choice agrees.
     c.refuse-in-Clone.ensures.says (clone_spelled NOTSUPP) (sym c.refuse-in-Clone.ensures.status)
 
 pub returns-clause-ran : goal.returns-clause-ran
-returns-clause-ran g c = λ told.
+returns-clause-ran g c =
     let D = g.D.Disk in
     ran_kept (seat_of D.size D.fuse D.timeline D.faults) c.args.files.now.volume c.args.files.now.volume c.args.p.now.used c.refuse-in-Clone.new.self.used refl c.refuse-in-Clone.ensures.says.used
