@@ -16,6 +16,7 @@ use Rattle.client_steps.specs.Commands.{query_with}
 use Rattle.client_steps.specs.Setting.{copy_call, copy_of, copy_with, last_call, last_of, notify_call, notify_of, open_by, open_call, privilege_at}
 use Rattle.client_steps.specs.declared.setting.Setting.{Setting}
 use Rattle.copy_privs.specs.Forms.{privilege, privilege_name, privilege_spell}
+use Rattle.gss_mech.specs.BytesLaws.{glued, no_bytes, one_more, opaque_are}
 use Rattle.mount.specs.State.{setup_in}
 use Rattle.mount.specs.declared.state.Standing.{Standing}
 use Rattle.mount.specs.declared.state.Standing.TheVariants.{Down, Rooted}
@@ -32,7 +33,7 @@ use Rattle.write_queue.specs.declared.work.Work.{Work}
 use Rattle.write_queue.specs.declared.work.Work.TheVariants.{Write, Commit}
 use Rattle.mount_fits.specs.Asking.{SlotCallIsFit}
 use Rattle.mount_fits.specs.Bounds.{StateIdFits, TextFits}
-use Rattle.mount_fits.specs.BytesLaws.{glued, list_are, no_bytes, one_more, opaque_are}
+use Rattle.mount_fits.specs.BytesLaws.{list_are}
 use Rattle.mount_fits.specs.Fitting.{SetupIsFit, StandingIsFit}
 use Rattle.mount_fits.specs.ListLaws.{found_holds}
 use Rattle.mount_fits.specs.OperationLaws.{loc_are}

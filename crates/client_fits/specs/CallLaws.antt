@@ -2,6 +2,7 @@
 use Rattle.std.proofs.Common.{◌≡◌, ℕ, ◌<◌, ◌^◌, Bool, true, false, List, length, Option, Some, None, refl, lit<, arith}
 use Rattle.std.specs.Prelude.{◌&&◌, IfSome, is_none, nat_le, nat_lt, not}
 use Rattle.std.specs.List.{AllByRecursion}
+use Rattle.gss_mech.specs.BytesLaws.{glued, word_are}
 use Rattle.wire_xdr.specs.Cursor.{IsBytes}
 use Rattle.std.proofs.lemmas.Bool.{and_parts, leb-true, ltb-true}
 use Rattle.std.proofs.lemmas.List.{length-append}
@@ -28,7 +29,6 @@ use Rattle.wire_xdr.specs.LengthLaws.{word_length}
 use Rattle.wire_xdr.specs.Words.{word_bytes}
 use Rattle.mount_fits.specs.Asking.{BackChannelFits, SlotCallIsFit}
 use Rattle.mount_fits.specs.Bounds.{TextFits}
-use Rattle.mount_fits.specs.BytesLaws.{glued, word_are}
 use Rattle.mount_fits.specs.Fitting.{ContextIsFit}
 use Rattle.mount_fits.specs.Moving.{GivesBytes, SendIsFit, SendsFit}
 use Rattle.mount_fits.specs.SendLaws as mounts

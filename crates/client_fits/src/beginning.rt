@@ -2,13 +2,12 @@ ghost use Rattle.std.specs.Prelude.{ℕ, List};
 ghost use Rattle.client_core.specs.Endings.{ways_of};
 ghost use Rattle.client_core.specs.State.{new_client};
 ghost use Rattle.client_steps.specs.declared.setting.Setting.{Setting};
-ghost use Rattle.gss_mech.specs.Realm.{Keys, realm_accepted, realm_derived, realm_finished, realm_mic, realm_started};
 ghost use Rattle.streams.specs.declared.draws.Drawn.TheVariants.{Got};
 ghost use Rattle.client_fits.specs.Known.{ClientIsFit, SettingIsFit};
 ghost use Rattle.client_fits.specs.Ways.{WaysAreFit};
 ghost use Rattle.mount_fits.specs.Bounds.{FixedFits};
 
-use mount_fits::realms_give_bytes;
+use gss_mech::{Mechanism, tokens_agree};
 use streams::Draws;
 
 /// A client that was just opened is fit, where its principal's name and the servers' locations are.
@@ -16,10 +15,10 @@ pub fn clients_begin_fit<M>()
     ensures { (s : Setting M) → SettingIsFit s → ClientIsFit (new_client s) }
 {}
 
-/// What a realm gives a client is bytes, where what is drawn are nonces of bytes.
-pub fn realm_clients_have_fit_ways<W: Draws>()
-    ensures { (s : Setting Keys) → SettingIsFit s → ((v w : W) (nonce : List ℕ) → W.gives v (Got nonce) w → FixedFits 32 nonce)
-        → WaysAreFit (ways_of realm_mic realm_derived realm_finished realm_started realm_accepted s) W.gives }
+/// What a mechanism gives a client is bytes, where what is drawn are nonces of bytes.
+pub fn clients_have_fit_ways<M: Mechanism, W: Draws>()
+    ensures { (s : Setting M) → SettingIsFit s → ((v w : W) (nonce : List ℕ) → W.gives v (Got nonce) w → FixedFits 32 nonce)
+        → WaysAreFit (ways_of M.mic_of M.derived M.finished M.started M.accepted s) W.gives }
 {
-    realms_give_bytes();
+    tokens_agree::<M>();
 }

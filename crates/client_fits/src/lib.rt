@@ -7,5 +7,5 @@
 mod beginning;
 mod staying;
 
-pub use beginning::{clients_begin_fit, realm_clients_have_fit_ways};
+pub use beginning::{clients_begin_fit, clients_have_fit_ways};
 pub use staying::clients_stay_fit;

@@ -1,3 +1,4 @@
+pub mod BytesLaws
 pub mod Hmac
 pub mod Opening
 pub mod Realm

@@ -1,15 +1,19 @@
 -- The realm's tokens agree: its laws as a mechanism.
-use Rattle.std.specs.Prelude.{◌≡◌, ℕ, ◌+◌, ◌≤◌, nat_lt, if◌then◌else◌, Bool, true, false, List, [], ◌∷◌, ◌++◌, length, take, drop, bytes_eq, Option, None, Some, option_map, is_some, IfSome, refl}
+use Rattle.std.specs.Prelude.{◌≡◌, ℕ, zero, suc, ◌+◌, ◌≤◌, nat_lt, slice_index, if◌then◌else◌, Bool, true, false, List, [], ◌∷◌, ◌++◌, length, take, drop, bytes_eq, Option, None, Some, option_map, is_some, IfSome, refl}
 use Rattle.std.proofs.Common.{subst, arith, rules}
 use Rattle.std.proofs.lemmas.List.{length-append}
 use Rattle.std.proofs.Math.Seq.{take-append_seam, drop-append_seam}
 use Rattle.std.proofs.lemmas.Slice.Eq.{bytes_eq-Decides}
+use Rattle.std.specs.Int.{to_be_bytes, w32}
 use Rattle.sha2.proofs.Facts256.{length-sha256}
+use Rattle.sha2.specs.Sha256.{digest_bytes, sha256}
+use Rattle.wire_xdr.specs.Cursor.{IsBytes}
 use Rattle.wire_xdr.specs.Words.{word_bytes, fixed_bytes, opaque_bytes}
 use Rattle.gss_mech.specs.declared.mechanism.Accepted.{Accepted}
 use Rattle.gss_mech.specs.declared.token.Opening.{Opening}
 use Rattle.gss_mech.specs.Hmac.{hmac}
-use Rattle.gss_mech.specs.Tokens.{IsNonce, IsMet, IsAgreed, IsSized}
+use Rattle.gss_mech.specs.BytesLaws.{fixed_are, glued, no_bytes, opaque_are, word_are}
+use Rattle.gss_mech.specs.Tokens.{IsNonce, IsMet, IsAgreed, IsInBytes, IsSized}
 use Rattle.gss_mech.specs.Opening.{opening}
 use Rattle.wire_xdr.specs.All.{value_of}
 use Rattle.wire_xdr.specs.AllLaws.{spelled_value}
@@ -133,3 +137,30 @@ realm_agreed = record {
 pub realm_sized : IsSized realm_mic
 unfolding realm_mic
 realm_sized key side bytes = length-hmac key (side ∷ bytes)
+
+-- ---- codes and tokens are bytes
+
+digest_are : (h : List ℕ) (n : ℕ) → IsBytes (digest_bytes h n)
+unfolding digest_bytes word_bytes
+digest_are h zero = no_bytes
+digest_are h (suc n) = glued (digest_bytes h n) (to_be_bytes w32 (slice_index h n)) (digest_are h n) (word_are (slice_index h n))
+
+hmac_are : (key text : List ℕ) → IsBytes (hmac key text)
+unfolding hmac sha256
+hmac_are key text = digest_are _ 8
+
+code_are : (key : List ℕ) (side : ℕ) (bytes : List ℕ) → IsBytes (realm_mic key side bytes)
+unfolding realm_mic
+code_are key side bytes = hmac_are key (side ∷ bytes)
+
+token_are : (principal nonce : List ℕ) (o : Option (List ℕ)) → IsBytes principal → IsBytes nonce → IfSome (option_map (λ key. opening.spell (opening_of principal nonce key)) o) IsBytes
+unfolding opening
+token_are principal nonce None p n = tt
+token_are principal nonce (Some key) p n = search (glued, opaque_are, fixed_are, p, n, hmac_are) depth 20
+
+tokens_are : (keys : Keys) (principal nonce : List ℕ) → IsBytes principal → IsBytes nonce → IfSome (realm_started keys principal nonce) IsBytes
+unfolding realm_started
+tokens_are keys principal nonce p n = token_are principal nonce (key_of keys principal) p n
+
+pub realm_in_bytes : IsInBytes realm_mic realm_started
+realm_in_bytes = record { codes = code_are; tokens = tokens_are }

@@ -1,6 +1,7 @@
 -- What every mechanism's tokens owe (RFC 2203 section 5.2): two ends of one realm come to one key.
 use Rattle.std.specs.Prelude.{◌≡◌, ℕ, ◌≤◌, List, length, Option, Some, None, is_some, IfSome}
 use Rattle.gss_mech.specs.declared.mechanism.Accepted.{Accepted}
+use Rattle.wire_xdr.specs.Cursor.{IsBytes}
 
 -- a nonce has 32 bytes
 abbrev pub IsNonce : List ℕ → Type 0
@@ -32,7 +33,16 @@ pub record IsAgreed {S : Type 0}
 abbrev pub IsSized : (List ℕ → ℕ → List ℕ → List ℕ) → Type 0
 IsSized mic_of = (key : List ℕ) (side : ℕ) (bytes : List ℕ) → length (mic_of key side bytes) ≡ 32
 
--- the same of a mechanism that is seen through another value
+-- Every code is bytes, and so is each token that a principal starts.
+pub record IsInBytes {S : Type 0} (mic_of : List ℕ → ℕ → List ℕ → List ℕ) (started : S → List ℕ → List ℕ → Option (List ℕ)) : Type 0 where
+  pub codes : (key : List ℕ) (side : ℕ) (bytes : List ℕ) → IsBytes (mic_of key side bytes)
+  pub tokens : (mech : S) (principal nonce : List ℕ) → IsBytes principal → IsBytes nonce → IfSome (started mech principal nonce) IsBytes
+
+-- both of a mechanism that is seen through another value
+pub bytes_along : {R S : Type 0} {mic_of : List ℕ → ℕ → List ℕ → List ℕ} {started : S → List ℕ → List ℕ → Option (List ℕ)} (seen : R → S) → IsInBytes mic_of started
+    → IsInBytes mic_of (λ (r : R). started (seen r))
+bytes_along seen law = record { codes = law.codes; tokens = λ mech. law.tokens (seen mech) }
+
 pub along : {R S : Type 0}
     {started : S → List ℕ → List ℕ → Option (List ℕ)}
     {accepted : S → List ℕ → List ℕ → Option Accepted}

@@ -1,7 +1,7 @@
 ghost use Rattle.std.specs.Prelude.{◌≡◌, ℕ, List, IfOk};
 ghost use Rattle.std.specs.declared.option.Option.{Option};
 ghost use Rattle.gss_mech.specs.declared.mechanism.Accepted.{Accepted};
-ghost use Rattle.gss_mech.specs.Tokens.{IsAgreed, IsSized, along};
+ghost use Rattle.gss_mech.specs.Tokens.{IsAgreed, IsInBytes, IsSized, along, bytes_along};
 
 use outcome::Mem;
 use std::alloc::Global;
@@ -67,14 +67,18 @@ pub trait Mechanism: Drop {
 
     // Every code has 32 bytes.
     ghost sized: { IsSized mic_of };
+
+    // Codes and tokens are bytes.
+    ghost in_bytes: { IsInBytes mic_of started };
 }
 
 /// Of every mechanism: what a principal of the realm starts is accepted as its own, and what goes back
 /// finishes with the same key; whether a token is accepted doesn't depend on the acceptor's nonce; and no
-/// token is longer than 4,096 bytes. Every code has 32 bytes.
+/// token is longer than 4,096 bytes. Every code has 32 bytes, and codes and tokens are bytes.
 pub fn tokens_agree<M: Mechanism>()
     ensures tokens { IsAgreed M.started M.accepted M.finished }
     ensures codes { IsSized M.mic_of }
+    ensures in_bytes { IsInBytes M.mic_of M.started }
 {}
 
 impl<M: Mechanism> Mechanism for &M {
@@ -111,4 +115,6 @@ impl<M: Mechanism> Mechanism for &M {
     ghost agreed = { along (λ mech. mech.now) M.agreed };
 
     ghost sized = { M.sized };
+
+    ghost in_bytes = { bytes_along (λ mech. mech.now) M.in_bytes };
 }

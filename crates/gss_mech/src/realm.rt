@@ -1,7 +1,7 @@
 ghost use Rattle.std.specs.Prelude.{◌≡◌, ◌≤◌, ◌∷◌, [], length, IsSome, IfOk};
 ghost use Rattle.std.specs.Option.{option_copied};
 ghost use Rattle.gss_mech.specs.Realm.{Keys, key_of, listed_key, opening_code, context_key, reply_code, reply_token, realm_mic, realm_derived, realm_started, realm_accepted, realm_finished};
-ghost use Rattle.gss_mech.specs.RealmLaws.{realm_agreed, realm_sized};
+ghost use Rattle.gss_mech.specs.RealmLaws.{realm_agreed, realm_in_bytes, realm_sized};
 
 use crate::hmac::hmac_of_parts;
 use crate::mechanism::{Accepted, Mechanism};
@@ -170,4 +170,6 @@ impl Mechanism for Realm {
     ghost agreed = { realm_agreed };
 
     ghost sized = { realm_sized };
+
+    ghost in_bytes = { realm_in_bytes };
 }

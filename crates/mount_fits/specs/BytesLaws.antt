@@ -1,8 +1,8 @@
 -- What is spelled is bytes, and of bytes each part is.
-use Rattle.std.proofs.Common.{ℕ, zero, suc, ◌<◌, ◌%◌, ◌/◌, ◌^◌, Bool, List, [], ◌∷◌, ◌++◌, length, replicate, refl, subst, arith}
-use Rattle.std.specs.Int.{byte_at, bytes_high_first}
+use Rattle.std.proofs.Common.{ℕ, Bool, List, [], ◌∷◌, ◌++◌, length, replicate, refl, subst}
 use Rattle.std.specs.List.{AllByRecursion, flat_map}
 use Rattle.std.proofs.lemmas.List.{drop_at, take_at}
+use Rattle.gss_mech.specs.BytesLaws.{fixed_are, glued, high_first, no_bytes, opaque_are, word_are}
 use Rattle.nfs_base.specs.Forms.{state_id}
 use Rattle.nfs_base.specs.declared.state_id.StateId.{StateId}
 use Rattle.wire_xdr.specs.Cursor.{IsBytes}
@@ -11,34 +11,6 @@ use Rattle.wire_xdr.specs.Parts.{list_spell}
 use Rattle.wire_xdr.specs.StepLaws.{IsBytes-drop, IsBytes-take}
 use Rattle.wire_xdr.specs.Words.{fixed_bytes, flag_bytes, hyper_bytes, opaque_bytes, padding, word_bytes}
 
-pub no_bytes : IsBytes []
-no_bytes i = omega arith
-
-pub one_more : (x : ℕ) (xs : List ℕ) → x < 256 → IsBytes xs → IsBytes (x ∷ xs)
-one_more x xs small h zero = small
-one_more x xs small h (suc i) = h i
-
-pub glued : (xs ys : List ℕ) → IsBytes xs → IsBytes ys → IsBytes (xs ++ ys)
-glued [] ys h k = k
-glued (x ∷ xs) ys h k = one_more x (xs ++ ys) (h 0) (glued xs ys (λ i. h (suc i)) k)
-
--- ---- numbers
-
-below : (n : ℕ) → n % 256 < 256
-below n = omega arith
-
-byte_below : (i n : ℕ) → byte_at i n < 256
-byte_below zero n = below n
-byte_below (suc i) n = below (n / 256 ^ suc i)
-
-high_first : (k n : ℕ) → IsBytes (bytes_high_first k n)
-high_first zero n = no_bytes
-high_first (suc k) n = one_more (byte_at k n) (bytes_high_first k n) (byte_below k n) (high_first k n)
-
-pub word_are : (n : ℕ) → IsBytes (word_bytes n)
-unfolding word_bytes
-word_are n = high_first 4 n
-
 pub hyper_are : (n : ℕ) → IsBytes (hyper_bytes n)
 unfolding hyper_bytes
 hyper_are n = high_first 8 n
@@ -46,20 +18,6 @@ hyper_are n = high_first 8 n
 pub flag_are : (b : Bool) → IsBytes (flag_bytes b)
 unfolding flag_bytes
 flag_are b = word_are _
-
--- ---- bytes with padding, and behind their length
-
-zeros : (n : ℕ) → IsBytes (replicate n 0)
-zeros zero = no_bytes
-zeros (suc n) = one_more 0 (replicate n 0) (omega arith) (zeros n)
-
-pub fixed_are : (bytes : List ℕ) → IsBytes bytes → IsBytes (fixed_bytes bytes)
-unfolding fixed_bytes
-fixed_are bytes h = glued bytes (replicate (padding (length bytes)) 0) h (zeros (padding (length bytes)))
-
-pub opaque_are : (bytes : List ℕ) → IsBytes bytes → IsBytes (opaque_bytes bytes)
-unfolding opaque_bytes
-opaque_are bytes h = glued (word_bytes (length bytes)) (fixed_bytes bytes) (word_are (length bytes)) (fixed_are bytes h)
 
 -- ---- lists
 

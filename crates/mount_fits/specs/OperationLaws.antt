@@ -11,6 +11,7 @@ use Rattle.file_ops.specs.Parms.{channel_attrs, gss_parm, sec_parm}
 use Rattle.file_ops.specs.Sessions.{create_session_args, exchange_id_args, protection, sequence_args}
 use Rattle.file_ops.specs.declared.args.FileArg.TheVariants as files
 use Rattle.file_ops.specs.declared.files.TheConstants.{ATTR_CHANGE}
+use Rattle.gss_mech.specs.BytesLaws.{fixed_are, glued, no_bytes, opaque_are, word_are}
 use Rattle.nfs_base.specs.Forms.{handle, net_loc, stability, state_id}
 use Rattle.nfs_base.specs.declared.limits.TheConstants.{NAME_LIMIT}
 use Rattle.nfs_base.specs.declared.net_loc.NetLoc.{NetLoc}
@@ -36,7 +37,7 @@ use Rattle.wire_xdr.specs.Cursor.{IsBytes}
 use Rattle.wire_xdr.specs.Forms.{word}
 use Rattle.wire_xdr.specs.Parts.{option_spell}
 use Rattle.wire_xdr.specs.Words.{flag_bytes, hyper_bytes, opaque_bytes, word_bytes}
-use Rattle.mount_fits.specs.BytesLaws.{fixed_are, flag_are, glued, hyper_are, list_are, no_bytes, opaque_are, state_id_are, word_are}
+use Rattle.mount_fits.specs.BytesLaws.{flag_are, hyper_are, list_are, state_id_are}
 use Rattle.mount_fits.specs.Asking.{AskedIsFit, BackChannelFits, FileCallIsFit, SlotCallIsFit, SoleCallIsFit}
 use Rattle.mount_fits.specs.Bounds.{FixedFits, HandleFits, NetLocFits, RangeFits, SlotUseFits, StateIdFits, TextFits}
 

@@ -3,6 +3,7 @@ use Rattle.std.proofs.Common.{ℕ, List, ◌++◌}
 use Rattle.gss_ctx.specs.Calls.{Side, call_cred}
 use Rattle.gss_ctx.specs.Init.{asked_cred, init_head, init_message}
 use Rattle.gss_ctx.specs.Seals.{Mic, sealed_body}
+use Rattle.gss_mech.specs.BytesLaws.{glued, no_bytes, opaque_are, word_are}
 use Rattle.gss_mech.specs.declared.mechanism.TheConstants.{INITIATOR}
 use Rattle.rpc_msg.specs.GssCred.{gss_cred}
 use Rattle.rpc_msg.specs.Heads.{auth, call}
@@ -13,7 +14,6 @@ use Rattle.session_client.specs.Sealing.{call_under, gss_proc_of}
 use Rattle.session_client.specs.declared.sealing.CallKind.{CallKind}
 use Rattle.wire_xdr.specs.Cursor.{IsBytes}
 use Rattle.wire_xdr.specs.Words.{opaque_bytes, word_bytes}
-use Rattle.mount_fits.specs.BytesLaws.{glued, no_bytes, opaque_are, word_are}
 use Rattle.mount_fits.specs.Moving.{GivesBytes}
 
 cred_are : (cred : GssCred) → IsBytes cred.handle → IsBytes (gss_cred.spell cred)

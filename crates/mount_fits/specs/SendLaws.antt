@@ -8,6 +8,7 @@ use Rattle.gss_ctx.specs.Forms.{create}
 use Rattle.gss_ctx.specs.Seals.{Mic}
 use Rattle.caller_laws.specs.Lawful.{asked_by}
 use Rattle.caller_laws.specs.Moves.{Send, Begin, BeginAnew, SetUp, Reclaim, InSlot, Make, Finish, Again, sent_by}
+use Rattle.gss_mech.specs.BytesLaws.{glued, no_bytes, opaque_are, word_are}
 use Rattle.mount.specs.Sending as sends
 use Rattle.mount.specs.Sending.{awaits_anew, begun, begun_by, call_awaits, contexts_after, ended_in, ending_bare, ending_by, ending_call, ending_of, init_awaits, numbered, name_under, numbered_in, pending_under, sealed_so, sent_under, session_in, slot_asked, slot_asked_in, slotted, slotted_by, step_asked, stepped_in, under_anew}
 use Rattle.mount.specs.State.{Mounted, awaited_at, awaiting_at, context_of, kept_in, root_name, setup_in}
@@ -38,7 +39,6 @@ use Rattle.session_client.specs.declared.setup.Setup.{Setup}
 use Rattle.session_client.specs.declared.setup.Setup.TheVariants as setups
 use Rattle.wire_xdr.specs.Cursor.{IsBytes}
 use Rattle.wire_xdr.specs.LengthLaws.{opaque_bounded, word_length}
-use Rattle.mount_fits.specs.BytesLaws.{glued, no_bytes, opaque_are, word_are}
 use Rattle.mount_fits.specs.ListLaws.{changed_holds, found_holds, set_holds}
 use Rattle.mount_fits.specs.OperationLaws.{slot_fits, sole_fits}
 use Rattle.mount_fits.specs.SealedLaws.{call_are, init_are}

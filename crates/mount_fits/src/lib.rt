@@ -6,9 +6,7 @@
 #![tactic(auto)]
 
 mod asking;
-mod codes;
 mod moving;
 
 pub use asking::calls_are_spelled;
-pub use codes::realms_give_bytes;
 pub use moving::{mounts_stay_fit, what_is_asked_is_spelled, what_is_heard_is_fit};
