@@ -1,8 +1,8 @@
 -- What a client asks of itself is fit, where what it knows is.
 use Rattle.std.proofs.Common.{◌≡◌, ℕ, zero, suc, ◌+◌, ◌<◌, ◌≤◌, ◌^◌, ◌%◌, ◌/◌, Bool, true, false, List, [], ◌∷◌, length, Option, Some, None, refl, arith}
-use Rattle.std.specs.Prelude.{◌==◌, ◌&&◌, IfSome, codes, decimal, if◌then◌else◌, nat_le, nat_lt}
+use Rattle.std.specs.Prelude.{◌==◌, IfSome, codes, decimal, if◌then◌else◌, nat_le, nat_lt}
 use Rattle.std.specs.Fmt.{digit_glyph, digits, digits_onto}
-use Rattle.std.proofs.lemmas.Bool.{and_parts, leb-true, ltb-true}
+use Rattle.std.proofs.lemmas.Bool.{leb-true}
 use Rattle.std.proofs.lemmas.Fmt.{length-decimal-le}
 use Rattle.client_copies.specs.declared.copy.ClientCopy.{ClientCopy}
 use Rattle.client_copies.specs.declared.copy.First.{First}
@@ -33,7 +33,7 @@ use Rattle.write_queue.specs.declared.work.Work.{Work}
 use Rattle.write_queue.specs.declared.work.Work.TheVariants.{Write, Commit}
 use Rattle.mount_fits.specs.Asking.{SlotCallIsFit}
 use Rattle.mount_fits.specs.Bounds.{StateIdFits, TextFits}
-use Rattle.mount_fits.specs.BytesLaws.{list_are}
+use Rattle.mount_fits.specs.BytesLaws.{all_below, below_are, list_are}
 use Rattle.mount_fits.specs.Fitting.{SetupIsFit, StandingIsFit}
 use Rattle.mount_fits.specs.ListLaws.{found_holds}
 use Rattle.mount_fits.specs.OperationLaws.{loc_are}
@@ -144,17 +144,6 @@ work_fits opened_file (Write file offset bytes) f w =
 work_fits opened_file (Commit file) f w = (f.handle, tt)
 
 -- ---- privileges
-
-all_below : List ℕ → Bool
-all_below [] = true
-all_below (x ∷ xs) = nat_lt x 256 && all_below xs
-
-below_are : (xs : List ℕ) → all_below xs ≡ true → IsBytes xs
-unfolding all_below
-below_are [] e = no_bytes
-below_are (x ∷ xs) e =
-    let parts = and_parts (nat_lt x 256) (all_below xs) e in
-    one_more x xs (ltb-true x 256 parts.0) (below_are xs parts.1)
 
 pub privilege_are : {M : Type 0} (s : Setting M) (side : Side) (secret : List ℕ) → SettingIsFit s → IsBytes secret → IsBytes (privilege_spell (privilege_at s side secret))
 unfolding privilege

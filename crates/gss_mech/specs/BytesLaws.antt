@@ -1,6 +1,8 @@
 -- What is spelled of bytes is bytes.
 use Rattle.std.proofs.Common.{ℕ, zero, suc, ◌<◌, ◌%◌, ◌/◌, ◌^◌, List, [], ◌∷◌, ◌++◌, length, replicate, arith}
-use Rattle.std.specs.Int.{byte_at, bytes_high_first}
+use Rattle.std.specs.Int.{byte_at, bytes_high_first, to_be_bytes, w32}
+use Rattle.std.specs.Prelude.{slice_index}
+use Rattle.sha2.specs.Sha256.{digest_bytes}
 use Rattle.wire_xdr.specs.Cursor.{IsBytes}
 use Rattle.wire_xdr.specs.Words.{fixed_bytes, opaque_bytes, padding, word_bytes}
 
@@ -45,3 +47,10 @@ fixed_are bytes h = glued bytes (replicate (padding (length bytes)) 0) h (zeros 
 pub opaque_are : (bytes : List ℕ) → IsBytes bytes → IsBytes (opaque_bytes bytes)
 unfolding opaque_bytes
 opaque_are bytes h = glued (word_bytes (length bytes)) (fixed_bytes bytes) (word_are (length bytes)) (fixed_are bytes h)
+
+-- ---- digests (FIPS 180-4 section 6.2)
+
+pub digest_are : (h : List ℕ) (n : ℕ) → IsBytes (digest_bytes h n)
+unfolding digest_bytes word_bytes
+digest_are h zero = no_bytes
+digest_are h (suc n) = glued (digest_bytes h n) (to_be_bytes w32 (slice_index h n)) (digest_are h n) (word_are (slice_index h n))

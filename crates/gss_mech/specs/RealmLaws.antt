@@ -1,18 +1,17 @@
 -- The realm's tokens agree: its laws as a mechanism.
-use Rattle.std.specs.Prelude.{◌≡◌, ℕ, zero, suc, ◌+◌, ◌≤◌, nat_lt, slice_index, if◌then◌else◌, Bool, true, false, List, [], ◌∷◌, ◌++◌, length, take, drop, bytes_eq, Option, None, Some, option_map, is_some, IfSome, refl}
+use Rattle.std.specs.Prelude.{◌≡◌, ℕ, ◌+◌, ◌≤◌, nat_lt, if◌then◌else◌, Bool, true, false, List, [], ◌∷◌, ◌++◌, length, take, drop, bytes_eq, Option, None, Some, option_map, is_some, IfSome, refl}
 use Rattle.std.proofs.Common.{subst, arith, rules}
 use Rattle.std.proofs.lemmas.List.{length-append}
 use Rattle.std.proofs.Math.Seq.{take-append_seam, drop-append_seam}
 use Rattle.std.proofs.lemmas.Slice.Eq.{bytes_eq-Decides}
-use Rattle.std.specs.Int.{to_be_bytes, w32}
 use Rattle.sha2.proofs.Facts256.{length-sha256}
-use Rattle.sha2.specs.Sha256.{digest_bytes, sha256}
+use Rattle.sha2.specs.Sha256.{sha256}
 use Rattle.wire_xdr.specs.Cursor.{IsBytes}
 use Rattle.wire_xdr.specs.Words.{word_bytes, fixed_bytes, opaque_bytes}
 use Rattle.gss_mech.specs.declared.mechanism.Accepted.{Accepted}
 use Rattle.gss_mech.specs.declared.token.Opening.{Opening}
 use Rattle.gss_mech.specs.Hmac.{hmac}
-use Rattle.gss_mech.specs.BytesLaws.{fixed_are, glued, no_bytes, opaque_are, word_are}
+use Rattle.gss_mech.specs.BytesLaws.{digest_are, fixed_are, glued, opaque_are}
 use Rattle.gss_mech.specs.Tokens.{IsNonce, IsMet, IsAgreed, IsInBytes, IsSized}
 use Rattle.gss_mech.specs.Opening.{opening}
 use Rattle.wire_xdr.specs.All.{value_of}
@@ -139,11 +138,6 @@ unfolding realm_mic
 realm_sized key side bytes = length-hmac key (side ∷ bytes)
 
 -- ---- codes and tokens are bytes
-
-digest_are : (h : List ℕ) (n : ℕ) → IsBytes (digest_bytes h n)
-unfolding digest_bytes word_bytes
-digest_are h zero = no_bytes
-digest_are h (suc n) = glued (digest_bytes h n) (to_be_bytes w32 (slice_index h n)) (digest_are h n) (word_are (slice_index h n))
 
 hmac_are : (key text : List ℕ) → IsBytes (hmac key text)
 unfolding hmac sha256

@@ -1,8 +1,10 @@
 -- What is spelled is bytes, and of bytes each part is.
-use Rattle.std.proofs.Common.{ℕ, Bool, List, [], ◌∷◌, ◌++◌, length, replicate, refl, subst}
+use Rattle.std.proofs.Common.{◌≡◌, ℕ, ◌<◌, Bool, true, List, [], ◌∷◌, ◌++◌, length, replicate, refl, subst}
+use Rattle.std.proofs.lemmas.Bool.{and_parts, ltb-true}
+use Rattle.std.specs.Prelude.{◌&&◌, nat_lt}
 use Rattle.std.specs.List.{AllByRecursion, flat_map}
 use Rattle.std.proofs.lemmas.List.{drop_at, take_at}
-use Rattle.gss_mech.specs.BytesLaws.{fixed_are, glued, high_first, no_bytes, opaque_are, word_are}
+use Rattle.gss_mech.specs.BytesLaws.{fixed_are, glued, high_first, no_bytes, one_more, opaque_are, word_are}
 use Rattle.nfs_base.specs.Forms.{state_id}
 use Rattle.nfs_base.specs.declared.state_id.StateId.{StateId}
 use Rattle.wire_xdr.specs.Cursor.{IsBytes}
@@ -10,6 +12,18 @@ use Rattle.wire_xdr.specs.Form.{Form}
 use Rattle.wire_xdr.specs.Parts.{list_spell}
 use Rattle.wire_xdr.specs.StepLaws.{IsBytes-drop, IsBytes-take}
 use Rattle.wire_xdr.specs.Words.{fixed_bytes, flag_bytes, hyper_bytes, opaque_bytes, padding, word_bytes}
+
+-- a text that is there
+unfoldable pub all_below : List ℕ → Bool
+all_below [] = true
+all_below (x ∷ xs) = nat_lt x 256 && all_below xs
+
+pub below_are : (xs : List ℕ) → all_below xs ≡ true → IsBytes xs
+unfolding all_below
+below_are [] e = no_bytes
+below_are (x ∷ xs) e =
+    let parts = and_parts (nat_lt x 256) (all_below xs) e in
+    one_more x xs (ltb-true x 256 parts.0) (below_are xs parts.1)
 
 pub hyper_are : (n : ℕ) → IsBytes (hyper_bytes n)
 unfolding hyper_bytes

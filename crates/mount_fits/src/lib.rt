@@ -6,7 +6,9 @@
 #![tactic(auto)]
 
 mod asking;
+mod codes;
 mod moving;
 
 pub use asking::calls_are_spelled;
+pub use codes::counted_draws_are_nonces;
 pub use moving::{mounts_stay_fit, what_is_asked_is_spelled, what_is_heard_is_fit};
