@@ -63,9 +63,9 @@ executed_as who place tag a w r e =
 
 -- ---- an answer without a call on the volume
 
-pub ran_told : {told D X E : Type 0} (size : D → ℕ) (new : Server D X) (r : Result Reply E) (g : Given X) (old after : Seat)
-    → IfOk r (λ told. given_of size new told ≡ g) → g.used ≡ [] → after ≡ old → IfOk r (λ reply. Counted told old after [] reply.used)
-ran_told {told} size new (Err e) g old after gives none same = tt
-ran_told {told} size new (Ok reply) g old after gives none same =
+pub ran_told : {D X E : Type 0} (told : Type 0) (size : D → ℕ) (new : Server D X) (r : Result Reply E) (g : Given X) (old after : Seat)
+    → IfOk r (λ reply. given_of size new reply ≡ g) → g.used ≡ [] → after ≡ old → IfOk r (λ reply. Counted told old after [] reply.used)
+ran_told told size new (Err e) g old after gives none same = tt
+ran_told told size new (Ok reply) g old after gives none same =
     subst (λ (s : Seat). Counted told old s [] reply.used) (sym same)
     (subst (λ (us : List Used). Counted told old old [] us) (sym (ap (λ t. t.used) gives ∙ none)) (counted_none told old []))

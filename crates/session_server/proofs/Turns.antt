@@ -17,11 +17,11 @@ ran_still {told} size fuse timeline faults old new used same none =
     subst (λ (v : Opened _). Counted told (seat_of size fuse timeline faults old) (seat_of size fuse timeline faults v) [] used) (sym same)
     (subst (λ (us : List Used). Counted told (seat_of size fuse timeline faults old) (seat_of size fuse timeline faults old) [] us) (sym none) (counted_none told _ []))
 
-pub ran_unused : {told D E : Type 0} (size : D → ℕ) (fuse : D → Fuse) (timeline : D → Timeline) (faults : D → ℕ) {old new : Opened D} (r : Result Outbox E)
+pub ran_unused : {D E : Type 0} (told : Type 0) (size : D → ℕ) (fuse : D → Fuse) (timeline : D → Timeline) (faults : D → ℕ) {old new : Opened D} (r : Result Outbox E)
     → new ≡ old → IfOk r (λ out. out.used ≡ [])
     → IfOk r (λ out. Counted told (seat_of size fuse timeline faults old) (seat_of size fuse timeline faults new) [] out.used)
-ran_unused {told} size fuse timeline faults {old = old} {new = new} (Ok out) same none = ran_still size fuse timeline faults old new out.used same none
-ran_unused {told} size fuse timeline faults (Err e) same none = tt
+ran_unused told size fuse timeline faults {old = old} {new = new} (Ok out) same none = ran_still size fuse timeline faults old new out.used same none
+ran_unused told size fuse timeline faults (Err e) same none = tt
 
 -- a step that draws nothing tells of no draw that failed
 pub none_failed : {E : Type 0} (before now : ℕ) (r : Result Outbox E) → IfOk r (λ out. out.undrawn ≡ false)

@@ -14,11 +14,11 @@ use Rattle.compound_server.proofs.server.Server.by_first.Goals.{in_default-via-i
 
 pub returns-then-is_empty-clause-ran : goal.returns-then-is_empty-clause-ran
 returns-then-is_empty-clause-ran g c =
-    ran_told g.D.Disk.size c.at_tail.new.self c.at_tail.result _ _ _ c.at_tail.ensures.gives refl (ap (seat_of g.D.Disk.size g.D.Disk.fuse g.D.Disk.timeline g.D.Disk.faults) c.at_tail.ensures.volume)
+    ran_told g.D.Disk.Told g.D.Disk.size c.at_tail.new.self c.at_tail.result _ _ _ c.at_tail.ensures.gives refl (ap (seat_of g.D.Disk.size g.D.Disk.fuse g.D.Disk.timeline g.D.Disk.faults) c.at_tail.ensures.volume)
 
 pub returns-in_default-clause-ran : goal.returns-in_default-clause-ran
 returns-in_default-clause-ran g c =
-    ran_told g.D.Disk.size c.outside_session.new.self c.outside_session.result _ _ _ c.outside_session.ensures.gives (outside_used _ _ _ _ _ _ _ _ _) (ap (seat_of g.D.Disk.size g.D.Disk.fuse g.D.Disk.timeline g.D.Disk.faults) c.outside_session.ensures.volume)
+    ran_told g.D.Disk.Told g.D.Disk.size c.outside_session.new.self c.outside_session.result _ _ _ c.outside_session.ensures.gives (outside_used _ _ _ _ _ _ _ _ _) (ap (seat_of g.D.Disk.size g.D.Disk.fuse g.D.Disk.timeline g.D.Disk.faults) c.outside_session.ensures.volume)
 
 pub returns-in_default-clause-gives : goal.returns-in_default-clause-gives
 returns-in_default-clause-gives g c told =
