@@ -97,23 +97,23 @@ start_lives (Hears side message now) c t j ws many may same life = subst (λ (u 
 pub few_of : (n : ℕ) → n ≡ MOST_COPIES → n ≤ 256
 few_of n e = omega (arith, e)
 
-run_from : {M W : Type 0} (ways : Ways) (gives : W → Drawn → W → Type 0) (turns : List Turn) (c d : ClientState M) (v w : W) (told : List Note) (j : ℕ) (ws : List Word)
-    → length c.copies.copies ≡ MOST_COPIES → Lives (copy_at j c.copies) ws → IsRun ways gives turns c v d w told → Lives (copy_at j d.copies) (ws ++ words_of j told)
-run_from ways gives [] c d v w told j ws many life run =
-    subst (λ (ns : List Note). Lives (copy_at j d.copies) (ws ++ words_of j ns)) (sym run.2)
+run_from : {M W : Type 0} (ways : Ways) (gives : W → Drawn → W → Type 0) (turns : List Turn) (c d : ClientState M) (told : List Note) (j : ℕ) (ws : List Word)
+    → length c.copies.copies ≡ MOST_COPIES → Lives (copy_at j c.copies) ws → IsRun ways gives turns c d told → Lives (copy_at j d.copies) (ws ++ words_of j told)
+run_from ways gives [] c d told j ws many life run =
+    subst (λ (ns : List Note). Lives (copy_at j d.copies) (ws ++ words_of j ns)) (sym run.1)
     (subst (λ (x : ClientState _). Lives (copy_at j x.copies) (ws ++ [])) (sym run.0)
     (subst (λ (xs : List Word). Lives (copy_at j c.copies) xs) (sym (append-nil ws)) life))
-run_from ways gives (turn ∷ turns) c d v w told j ws many life run =
+run_from ways gives (turn ∷ turns) c d told j ws many life run =
     let e = run.0 in
     let out = run.1 in
-    let more = run.3 in
-    let changes = turn_changes ways gives turn c v run.2 e out (few_of (length c.copies.copies) many) run.4 run.5 in
-    let start = start_lives turn c changes.start j ws many run.4 changes.begins life in
+    let more = run.4 in
+    let changes = turn_changes ways gives turn c run.2 run.3 e out (few_of (length c.copies.copies) many) run.5 run.6 in
+    let start = start_lives turn c changes.start j ws many run.5 changes.begins life in
     let next = lived_on _ (copy_at j changes.start) (copy_at j e.copies) ws (words_of j out.notes) start (changes.each j) in
-    let rest = run_from ways gives turns e d run.2 w more j (ws ++ words_of j out.notes) (changes.many ∙ many) next run.7 in
+    let rest = run_from ways gives turns e d more j (ws ++ words_of j out.notes) (changes.many ∙ many) next run.8 in
     subst (λ (xs : List Word). Lives (copy_at j d.copies) xs)
     (append_assoc ws (words_of j out.notes) (words_of j more)
-    ∙ ap (λ (xs : List Word). ws ++ xs) (sym (words_append j out.notes more) ∙ ap (words_of j) (sym run.6))) rest
+    ∙ ap (λ (xs : List Word). ws ++ xs) (sym (words_append j out.notes more) ∙ ap (words_of j) (sym run.7))) rest
 
 none_in : {X : Type 0} (n j : ℕ) → get_or (replicate {A = Option X} n None) j None ≡ None
 none_in zero zero = refl
@@ -124,9 +124,9 @@ none_in (suc n) (suc j) = none_in n j
 pub none_at : (j : ℕ) → copy_at j no_copies ≡ None
 none_at j = none_in MOST_COPIES j
 
-pub run_lives : {M W : Type 0} (ways : Ways) (gives : W → Drawn → W → Type 0) (turns : List Turn) (s : Setting M) (d : ClientState M) (v w : W) (told : List Note) (j : ℕ)
-    → IsRun ways gives turns (new_client s) v d w told → Lives (copy_at j d.copies) (words_of j told)
-run_lives ways gives turns s d v w told j run = run_from ways gives turns (new_client s) d v w told j [] (length-replicate {A = Option ClientCopy} MOST_COPIES None) (inl (none_at j, refl)) run
+pub run_lives : {M W : Type 0} (ways : Ways) (gives : W → Drawn → W → Type 0) (turns : List Turn) (s : Setting M) (d : ClientState M) (told : List Note) (j : ℕ)
+    → IsRun ways gives turns (new_client s) d told → Lives (copy_at j d.copies) (words_of j told)
+run_lives ways gives turns s d told j run = run_from ways gives turns (new_client s) d told j [] (length-replicate {A = Option ClientCopy} MOST_COPIES None) (inl (none_at j, refl)) run
 
 -- ---- what follows for the words, by the laws of a copy (`client_copies`)
 

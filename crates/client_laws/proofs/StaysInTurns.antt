@@ -83,29 +83,29 @@ start_same (Hears side message now) c t j may same x there = ap (copy_at j) same
 
 -- ---- the copies stay as many
 
-many_from : {M W : Type 0} (ways : Ways) (gives : W → Drawn → W → Type 0) (turns : List Turn) (c d : ClientState M) (v w : W) (told : List Note)
-    → length c.copies.copies ≡ MOST_COPIES → IsRun ways gives turns c v d w told → length d.copies.copies ≡ MOST_COPIES
-many_from ways gives [] c d v w told many run = ap (λ (x : ClientState _). length x.copies.copies) run.0 ∙ many
-many_from ways gives (turn ∷ turns) c d v w told many run =
-    let changes = turn_changes ways gives turn c v run.2 run.0 run.1 (few_of (length c.copies.copies) many) run.4 run.5 in
-    many_from ways gives turns run.0 d run.2 w run.3 (changes.many ∙ many) run.7
+many_from : {M W : Type 0} (ways : Ways) (gives : W → Drawn → W → Type 0) (turns : List Turn) (c d : ClientState M) (told : List Note)
+    → length c.copies.copies ≡ MOST_COPIES → IsRun ways gives turns c d told → length d.copies.copies ≡ MOST_COPIES
+many_from ways gives [] c d told many run = ap (λ (x : ClientState _). length x.copies.copies) run.0 ∙ many
+many_from ways gives (turn ∷ turns) c d told many run =
+    let changes = turn_changes ways gives turn c run.2 run.3 run.0 run.1 (few_of (length c.copies.copies) many) run.5 run.6 in
+    many_from ways gives turns run.0 d run.4 (changes.many ∙ many) run.8
 
-module _ {M W : Type 0} (ways : Ways) (gives : W → Drawn → W → Type 0) (turns : List Turn) (s : Setting M) (c : ClientState M) (u v : W) (told : List Note) (turn : Turn)
-    (d : ClientState M) (w : W) (out : Outbox) (j : ℕ) (run : IsRun ways gives turns (new_client s) u c v told) (may : MayTurn turn c)
+module _ {M W : Type 0} (ways : Ways) (gives : W → Drawn → W → Type 0) (turns : List Turn) (s : Setting M) (c : ClientState M) (told : List Note) (turn : Turn)
+    (d : ClientState M) (v w : W) (out : Outbox) (j : ℕ) (run : IsRun ways gives turns (new_client s) c told) (may : MayTurn turn c)
     (step : IsTurn ways gives turn c v w (d, out)) where
   changes : TurnChanges ways turn c d out
   changes =
-      let many = many_from ways gives turns (new_client s) c u v told (length-replicate {A = Option ClientCopy} MOST_COPIES None) run in
+      let many = many_from ways gives turns (new_client s) c told (length-replicate {A = Option ClientCopy} MOST_COPIES None) run in
       turn_changes ways gives turn c v w d out (few_of (length c.copies.copies) many) may step
 
   pub first_in_turn : (known : First) → Knew (λ (x : ClientCopy). x.first) known (copy_at j c.copies) → Knew (λ (x : ClientCopy). x.first) known (copy_at j d.copies)
   first_in_turn known knew =
       let t = changes in
       stays_first (Cause ways turn c j) known (copy_at j c.copies) (copy_at j t.start) (copy_at j d.copies) (words_of j told) (words_of j out.notes)
-      (run_lives ways gives turns s c u v told j run) (start_same turn c t.start j may t.begins) (t.each j) knew
+      (run_lives ways gives turns s c told j run) (start_same turn c t.start j may t.begins) (t.each j) knew
 
   pub id_in_turn : (id : StateId) → Knew (λ (x : ClientCopy). x.id) id (copy_at j c.copies) → Knew (λ (x : ClientCopy). x.id) id (copy_at j d.copies)
   id_in_turn id knew =
       let t = changes in
       stays_id (Cause ways turn c j) id (copy_at j c.copies) (copy_at j t.start) (copy_at j d.copies) (words_of j told) (words_of j out.notes)
-      (run_lives ways gives turns s c u v told j run) (start_same turn c t.start j may t.begins) (t.each j) knew
+      (run_lives ways gives turns s c told j run) (start_same turn c t.start j may t.begins) (t.each j) knew

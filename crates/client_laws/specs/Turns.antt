@@ -43,10 +43,10 @@ abbrev pub begins : ℕ → Turn → Bool
 begins j (Begins i spec now) = i == j
 begins j _ = false
 
--- a run of turns, and all that was told in it
-abbrev pub IsRun : {M W : Type 0} → Ways → (W → Drawn → W → Type 0) → List Turn → ClientState M → W → ClientState M → W → List Note → Type 0
-IsRun ways gives [] c v d w told = (d ≡ c) × (w ≡ v) × (told ≡ [])
-IsRun {M} {W} ways gives (turn ∷ turns) c v d w told =
-    (e : ClientState M) × (out : Outbox) × (between : W) × (more : List Note)
-    × MayTurn turn c × IsTurn ways gives turn c v between (e, out)
-    × (told ≡ out.notes ++ more) × IsRun ways gives turns e between d w more
+-- A run of turns, and all that was told in it. Each turn draws from draws of its own: others may draw between two turns.
+abbrev pub IsRun : {M W : Type 0} → Ways → (W → Drawn → W → Type 0) → List Turn → ClientState M → ClientState M → List Note → Type 0
+IsRun ways gives [] c d told = (d ≡ c) × (told ≡ [])
+IsRun {M} {W} ways gives (turn ∷ turns) c d told =
+    (e : ClientState M) × (out : Outbox) × (before : W) × (after : W) × (more : List Note)
+    × MayTurn turn c × IsTurn ways gives turn c before after (e, out)
+    × (told ≡ out.notes ++ more) × IsRun ways gives turns e d more

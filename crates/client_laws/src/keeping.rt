@@ -24,12 +24,12 @@ pub fn what_is_held_was_called_back<M, W: Draws>()
 
 /// What is known of a copy stays: its first change attribute, and its name.
 pub fn what_is_known_stays<M, W: Draws>()
-    ensures first { (ways : Ways) (turns : List Turn) (s : Setting M) (c : ClientState M) (u v : W) (told : List Note)
-        (turn : Turn) (d : ClientState M) (w : W) (out : Outbox) (j : ℕ) (known : First)
-        → IsRun ways W.gives turns (new_client s) u c v told → MayTurn turn c → IsTurn ways W.gives turn c v w (d, out)
+    ensures first { (ways : Ways) (turns : List Turn) (s : Setting M) (c : ClientState M) (told : List Note)
+        (turn : Turn) (d : ClientState M) (v w : W) (out : Outbox) (j : ℕ) (known : First)
+        → IsRun ways W.gives turns (new_client s) c told → MayTurn turn c → IsTurn ways W.gives turn c v w (d, out)
         → Knew (λ (x : ClientCopy). x.first) known (copy_at j c.copies) → Knew (λ (x : ClientCopy). x.first) known (copy_at j d.copies) }
-    ensures name { (ways : Ways) (turns : List Turn) (s : Setting M) (c : ClientState M) (u v : W) (told : List Note)
-        (turn : Turn) (d : ClientState M) (w : W) (out : Outbox) (j : ℕ) (id : StateId)
-        → IsRun ways W.gives turns (new_client s) u c v told → MayTurn turn c → IsTurn ways W.gives turn c v w (d, out)
+    ensures name { (ways : Ways) (turns : List Turn) (s : Setting M) (c : ClientState M) (told : List Note)
+        (turn : Turn) (d : ClientState M) (v w : W) (out : Outbox) (j : ℕ) (id : StateId)
+        → IsRun ways W.gives turns (new_client s) c told → MayTurn turn c → IsTurn ways W.gives turn c v w (d, out)
         → Knew (λ (x : ClientCopy). x.id) id (copy_at j c.copies) → Knew (λ (x : ClientCopy). x.id) id (copy_at j d.copies) }
 {}

@@ -13,16 +13,16 @@ use streams::Draws;
 
 /// In all that a client tells, however long it runs, `stable` stands at most once for each copy.
 pub fn stable_is_told_once<M, W: Draws>()
-    ensures { (ways : Ways) (turns : List Turn) (s : Setting M) (d : ClientState M) (v w : W) (told : List Note) (j : ℕ)
-        → IsRun ways W.gives turns (new_client s) v d w told → count_by (tells_stable j) told ≤ 1 }
+    ensures { (ways : Ways) (turns : List Turn) (s : Setting M) (d : ClientState M) (told : List Note) (j : ℕ)
+        → IsRun ways W.gives turns (new_client s) d told → count_by (tells_stable j) told ≤ 1 }
 {
     words_are_told_in_order::<M, W>();
 }
 
 /// And behind `cancelled` it doesn't stand for that copy.
 pub fn none_is_stable_once_cancelled<M, W: Draws>()
-    ensures { (ways : Ways) (turns : List Turn) (s : Setting M) (d : ClientState M) (v w : W) (told : List Note) (j : ℕ)
-        → IsRun ways W.gives turns (new_client s) v d w told
+    ensures { (ways : Ways) (turns : List Turn) (s : Setting M) (d : ClientState M) (told : List Note) (j : ℕ)
+        → IsRun ways W.gives turns (new_client s) d told
         → (before after : List Note) → told ≡ before ++ notes.Cancelled j ∷ after → list_any (tells_stable j) after ≡ false }
 {
     words_are_told_in_order::<M, W>();

@@ -36,12 +36,12 @@ pub fn copies_change_by_causes<M, W: Draws>()
 /// life tell. So it is said to be stable at most once, and behind the words failed, exact, unsure and cancelled nothing more
 /// is told of it.
 pub fn words_are_told_in_order<M, W: Draws>()
-    ensures life { (ways : Ways) (turns : List Turn) (s : Setting M) (d : ClientState M) (v w : W) (told : List Note) (j : ℕ)
-        → IsRun ways W.gives turns (new_client s) v d w told → Lives (copy_at j d.copies) (words_of j told) }
-    ensures stable_once { (ways : Ways) (turns : List Turn) (s : Setting M) (d : ClientState M) (v w : W) (told : List Note) (j : ℕ)
-        → IsRun ways W.gives turns (new_client s) v d w told → count_by is_stable_word (words_of j told) ≤ 1 }
-    ensures last { (ways : Ways) (turns : List Turn) (s : Setting M) (d : ClientState M) (v w : W) (told : List Note) (j : ℕ)
-        → IsRun ways W.gives turns (new_client s) v d w told
+    ensures life { (ways : Ways) (turns : List Turn) (s : Setting M) (d : ClientState M) (told : List Note) (j : ℕ)
+        → IsRun ways W.gives turns (new_client s) d told → Lives (copy_at j d.copies) (words_of j told) }
+    ensures stable_once { (ways : Ways) (turns : List Turn) (s : Setting M) (d : ClientState M) (told : List Note) (j : ℕ)
+        → IsRun ways W.gives turns (new_client s) d told → count_by is_stable_word (words_of j told) ≤ 1 }
+    ensures last { (ways : Ways) (turns : List Turn) (s : Setting M) (d : ClientState M) (told : List Note) (j : ℕ)
+        → IsRun ways W.gives turns (new_client s) d told
         → (before : List Word) (word : Word) (more : List Word) → is_final word ≡ true → words_of j told ≡ before ++ word ∷ more → more ≡ [] }
 {
     client_copies::words_say_where_a_copy_is();

@@ -28,7 +28,7 @@ use Rattle.wire_model.specs.CallerLaws.{CallerStart}
 use Rattle.wire_model.specs.Wire.{Slotted}
 use Rattle.client_laws.specs.CallerLaws.{PurposesFit, above_at}
 use Rattle.client_laws.specs.TurnLaws.{TurnChanges}
-use Rattle.client_laws.specs.Turns.{Asks, Begins, Hears, IsRun, IsTurn, MayTurn, Retries, Ticks, Turn, Works, begins}
+use Rattle.client_laws.specs.Turns.{Asks, Begins, Hears, MayTurn, Retries, Ticks, Turn, Works, begins}
 use Rattle.client_laws.specs.WholeTurns.{IsLawfulTurn, IsSettled, IsSpelledAtBoth, IsTurnAtBoth, Purposes, acts_of}
 use Rattle.client_laws.specs.WordLaws.{Knew}
 use Rattle.client_word.proofs.Asking.{Goings, run_asked}

@@ -27,7 +27,6 @@ use Rattle.streams.specs.declared.draws.Drawn.{Drawn}
 use Rattle.wire_model.specs.Wire.{Acts, Call, Caller, Purpose, Sends, Slotted}
 use Rattle.wire_xdr.specs.Cursor.{IsBytes}
 use Rattle.client_laws.specs.CallerLaws.{PurposesFit, above_at, purpose_for}
-use Rattle.client_laws.specs.Turns.{IsRun, Turn}
 use Rattle.client_laws.specs.WholeTurns.{IsSettled, Purposes}
 use Rattle.client_laws.specs.WordLaws.{Knew}
 use Rattle.client_word.specs.Places.{IsPlacedClient}
