@@ -7,6 +7,7 @@ use Rattle.gss_ctx.specs.Replies.{checked_of, of_head, of_read, result_of}
 use Rattle.gss_ctx.specs.Seals.{Mic, is_code, unsealed}
 use Rattle.gss_ctx.specs.declared.begin.Begun.{Begun}
 use Rattle.gss_ctx.specs.declared.begin.Begun.TheVariants as begins
+use Rattle.gss_ctx.specs.Table.{ContextTable}
 use Rattle.gss_ctx.specs.declared.caller.Awaited.{Awaited}
 use Rattle.gss_ctx.specs.declared.caller.Checked.{Checked}
 use Rattle.gss_ctx.specs.declared.caller.Checked.TheVariants as checked
@@ -27,7 +28,10 @@ use Rattle.nfs_base.specs.declared.status.Status.{Status}
 use Rattle.nfs_compound.specs.Results as results
 use Rattle.nfs_compound.specs.declared.op.Op.{Op}
 use Rattle.nfs_compound.specs.declared.reply.Reply.{Reply}
-use Rattle.rpc_msg.specs.Heads.{reply}
+use Rattle.rpc_calls.specs.Judging.{judged_of, record_read, reply_read}
+use Rattle.rpc_calls.specs.declared.call.Judged.TheVariants as judged
+use Rattle.rpc_calls.specs.declared.call.Program.{Program}
+use Rattle.rpc_msg.specs.Heads.{call, reply}
 use Rattle.rpc_msg.specs.Messages.{behind, first, head_told, kind_of, unless_other}
 use Rattle.rpc_msg.specs.declared.messages.RpcFault.{RpcFault}
 use Rattle.rpc_msg.specs.declared.messages.RpcFault.TheVariants.{OtherKind}
@@ -49,7 +53,7 @@ use Rattle.session_client.specs.declared.answers.TakenChild.TheVariants as child
 use Rattle.session_client.specs.declared.setup.Setup.{Setup}
 use Rattle.wire_spelling.specs.Calls.{xid_in}
 use Rattle.wire_spelling.specs.ReadLaws.{unsealed_carried}
-use Rattle.wire_spelling.specs.Replies.{is_read, results_of, results_read}
+use Rattle.wire_spelling.specs.Replies.{is_read, is_reply, results_of, results_read}
 use Rattle.wire_xdr.specs.All.{value_of}
 use Rattle.wire_xdr.specs.Cursor.{Cursor, IsBytes}
 use Rattle.wire_xdr.specs.Words.{word_bytes}
@@ -82,6 +86,22 @@ xid_spelled : (head : ReplyHead) (rest : List ℕ) → reply.Fits head → xid_i
 unfolding reply word_bytes
 xid_spelled (Accepted xid verf stat) rest fits = from_be_bytes-to_be_bytes_4 xid fits.0
 xid_spelled (Denied xid why) rest fits = from_be_bytes-to_be_bytes_4 xid fits.0
+
+kind_spelled : (head : ReplyHead) (rest : List ℕ) → kind_of (reply.spell head ++ rest) ≡ Some 1
+unfolding reply word_bytes
+kind_spelled head rest = refl
+
+-- a reply is judged one
+pub reply_judged : {P : Type 0} (mic : Mic) (now : ℕ) (program : Program) (bytes : List ℕ) (table : ContextTable P) → IsBytes bytes → is_reply bytes ≡ true
+    → judged_of mic now program bytes table ≡ judged.Reply
+reply_judged {P = P} mic now program bytes table all is = by (head_told reply 0 bytes) refl is
+  where
+    by : (told : Result (ReplyHead × ℕ) RpcFault) → head_told reply 0 bytes ≡ told → is_read told ≡ true → judged_of mic now program bytes table ≡ judged.Reply
+    by (Ok read) told so =
+        let s = unless_spelled bytes (kind_of bytes) read told all in
+        let kind : kind_of bytes ≡ Some 1 = ap kind_of s.is ∙ kind_spelled read.0 s.rest in
+        ap (λ (k : Option ℕ). record_read mic now program bytes table (unless_other 1 k (behind (call.read (first bytes))))) kind ∙ ap reply_read told
+    by (Err fault) told so = absurd cc
 
 -- ---- the result under a seal
 

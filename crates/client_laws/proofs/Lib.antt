@@ -22,7 +22,6 @@ mod Whence
 mod Known
 mod Orders
 mod HeldMoves
-mod Stays
 mod StaysInTurns
 mod Counts
 mod NoneBegun

@@ -19,11 +19,12 @@ use Rattle.outbox.specs.declared.note.Note.{Note}
 use Rattle.outbox.specs.declared.outgoing.Outbox.{Outbox}
 use Rattle.streams.specs.declared.draws.Drawn.{Drawn}
 use Rattle.client_laws.proofs.RunWords.{below, few_of, none_if, run_lives}
-use Rattle.client_laws.proofs.Stays.{IsSound, begun_sound, first_stays, id_stays, ran_sound}
 use Rattle.client_laws.proofs.TurnMoves.{turn_changes}
 use Rattle.client_laws.specs.Causes.{Cause}
 use Rattle.client_laws.specs.Changes.{Changes}
 use Rattle.client_laws.specs.Lives.{Lives}
+use Rattle.client_laws.specs.Sound.{IsSound}
+use Rattle.client_laws.specs.SoundLaws.{begun_sound, first_stays, id_stays, ran_sound}
 use Rattle.client_laws.specs.Telling.{words_of}
 use Rattle.client_laws.specs.TurnLaws.{IsStart, TurnChanges}
 use Rattle.client_laws.specs.Turns.{IsRun, IsTurn, MayTurn, Turn, Asks, Begins, Hears, Retries, Ticks, Works}

@@ -4,6 +4,8 @@ pub mod Causes
 pub mod Changes
 pub mod Fits
 pub mod Lives
+pub mod Sound
+pub mod SoundLaws
 pub mod MountTurns
 pub mod Order
 pub mod Telling

@@ -14,6 +14,7 @@ ghost use Rattle.client_laws.specs.Answered.{IsAnswerTaken};
 ghost use Rattle.client_laws.specs.CallerLaws.{StartsOwn};
 ghost use Rattle.client_laws.specs.Turns.{Hears, IsTurn};
 
+use answer_laws::{answers_are_awaited, replies_are_judged};
 use mount::what_goes_out_is_counted;
 use streams::Draws;
 
@@ -27,4 +28,6 @@ pub fn answers_are_taken<M, W: Draws>()
         → IsAnswerTaken who boot purpose side (Hears side message now) message c out found.place reply }
 {
     what_goes_out_is_counted();
+    answers_are_awaited();
+    replies_are_judged::<u64>();
 }

@@ -17,7 +17,6 @@ pub mod SaidTurns
 pub mod Saying
 pub mod Seals
 pub mod Sounds
-pub mod Stays
 pub mod Takes
 pub mod Told
 pub mod Turns

@@ -12,13 +12,13 @@ use Rattle.client_core.specs.Endings.{Ways}
 use Rattle.client_core.specs.State.{ClientState}
 use Rattle.nfs_base.specs.declared.state_id.StateId.{StateId}
 use Rattle.outbox.specs.declared.outgoing.Outbox.{Outbox}
+use Rattle.client_laws.specs.Sound.{AreSound, IsSound}
+use Rattle.client_laws.specs.SoundLaws.{begun_sound, first_stays, id_stays, ran_sound}
 use Rattle.client_laws.specs.TurnLaws.{TurnChanges}
 use Rattle.client_laws.specs.Turns.{MayTurn, Turn}
 use Rattle.client_laws.specs.WordLaws.{Knew}
 use Rattle.client_word.proofs.Mounts.{none_some}
-use Rattle.client_word.proofs.Stays.{begun_sound, first_stays, id_stays, ran_sound}
 use Rattle.client_word.proofs.Words.{New, Same, Starts, start_some, starts}
-use Rattle.client_word.specs.Sound.{AreSound, IsSound}
 
 some_is : (x y : ClientCopy) → Some x ≡ Some y → x ≡ y
 some_is x y e = cc

@@ -27,10 +27,10 @@ use Rattle.streams.specs.declared.draws.Drawn.{Drawn}
 use Rattle.wire_model.specs.Wire.{Acts, Call, Caller, Purpose, Sends, Slotted}
 use Rattle.wire_xdr.specs.Cursor.{IsBytes}
 use Rattle.client_laws.specs.CallerLaws.{PurposesFit, above_at, purpose_for}
+use Rattle.client_laws.specs.Sound.{AreSound}
 use Rattle.client_laws.specs.WholeTurns.{IsSettled, Purposes}
 use Rattle.client_laws.specs.WordLaws.{Knew}
 use Rattle.client_word.specs.Places.{IsPlacedClient}
-use Rattle.client_word.specs.Sound.{AreSound}
 
 -- how a server's wire sees the client
 abbrev pub seen : {M : Type 0} → ℕ → Purposes → Side → ClientState M → Caller

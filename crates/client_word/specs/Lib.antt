@@ -1,5 +1,4 @@
 pub mod Carried
 pub mod Fields
 pub mod Places
-pub mod Sound
 pub mod Views

@@ -26,33 +26,7 @@ use Rattle.nfs_base.specs.declared.state_id.StateId.{StateId}
 use Rattle.nfs_base.specs.declared.status.Status.{Status}
 use Rattle.nfs_base.specs.declared.written.Stability.{Stability}
 use Rattle.nfs_base.specs.declared.written.Stability.TheVariants.{Unstable, DataSync, FileSync}
-
--- steps before the first change attribute is known, and before the name is
-abbrev unknown : Step → Bool
-unknown steps.OpenSource = true
-unknown steps.AllowSource = true
-unknown steps.Notify = true
-unknown _ = false
-
-abbrev nameless : Step → Bool
-nameless steps.OpenSource = true
-nameless steps.AllowSource = true
-nameless steps.Notify = true
-nameless steps.OpenDest = true
-nameless steps.AllowDest = true
-nameless steps.Copy = true
-nameless _ = false
-
-abbrev in_stage : (Step → Bool) → Stage → Bool
-in_stage early (Due step) = early step
-in_stage early (Asked step) = early step
-in_stage early Accepted = false
-in_stage early (Over verdict) = false
-
--- what isn't known yet isn't there
-pub record IsSound (c : ClientCopy) : Type 0 where
-  pub first : in_stage unknown c.stage ≡ true → c.first ≡ None
-  pub id : in_stage nameless c.stage ≡ true → c.id ≡ None
+use Rattle.client_laws.specs.Sound.{IsSound, in_stage, nameless, unknown}
 
 -- an event leaves that so, and what is known
 record Leaves (c : ClientCopy) (o : Said × ClientCopy) : Type 0 where
