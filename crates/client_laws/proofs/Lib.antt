@@ -3,7 +3,6 @@ mod RunKinds
 mod MountMoves
 mod Going
 mod OwnSeals
-mod Rooting
 mod JudgedSays
 mod Replying
 mod MountCalls
@@ -27,16 +26,11 @@ mod Counts
 mod NoneBegun
 mod Asking
 mod Fitting
-mod Behind
-mod Servers
 mod SealedFor
 mod TakenFrom
-mod RunFacts
-mod RunJoins
-mod TurnJoins
+mod WholeRuns
 mod Numbered
 mod Wholes
-mod KnownSteps
 mod BackOwner
 mod Answering
 mod SpelledTurns

@@ -67,7 +67,7 @@ use Rattle.write_queue.specs.declared.work.Work.{Work}
 use Rattle.client_laws.proofs.Asking.{Stays, is_gentle, stays_same, stays_then, stays_told, still_asked}
 use Rattle.client_laws.proofs.Changed.{said_copies}
 use Rattle.client_laws.proofs.Fitting.{Free, Wants, WantsQuery, fits_freed, fits_queried, fits_sent, fits_told, free_due, free_none, free_ready, is_plain, is_quiet, wants_copy, wants_first, wants_last, wants_plain}
-use Rattle.client_laws.proofs.RunKinds.{Anew, Both, IsOf, Joins, Kind, MayRest, OnceMore, SetsUp, Silent, anew_twice, both_of, is_loud, setup_anew, setup_setup, silent_anew, silent_silent}
+use Rattle.client_laws.proofs.RunKinds.{Anew, Both, IsOf, Joins, Kind, MayRest, OnceMore, SetsUp, Silent, anew_twice, both_of, is_fresh, is_loud, setup_anew, setup_setup, silent_anew, silent_silent}
 use Rattle.client_steps.specs.Commands.{query_call, query_with}
 use Rattle.mount_fits.specs.Asking.{BackChannelFits, SlotCallIsFit}
 use Rattle.mount_fits.specs.Bounds.{FixedFits, TextFits}
@@ -83,7 +83,6 @@ use Rattle.client_fits.specs.Known.{CopyIsFit, DeskIsFit, FileIsFit, SettingIsFi
 use Rattle.client_fits.specs.StepLaws.{ticked_of_fits}
 use Rattle.client_laws.proofs.MountMoves.{Post, Puts, any, chain, here_or_other, IsOther, kept_when, sent_then, Counted, IsKept, Own, Runs, and_is, free_is, kept, mount_in, no_calls, none, put_copies, not_is, put, reshaped, runs_then, same_seal, silent_stays, slot_purpose, slot_stays, three_are}
 use Rattle.client_laws.specs.CallerLaws.{PurposesFit, purpose_after, purpose_for, ready_in}
-use Rattle.client_laws.specs.Order.{is_anew}
 use Rattle.client_laws.proofs.MountParts.{ArePlaces, copies_are, first_place, IsReady, ready_open, ready_notify, ready_copy, ready_last, ready_query, ready_work, never, ready_is, other_slot, kept_noted, kept_said, kept_back, kept_there, back_copies, there_copies, down_is, falls_here}
 
 module _ (who : Identity) (means : Means) (boot : ℕ) (post : Post means.mic) where
@@ -288,7 +287,7 @@ module _ (who : Identity) (means : Means) (boot : ℕ) (post : Post means.mic) (
 
   -- a send of this kind
   abbrev pub MaySend : Kind → Side → Type 0
-  MaySend k there = side ≡ there → (at : SendAt) (send : Send) → is_anew (Sends at send) ≡ true → (above : Above) (m : Mounted)
+  MaySend k there = side ≡ there → (at : SendAt) (send : Send) → is_fresh (Sends at send) ≡ true → (above : Above) (m : Mounted)
       → IsOf k means ((record { move = Sends at send; above = above }) ∷ []) m
 
   pub set_up : (k : Kind) → MayRest k → (there : Side) → MaySend k there → (me : List ℕ) (back : Option BackChannel) (label : CallLabel) (d : Desk)

@@ -33,7 +33,7 @@ use Rattle.outbox.specs.declared.note.Note.TheVariants as notes
 use Rattle.client_laws.proofs.Changed.{said_copies}
 use Rattle.client_laws.proofs.Fitting.{IsQuiet, fits_accepted, fits_told, is_quiet, quiet_deed}
 use Rattle.client_laws.proofs.RunKinds as kinds
-use Rattle.client_laws.proofs.RunKinds.{Anew, Both, IsOf, Kind, MayRest, OnceMore, SetsUp, Silent, Whole, again_of, both_of, hears_anew, hears_both, setup_anew, silent_anew, silent_both, silent_silent, whole_of}
+use Rattle.client_laws.proofs.RunKinds.{Anew, Both, IsOf, Kind, MayRest, OnceMore, SetsUp, Silent, Whole, both_of, hears_anew, hears_both, setup_anew, silent_anew, silent_both, silent_silent, whole_of}
 use Rattle.client_fits.specs.DeedLaws.{taken_fits}
 use Rattle.client_fits.specs.Known.{DeskIsFit}
 use Rattle.mount_fits.specs.Bounds.{TextFits}
@@ -43,9 +43,9 @@ use Rattle.client_laws.proofs.MountCalls.{Goes, IsUp, goes_down, queue, quietly,
 use Rattle.client_laws.proofs.MountSetups.{opens, setup_goes_on, setup_stays}
 use Rattle.client_laws.proofs.MountParts.{kept_said, kept_there, there_copies}
 use Rattle.client_laws.proofs.MountMoves.{Post, any, Counted, IsOther, Runs, kept, mount_in, none, other_apart, rests, runs_then, same_seal}
-use Rattle.client_laws.proofs.Rooting.{rooted_up}
+use Rattle.mount_runs.specs.RootLaws.{rooted_up}
 use Rattle.client_laws.specs.CallerLaws.{PurposesFit, above_by}
-use Rattle.client_laws.specs.Order.{is_root}
+use Rattle.mount_runs.specs.Order.{is_root}
 
 -- ---- a record is the reply to what is awaited at a place, or to nothing
 
@@ -275,7 +275,7 @@ heard_here who means boot post counted side setting_up me free message a bytes n
           comes_up who means boot post counted side deed me free side found.place found.sent_at b
           (calm_deed first setting_up found.told side found.place found.sent_at b (ap is_root (sym f.told) ∙ root)) refl
           (ap (λ (m : Mounted). is_down (setup_in m.standing)) (sealed_mount side found.accepted e ∙ x.mount ∙ f.mount)
-          ∙ rooted_up means found.place message (mount_in side d) root) name behind;
+          ∙ ap is_down (rooted_up means found.place message (mount_in side d) root).is) name behind;
     }
 
 -- at the other server

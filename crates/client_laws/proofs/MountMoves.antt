@@ -39,7 +39,8 @@ use Rattle.client_laws.proofs.RunKinds.{Anew, IsOf, Joins, Kind, MayRest, anew_t
 use Rattle.client_laws.proofs.Changed.{all_behind}
 use Rattle.client_laws.proofs.MountRuns.{AllFit, acts_append, fit_append, run_append}
 use Rattle.mount_fits.specs.Moving.{GivesBytes, SendsFit}
-use Rattle.client_laws.specs.CallerLaws.{AllAsk, AsksIn, IsMountRun, PurposesFit, MountStep, above_by, acts_in, call_if, calls_to, goes_to, is_call, purpose_after, taken_in}
+use Rattle.mount_runs.specs.Runs.{MountStep}
+use Rattle.client_laws.specs.CallerLaws.{AllAsk, AsksIn, IsMountRun, PurposesFit, above_by, acts_in, call_if, calls_to, goes_to, is_call, purpose_after, taken_in}
 use Rattle.client_laws.specs.Order.{count_behind, numbers_in, numbers_to}
 
 abbrev pub mount_in : Side → Desk → Mounted

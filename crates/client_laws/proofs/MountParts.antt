@@ -50,8 +50,10 @@ use Rattle.write_queue.specs.declared.work.Work.TheVariants as works
 use Rattle.client_laws.proofs.RunKinds.{Silent}
 use Rattle.client_laws.proofs.MountMoves.{IsKept, Ran, mount_in}
 use Rattle.client_laws.proofs.MountRuns.{AllFit}
-use Rattle.client_laws.specs.CallerLaws.{AllAsk, AsksOf, IsMountRun, MountStep, above_by, acts_in, is_safe, is_said_stable, knows_first, purpose_for, ready_in, taken_in}
-use Rattle.client_laws.specs.Order.{AreLosing, numbers_in}
+use Rattle.mount_runs.specs.Runs.{MountStep}
+use Rattle.client_laws.specs.CallerLaws.{AllAsk, AsksOf, IsMountRun, above_by, acts_in, is_safe, is_said_stable, knows_first, purpose_for, ready_in, taken_in}
+use Rattle.mount_runs.specs.Order.{AreLosing}
+use Rattle.client_laws.specs.Order.{numbers_in}
 
 -- ---- places
 

@@ -11,7 +11,8 @@ use Rattle.wire_model.specs.Wire.{Acts}
 use Rattle.mount_fits.specs.Fitting.{MountIsFit}
 use Rattle.mount_fits.specs.Moving.{GivesBytes, MoveIsFit}
 use Rattle.mount_fits.specs.StepLaws.{moved_fits, spelled_at}
-use Rattle.client_laws.specs.CallerLaws.{AllObey, AreSpelled, IsMountRun, MountStep, IsSpelled, acts_in}
+use Rattle.mount_runs.specs.Runs.{AreSpelled, IsSpelled, MountStep}
+use Rattle.client_laws.specs.CallerLaws.{AllObey, IsMountRun, acts_in}
 
 pub run_append : (who : Identity) (means : Means) (xs ys : List MountStep) (a : Above) (m : Mounted) (b : Above) (n : Mounted) (c : Above) (o : Mounted)
     → IsMountRun who means xs a m b n → IsMountRun who means ys b n c o → IsMountRun who means (xs ++ ys) a m c o

@@ -63,7 +63,7 @@ use Rattle.client_laws.proofs.Asking.{stays_same}
 use Rattle.client_laws.proofs.Changed.{said_copies}
 use Rattle.client_laws.proofs.Fitting.{fits_begun, fits_evaluated}
 use Rattle.client_laws.proofs.RunKinds as kinds
-use Rattle.client_laws.proofs.RunKinds.{Anew, Both, IsOf, Kind, MayRest, OnceMore, SetsUp, Silent, Whole, again_of, both_of, hears_anew, hears_both, setup_anew, silent_anew, silent_both, silent_silent, whole_of}
+use Rattle.client_laws.proofs.RunKinds.{Anew, Both, IsOf, Kind, MayRest, OnceMore, SetsUp, Silent, GoesInOrder, Whole, again_ordered, anew_ordered, hears_anew, hears_both, setup_anew, silent_anew, silent_both, silent_silent, whole_of, whole_ordered}
 use Rattle.client_laws.proofs.MountAgain.{retried}
 use Rattle.client_fits.specs.CopyLaws.{begun_fits, evaluated_fits, queued_fits}
 use Rattle.client_fits.specs.DeedLaws.{replied_fits}
@@ -80,9 +80,11 @@ use Rattle.client_laws.proofs.MountMoves.{Post, any, Counted, IsKept, Runs, kept
 use Rattle.client_laws.proofs.JudgedSays.{IsSaid, IsSpoken, auth_fits, garbage_fits, judged_says}
 use Rattle.client_laws.proofs.Replying.{denial_reply_is, failure_reply_is, init_reply_is, result_reply_is}
 use Rattle.client_laws.proofs.OwnSeals.{IsSealedBy, accepted_owner, inited_owner, reply_owner, unsealed}
-use Rattle.client_laws.specs.CallerLaws.{PurposesFit, IsMountRun, MountStep, StartsOwn, above_by, acts_in, call_if, calls_to, goes_to, is_call, taken_in}
+use Rattle.mount_runs.specs.Runs.{MountStep}
+use Rattle.client_laws.specs.CallerLaws.{PurposesFit, IsMountRun, StartsOwn, above_by, acts_in, call_if, calls_to, goes_to, is_call, taken_in}
 use Rattle.client_laws.specs.MountTurns.{IsMountTurn, IsOut, IsOwnAnswer, IsStrange, IsTaken, TakesBytes}
-use Rattle.client_laws.specs.Order.{IsOrdered, count_behind, counted_if, number_if, numbers_in, numbers_to}
+use Rattle.mount_runs.specs.Order.{IsOrdered}
+use Rattle.client_laws.specs.Order.{count_behind, counted_if, number_if, numbers_in, numbers_to}
 use Rattle.client_laws.specs.Turns.{IsTurn, MayTurn, Turn, Asks, Begins, Hears, Retries, Ticks, Works}
 use Rattle.client_laws.proofs.MountHears.{Comes, Heard, Hearing, hears, kept_seal}
 
@@ -197,6 +199,7 @@ module _ {M : Type 0} (who : Identity) (ways : Ways) (boot : ℕ) (counted : Cou
       fits = λ fit. subst (PurposesFit side purpose) (sym copies) fit;
       taken = inl (refl, strange);
       order = inr tt;
+      none_anew = tt;
       numbers = sym numbers;
       counts = calls ∙ sym counts;
       goes_out = goes_out;
@@ -219,11 +222,12 @@ module _ {M : Type 0} (who : Identity) (ways : Ways) (boot : ℕ) (counted : Cou
       (λ seal is. inl (accepted seal is))
 
   ended_at : (now : ℕ) (a : Acting) (back : ContextTable ℕ) (taken : List (List ℕ × Option Seal)) (seal : Option Seal → Option Seal) (k : Kind)
-      → ((steps : List MountStep) (m : Mounted) → IsOf k ways.means steps m → IsOrdered ways.means steps m)
+      → ((steps : List MountStep) (m : Mounted) → IsOf k ways.means steps m → GoesInOrder ways.means steps m)
       → Run k taken seal (desk_at now c) a.desk → IsTaken c.back.owner side turn a.desk.out.accepted taken → At (settled a back c, given a)
   ended_at now a back taken seal k shape runs is = λ small.
       let r = runs.ran purpose small in
       let begins = mount_begins side now c in
+      let goes = shape r.steps (mount_in side (desk_at now c)) r.order in
       record {
         fit = λ sure. subst (AllFit ways.means r.steps) begins (r.fit sure);
         turns = record {
@@ -242,7 +246,8 @@ module _ {M : Type 0} (who : Identity) (ways : Ways) (boot : ℕ) (counted : Cou
           taken =
               subst (λ (m : Mounted). IsTaken c.back.owner side turn a.desk.out.accepted (flat_map taken_in (acts_in ways.means r.steps m))) begins
               (subst (IsTaken c.back.owner side turn a.desk.out.accepted) (sym r.takes) is);
-          order = subst (IsOrdered ways.means r.steps) begins (shape r.steps (mount_in side (desk_at now c)) r.order);
+          order = subst (IsOrdered ways.means r.steps) begins goes.order;
+          none_anew = goes.none_anew;
           numbers =
               subst (λ (m : Mounted). numbers_in ways.means r.steps m ≡ numbers_to side c.calls a.desk.out.sent) begins
               (r.numbers ∙ ap (numbers_to side c.calls) (sym runs.sent));
@@ -250,15 +255,6 @@ module _ {M : Type 0} (who : Identity) (ways : Ways) (boot : ℕ) (counted : Cou
           goes_out = subst (AllByRecursion (IsOut ways.means.mic turn c.back.owner)) (sym runs.sent) runs.posted;
         };
       }
-
-  whole_ordered : (steps : List MountStep) (m : Mounted) → IsOf Whole ways.means steps m → IsOrdered ways.means steps m
-  whole_ordered steps m x = inl x
-
-  anew_ordered : (steps : List MountStep) (m : Mounted) → IsOf Anew ways.means steps m → IsOrdered ways.means steps m
-  anew_ordered steps m x = inl (whole_of ways.means steps m (both_of steps x))
-
-  again_ordered : (steps : List MountStep) (m : Mounted) → IsOf (OnceMore 0 16) ways.means steps m → IsOrdered ways.means steps m
-  again_ordered steps m x = inr (again_of 0 16 steps x)
 
   -- what was done goes on: nothing goes out before, or the setup goes on and stays
   gone_on : {W : Type 0} (gives : W → Drawn → W → Type 0) (does a : Acting) (v w : W) (seal : Option Seal → Option Seal) (d middle : Desk)
@@ -317,7 +313,7 @@ module _ {M : Type 0} (who : Identity) (ways : Ways) (boot : ℕ) (counted : Cou
   step_to gives now does back v w None taken seal runs is on = nothing
   step_to gives now does back v w (Some a) taken seal runs is on =
       let all = runs a on in
-      ended_at now a (back a) taken seal Whole whole_ordered all (subst (λ (o : Option Seal). IsTaken c.back.owner side turn o taken) (sym all.accepted) is)
+      ended_at now a (back a) taken seal Whole (whole_ordered ways.means) all (subst (λ (o : Option Seal). IsTaken c.back.owner side turn o taken) (sym all.accepted) is)
 
   steps_by : {W : Type 0} (gives : W → Drawn → W → Type 0) (now : ℕ) (does : Acting) (back : Acting → ContextTable ℕ) (v w : W) (end : ClientState M × Outbox)
       → (taken : List (List ℕ × Option Seal)) (seal : Option Seal → Option Seal)
@@ -501,7 +497,7 @@ turn_runs counted ways gives who boot side purpose (Asks query j now) c d v w ou
     let a = on_desk (asked_if (nat_lt j MOST_COPIES) ways.means.mic j query) (acting_at now c) in
     let runs = asks_if who ways boot counted side purpose turn c known (nat_lt j MOST_COPIES) j query (desk_at now c) refl (λ sure. (known.client sure).parts) in
     subst (At who ways boot counted side purpose turn c known) (sym step.0)
-    (ended_at who ways boot counted side purpose turn c known now a c.back [] same_seal Anew (anew_ordered who ways boot counted side purpose turn c known) runs
+    (ended_at who ways boot counted side purpose turn c known now a c.back [] same_seal Anew (anew_ordered ways.means) runs
     (subst (λ (o : Option Seal). IsTaken c.back.owner side turn o []) (sym runs.accepted) (untaken who ways boot counted side purpose turn c known)))
 turn_runs counted ways gives who boot side purpose (Works there work now) c d v w out known own may step =
     let turn = Works there work now in
@@ -518,14 +514,14 @@ turn_runs counted ways gives who boot side purpose (Ticks now) c d v w out known
     let runs = (ticks who ways.means boot (Answers ways turn c known) counted side all_copies (desk_at now c) copies_are (λ sure. (known.client sure).parts)).runs in
     subst (At who ways boot counted side purpose turn c known) (sym step.0)
     (ended_at who ways boot counted side purpose turn c known now (on_desk (ticked ways.means.mic all_copies) (acting_at now c)) c.back [] same_seal Anew
-    (anew_ordered who ways boot counted side purpose turn c known) runs
+    (anew_ordered ways.means) runs
     (subst (λ (o : Option Seal). IsTaken c.back.owner side turn o []) (sym runs.accepted) (untaken who ways boot counted side purpose turn c known)))
 turn_runs counted ways gives who boot side purpose (Retries now) c d v w out known own may step =
     let turn = Retries now in
     let runs = (retried who ways.means boot (Answers ways turn c known) counted side (acting_at now c)).runs in
     subst (At who ways boot counted side purpose turn c known) (sym step.0)
     (ended_at who ways boot counted side purpose turn c known now (commands.retried ways.means.mic (acting_at now c)) c.back [] same_seal (OnceMore 0 16)
-    (again_ordered who ways boot counted side purpose turn c known) runs
+    (again_ordered 16 ways.means) runs
     (subst (λ (o : Option Seal). IsTaken c.back.owner side turn o []) (sym runs.accepted) (untaken who ways boot counted side purpose turn c known)))
 turn_runs counted ways gives who boot side purpose (Hears there message now) c d v w out known own may step =
     judges who ways boot counted side purpose (Hears there message now) c known gives there message now _ v w (d, out) refl refl own step

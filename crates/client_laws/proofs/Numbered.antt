@@ -19,12 +19,10 @@ use Rattle.nfs_base.specs.declared.side.Side.TheVariants.{Source, Dest}
 use Rattle.outbox.specs.declared.outgoing.Outgoing.{Outgoing}
 use Rattle.wire_model.specs.Wire.{Sent}
 use Rattle.wire_spelling.specs.Calls.{xid_in}
-use Rattle.wire_spelling.specs.Replies.{is_reply}
-use Rattle.client_laws.proofs.MountMoves.{outs_of}
-use Rattle.client_laws.proofs.RunFacts.{Known, exact}
 use Rattle.client_laws.proofs.SealedFor.{sealed_for}
-use Rattle.client_laws.proofs.Servers.{done_server}
-use Rattle.client_laws.specs.CallerLaws.{AreSpelled, IsMountRun, MountStep, acts_in, call_if, calls_to, goes_to, is_call}
+use Rattle.client_laws.proofs.WholeRuns.{Knows}
+use Rattle.mount_runs.specs.Runs.{AreSpelled, MountStep, whole}
+use Rattle.client_laws.specs.CallerLaws.{IsMountRun, call_if, calls_to, goes_to, is_call}
 use Rattle.client_laws.specs.MountTurns.{IsOut}
 use Rattle.client_laws.specs.Order.{count_behind, counted_if, number_if, numbers_in, numbers_of, numbers_to}
 use Rattle.client_laws.specs.Turns.{Turn}
@@ -37,14 +35,14 @@ xids_append : (xs ys : List Sent) → xids (xs ++ ys) ≡ xids xs ++ xids ys
 xids_append [] ys = refl
 xids_append (x ∷ xs) ys = ap (λ (ns : List ℕ). xid_in x.bytes ∷ ns) (xids_append xs ys)
 
-module _ (who : Identity) (means : Means) (known : Known who means) where
+module _ (who : Identity) (means : Means) (knows : Knows who means) where
   shown_numbers : (a b : Above) (m : Mounted) (at : SendAt) (send : Send) → IsStep who means a b m (Sends at send) → (o : Option out.Sent) → (sent_by means.mic at send m).0 ≡ o
       → xids (out_of o) ≡ map (λ (one : Sent). at.xid) (out_of o)
   shown_numbers a b m at send step None is = refl
   shown_numbers a b m at send step (Some sent) is =
       let one : Sent = record { bytes = sent.bytes; seal = sent.seal } in
       let there : Contains (out_of (sent_by means.mic at send m).0) one = subst (λ (o : Option out.Sent). Contains (out_of o) one) (sym is) (0, omega arith, refl) in
-      ap (λ (n : ℕ). n ∷ []) (exact who means known a b m at send step sent.bytes sent.seal there)
+      ap (λ (n : ℕ). n ∷ []) (knows.xids a b m at send step sent.bytes sent.seal there)
 
   step_numbers : (a b : Above) (m : Mounted) (move : Move) → IsStep who means a b m move → xids (done means move m).shown.out ≡ numbers_of move (done means move m).shown.out
   step_numbers a b m (Sends at send) step = shown_numbers a b m at send step (sent_by means.mic at send m).0 refl
@@ -55,39 +53,26 @@ module _ (who : Identity) (means : Means) (known : Known who means) where
   step_numbers a b m Rests step = refl
 
   pub run_numbers : (steps : List MountStep) (a b : Above) (m n : Mounted) → IsMountRun who means steps a m b n → AreSpelled means steps m → IsGood who m
-      → xids (outs_of (acts_in means steps m)) ≡ numbers_in means steps m
+      → xids (whole means steps m).out ≡ numbers_in means steps m
   run_numbers [] a b m n run spelled g = refl
   run_numbers (x ∷ more) a b m n run spelled g =
       let step : IsStep who means a x.above m x.move = record { good = g; goes_on = run.0; may = run.2 spelled.0 } in
       let o = done means x.move m in
-      xids_append o.shown.out (outs_of (acts_in means more o.mount))
-      ∙ ap (λ (ns : List ℕ). ns ++ xids (outs_of (acts_in means more o.mount))) (step_numbers a x.above m x.move step)
-      ∙ ap (λ (ns : List ℕ). numbers_of x.move o.shown.out ++ ns) (run_numbers more x.above b o.mount n run.3 spelled.1 (known.keeps a x.above m x.move step))
+      xids_append o.shown.out (whole means more o.mount).out
+      ∙ ap (λ (ns : List ℕ). ns ++ xids (whole means more o.mount).out) (step_numbers a x.above m x.move step)
+      ∙ ap (λ (ns : List ℕ). numbers_of x.move o.shown.out ++ ns) (run_numbers more x.above b o.mount n run.3 spelled.1 (knows.keeps a x.above m x.move step))
 
   -- what is sealed in a run is sealed for its server
   pub run_sealed : (steps : List MountStep) (a b : Above) (m n : Mounted) → IsMountRun who means steps a m b n → AreSpelled means steps m → IsGood who m
-      → (bytes : List ℕ) (seal : Seal) → Contains (outs_of (acts_in means steps m)) (record { bytes = bytes; seal = Some seal }) → seal.owner ≡ m.server
+      → (bytes : List ℕ) (seal : Seal) → Contains (whole means steps m).out (record { bytes = bytes; seal = Some seal }) → seal.owner ≡ m.server
   run_sealed [] a b m n run spelled g bytes seal there = let lt = there.1 in absurd (omega arith)
   run_sealed (x ∷ more) a b m n run spelled g bytes seal there =
       let step : IsStep who means a x.above m x.move = record { good = g; goes_on = run.0; may = run.2 spelled.0 } in
       let o = done means x.move m in
       let it : Sent = record { bytes = bytes; seal = Some seal } in
-      elim (Contains-append_cases o.shown.out (outs_of (acts_in means more o.mount)) it there) [
+      elim (Contains-append_cases o.shown.out (whole means more o.mount).out it there) [
         | inl here ↦ sealed_for who means x.move m g bytes seal here
-        | inr later ↦ run_sealed more x.above b o.mount n run.3 spelled.1 (known.keeps a x.above m x.move step) bytes seal later ∙ done_server means x.move m
-      ]
-
-  -- and is no reply
-  pub run_calls : (steps : List MountStep) (a b : Above) (m n : Mounted) → IsMountRun who means steps a m b n → AreSpelled means steps m → IsGood who m
-      → (bytes : List ℕ) (seal : Option Seal) → Contains (outs_of (acts_in means steps m)) (record { bytes = bytes; seal = seal }) → is_reply bytes ≡ false
-  run_calls [] a b m n run spelled g bytes seal there = let lt = there.1 in absurd (omega arith)
-  run_calls (x ∷ more) a b m n run spelled g bytes seal there =
-      let step : IsStep who means a x.above m x.move = record { good = g; goes_on = run.0; may = run.2 spelled.0 } in
-      let o = done means x.move m in
-      let it : Sent = record { bytes = bytes; seal = seal } in
-      elim (Contains-append_cases o.shown.out (outs_of (acts_in means more o.mount)) it there) [
-        | inl here ↦ (known.calls a x.above m x.move step bytes seal here).is_call
-        | inr later ↦ run_calls more x.above b o.mount n run.3 spelled.1 (known.keeps a x.above m x.move step) bytes seal later
+        | inr later ↦ run_sealed more x.above b o.mount n run.3 spelled.1 (knows.keeps a x.above m x.move step) bytes seal later ∙ knows.server x.move m
       ]
 
 -- ---- in all that goes out

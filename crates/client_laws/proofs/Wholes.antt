@@ -7,6 +7,7 @@ use Rattle.client_core.specs.Endings.{Ways}
 use Rattle.client_core.specs.State.{ClientState}
 use Rattle.client_core.specs.Telling.{mount_at}
 use Rattle.client_site.specs.Sites.{end_of}
+use Rattle.nfs_base.specs.declared.seal.End.{End}
 use Rattle.nfs_base.specs.declared.seal.End.TheVariants as ends
 use Rattle.gss_mech.specs.Tokens.{IsSized}
 use Rattle.nfs_base.specs.declared.seal.Seal.{Seal}
@@ -21,12 +22,11 @@ use Rattle.wire_model.specs.Wire as wire
 use Rattle.wire_spelling.specs.Replies.{is_reply}
 use Rattle.wire_spelling.specs.Calls.{xid_in}
 use Rattle.wire_spelling.specs.Spelling.{spelling}
-use Rattle.client_laws.proofs.MountMoves.{outs_of, takes_of}
-use Rattle.client_laws.proofs.Numbered.{AreNumbered, IsSeen, called, calls_seen, counted_in, numbered_from, numbered_once, out_of_all, run_calls, run_numbers, run_sealed, seen_in, xids}
-use Rattle.client_laws.proofs.RunFacts.{Known}
-use Rattle.client_laws.proofs.RunJoins.{with_out}
-use Rattle.client_laws.proofs.TurnJoins.{IsJoined, run_joins}
-use Rattle.client_laws.specs.CallerLaws.{above_at, acts_in, calls_to, goes_to, is_call, taken_by}
+use Rattle.client_laws.proofs.MountMoves.{takes_of}
+use Rattle.client_laws.proofs.Numbered.{AreNumbered, IsSeen, called, calls_seen, counted_in, numbered_from, numbered_once, out_of_all, run_numbers, run_sealed, seen_in, xids}
+use Rattle.client_laws.proofs.WholeRuns.{IsOneRun, Knows, one_run, outs_whole, taken_whole, whole_owner}
+use Rattle.mount_runs.specs.Runs.{whole}
+use Rattle.client_laws.specs.CallerLaws.{above_at, acts_in, calls_to, goes_to, is_call, taken_by, taken_in}
 use Rattle.client_laws.specs.MountTurns.{HearsAt, HearsElsewhere, IsOut, TakesBytes}
 use Rattle.client_laws.specs.Order.{count_behind, numbers_to}
 use Rattle.client_laws.specs.Turns.{Hears, Turn}
@@ -71,41 +71,44 @@ untaken : {A : Type 0} (took : Option (List ℕ)) (accepted : Option Seal) (repl
 untaken None accepted reply e is = absurd cc
 untaken (Some taken) accepted reply e is = absurd cc
 
-module _ {M : Type 0} (who : Identity) (ways : Ways) (known : Known who ways.means) (boot : ℕ) (purposes : Purposes) (turn : Turn) (c d : ClientState M) (out : Outbox)
+module _ {M : Type 0} (who : Identity) (ways : Ways) (knows : Knows who ways.means) (boot : ℕ) (purposes : Purposes) (turn : Turn) (c d : ClientState M) (out : Outbox)
     (t : IsTurnAtBoth who ways boot purposes turn c d out) (settled : IsSettled who c) (sized : IsSized ways.means.mic) (bytes_come : TakesBytes turn)
     (spelled : IsSpelledAtBoth who ways boot purposes turn c d out t) where
-  joined_at : (side : Side) → IsJoined who ways.means known (end_of side) d.copies (above_at boot (purposes side) c) (above_at boot (t side).after d) (mount_at side c) (mount_at side d)
-      (t side).steps
-  joined_at side =
-      let x = t side in
-      run_joins who ways.means known (end_of side) d.copies x.steps (above_at boot (purposes side) c) (above_at boot x.after d) (mount_at side c) (mount_at side d) x.run (spelled side) x.asks
-      x.order (settled.good side) (settled.server side)
-
-  abbrev outs_at : Side → List Sent
-  outs_at side = outs_of (acts_in ways.means (t side).steps (mount_at side c))
-
-  abbrev own_acts : Side → Acts
-  own_acts side = with_out (joined_at side).shown (outs_at side)
-
   abbrev v_at : Side → Caller
   v_at side = caller_of (above_at boot (purposes side) c) (mount_at side c)
 
   abbrev w_at : Side → Caller
   w_at side = caller_of (above_at boot (t side).after d) (mount_at side d)
 
+  joined_at : (side : Side) → IsOneRun who ways.means (t side).steps (v_at side) (w_at side) (mount_at side c) (mount_at side d)
+  joined_at side =
+      let x = t side in
+      one_run who ways.means knows d.copies x.steps (above_at boot (purposes side) c) (above_at boot x.after d) (mount_at side c) (mount_at side d) x.run (spelled side) x.asks
+      x.order (settled.good side)
+
+  abbrev own_acts : Side → Acts
+  own_acts side = whole ways.means (t side).steps (mount_at side c)
+
+  abbrev outs_at : Side → List Sent
+  outs_at side = (own_acts side).out
+
+  sent_at : (side : Side) → outs_at side ≡ calls_to side out.sent
+  sent_at side = sym (outs_whole ways.means (t side).steps (mount_at side c)) ∙ (t side).sent
+
   abbrev Own : (side : Side) → Type 0
   Own side = CallerLaws (spelling who.accepts who.whose) (end_of side) who.own (v_at side) (w_at side) (own_acts side)
 
   laws_at : (side : Side) → Own side
-  laws_at side = (joined_at side).ended.laws
+  laws_at side =
+      subst (λ (owner : End). CallerLaws (spelling who.accepts who.whose) owner who.own (v_at side) (w_at side) (own_acts side)) (settled.server side) (joined_at side).laws
 
   -- ---- what goes out
 
   numbers_at : (side : Side) → xids (calls_to side out.sent) ≡ numbers_to side c.calls out.sent
   numbers_at side =
       let x = t side in
-      ap xids (sym x.sent)
-      ∙ run_numbers who ways.means known x.steps (above_at boot (purposes side) c) (above_at boot x.after d) (mount_at side c) (mount_at side d) x.run (spelled side) (settled.good side)
+      ap xids (sym (sent_at side))
+      ∙ run_numbers who ways.means knows x.steps (above_at boot (purposes side) c) (above_at boot x.after d) (mount_at side c) (mount_at side d) x.run (spelled side) (settled.good side)
       ∙ x.numbers
 
   numbered : AreNumbered c.calls out.sent
@@ -114,15 +117,15 @@ module _ {M : Type 0} (who : Identity) (ways : Ways) (known : Known who ways.mea
   forth : (side : Side) (bytes : List ℕ) (seal : Option Seal) → wire.Sends (own_acts side) bytes seal → wire.Sends (acts_of turn out) bytes seal
   forth side bytes seal sends =
       let it : Sent = record { bytes = bytes; seal = seal } in
-      calls_seen side out.sent it (subst (λ (sent : List Sent). Contains sent it) (t side).sent sends)
+      calls_seen side out.sent it (subst (λ (sent : List Sent). Contains sent it) (sent_at side) sends)
 
   called_at : (side : Side) (one : Outgoing) → Contains out.sent one → goes_to side one.to ≡ true → is_call one.label ≡ true → Contains (outs_at side) (sent_of one)
-  called_at side one there to call = subst (λ (sent : List Sent). Contains sent (sent_of one)) (sym (t side).sent) (called side out.sent one there to call)
+  called_at side one there to call = subst (λ (sent : List Sent). Contains sent (sent_of one)) (sym (sent_at side)) (called side out.sent one there to call)
 
   sealed_at : (side : Side) (bytes : List ℕ) (seal : Seal) → Contains (outs_at side) (record { bytes = bytes; seal = Some seal }) → seal.owner ≡ end_of side
   sealed_at side bytes seal there =
       let x = t side in
-      run_sealed who ways.means known x.steps (above_at boot (purposes side) c) (above_at boot x.after d) (mount_at side c) (mount_at side d) x.run (spelled side) (settled.good side)
+      run_sealed who ways.means knows x.steps (above_at boot (purposes side) c) (above_at boot x.after d) (mount_at side c) (mount_at side d) x.run (spelled side) (settled.good side)
       bytes seal there
       ∙ settled.server side
 
@@ -199,15 +202,18 @@ module _ {M : Type 0} (who : Identity) (ways : Ways) (known : Known who ways.mea
   -- what its run took is what the client took
   record IsTook (side : Side) (reply : List ℕ) : Type 0 where
     took : took_in turn ≡ Some reply
-    accepted : out.accepted ≡ (joined_at side).shown.accepted
+    accepted : out.accepted ≡ (own_acts side).accepted
 
-  took_all : (side : Side) (reply : List ℕ) → (joined_at side).shown.took ≡ Some reply → IsTook side reply
+  taken_at : (side : Side) → takes_of (acts_in ways.means (t side).steps (mount_at side c)) ≡ taken_in (own_acts side)
+  taken_at side = taken_whole ways.means (t side).steps (mount_at side c) (t side).order
+
+  took_all : (side : Side) (reply : List ℕ) → (own_acts side).took ≡ Some reply → IsTook side reply
   took_all side reply is =
-      let j = joined_at side in
+      let shown = own_acts side in
       elim ((t side).taken) [
-        | inl none ↦ untaken j.shown.took j.shown.accepted reply (sym j.taken ∙ none.0) is
+        | inl none ↦ untaken shown.took shown.accepted reply (sym (taken_at side) ∙ none.0) is
         | inr heard ↦
-            let same = same_taken j.shown.took j.shown.accepted heard.message out.accepted (sym j.taken ∙ heard.is) in
+            let same = same_taken shown.took shown.accepted heard.message out.accepted (sym (taken_at side) ∙ heard.is) in
             record { took = ap took_in heard.turn_is ∙ sym same.took_is ∙ is; accepted = sym same.accepted_is }
       ]
 
@@ -236,9 +242,9 @@ module _ {M : Type 0} (who : Identity) (ways : Ways) (known : Known who ways.mea
   accepted_at : (side : Side) (seal : Seal) (taken : List (List ℕ × Option Seal)) → takes_of (acts_in ways.means (t side).steps (mount_at side c)) ≡ taken
       → HearsAt side turn out.accepted taken → out.accepted ≡ Some seal → seal.owner ≡ end_of side
   accepted_at side seal taken taken_is heard is =
-      let j = joined_at side in
-      let same = same_taken j.shown.took j.shown.accepted heard.message out.accepted (sym j.taken ∙ taken_is ∙ heard.is) in
-      j.own seal (same.accepted_is ∙ is)
+      let shown = own_acts side in
+      let same = same_taken shown.took shown.accepted heard.message out.accepted (sym (taken_at side) ∙ taken_is ∙ heard.is) in
+      whole_owner ways.means who (t side).steps (mount_at side c) (settled.good side) seal (same.accepted_is ∙ is) ∙ settled.server side
 
   -- what is accepted from the other server isn't under a seal of this one
   heard_at : {A : Type 0} (side : Side) (seal : Seal) (there : HearsElsewhere side turn) → out.accepted ≡ Some seal → seal.owner ≡ end_of side → A
@@ -257,14 +263,14 @@ module _ {M : Type 0} (who : Identity) (ways : Ways) (known : Known who ways.mea
   root_own : (side : Side) (root : Context) → LearnsRoot (spelling who.accepts who.whose) (end_of side) (v_at side) (acts_of turn out) root
       → LearnsRoot (spelling who.accepts who.whose) (end_of side) (v_at side) (own_acts side) root
   root_own side root l =
-      let j = joined_at side in
+      let shown = own_acts side in
       elim ((t side).taken) [
         | inl none ↦ elim (none.1 l.seal l.takes.accepted) [
           | inl answer ↦ no_client side (sym settled.owner ∙ sym answer ∙ l.own)
           | inr other ↦ heard_at side l.seal other l.takes.accepted l.own
         ]
         | inr heard ↦
-            let same = same_taken j.shown.took j.shown.accepted heard.message out.accepted (sym j.taken ∙ heard.is) in
+            let same = same_taken shown.took shown.accepted heard.message out.accepted (sym (taken_at side) ∙ heard.is) in
             record {
               seal = l.seal;
               reply = l.reply;
@@ -281,10 +287,7 @@ module _ {M : Type 0} (who : Identity) (ways : Ways) (known : Known who ways.mea
       ]
 
   calls_at : (side : Side) (bytes : List ℕ) (seal : Option Seal) → wire.Sends (own_acts side) bytes seal → is_reply bytes ≡ false
-  calls_at side bytes seal there =
-      let x = t side in
-      run_calls who ways.means known x.steps (above_at boot (purposes side) c) (above_at boot x.after d) (mount_at side c) (mount_at side d) x.run (spelled side) (settled.good side)
-      bytes seal there
+  calls_at side bytes seal there = (joined_at side).calls bytes seal there
 
   sent_all : (side : Side) (x : Awaited) → IsSent (spelling who.accepts who.whose) (end_of side) who.own (own_acts side) x
       → IsSent (spelling who.accepts who.whose) (end_of side) who.own (acts_of turn out) x
@@ -337,7 +340,7 @@ module _ {M : Type 0} (who : Identity) (ways : Ways) (known : Known who ways.mea
 
   -- both mounts are as they should be afterwards
   pub good_after : (side : Side) → IsGood who (mount_at side d)
-  good_after side = (joined_at side).ended.good
+  good_after side = (joined_at side).good
 
   pub server_after : (side : Side) → (mount_at side d).server ≡ end_of side
-  server_after side = (joined_at side).ended.server
+  server_after side = (joined_at side).server ∙ settled.server side

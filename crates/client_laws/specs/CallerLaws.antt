@@ -1,10 +1,9 @@
 -- What a client does at one server in a turn, as steps of its mount there (`caller_laws`), each of which it may take.
 use Rattle.std.specs.Prelude.{ℕ, ◌≡◌, ◌==◌, ◌&&◌, Bool, true, false, if◌then◌else◌, is_some, List, [], ◌∷◌, Option, Some, None}
 use Rattle.std.specs.List.{AllByRecursion, flat_map}
-use Rattle.wire_xdr.specs.Cursor.{IsBytes}
 use Rattle.caller_laws.specs.Good.{Identity, IsOwnToken}
-use Rattle.caller_laws.specs.Lawful.{GoesOn, May, Obeys, asked_by}
-use Rattle.caller_laws.specs.Moves.{InSlot, Move, Sends, Takes, done, sent_by}
+use Rattle.caller_laws.specs.Lawful.{GoesOn, May, Obeys}
+use Rattle.caller_laws.specs.Moves.{InSlot, Move, Sends, done}
 use Rattle.caller_laws.specs.View.{Above}
 use Rattle.client_copies.specs.Copies.{is_stable}
 use Rattle.client_copies.specs.Table.{Copies, copy_at}
@@ -19,10 +18,8 @@ use Rattle.client_copies.specs.declared.copy.Stage.TheVariants as stages
 use Rattle.client_copies.specs.declared.copy.Step.TheVariants as steps
 use Rattle.client_core.specs.Endings.{Ways}
 use Rattle.client_core.specs.State.{ClientState}
-use Rattle.gss_ctx.specs.Seals.{Mic}
 use Rattle.mount.specs.State.{Mounted}
 use Rattle.mount.specs.Taking.{Means}
-use Rattle.mount.specs.declared.machine.Sent as outs
 use Rattle.nfs_base.specs.declared.copy_spec.CopySpec.{CopySpec}
 use Rattle.nfs_base.specs.declared.seal.End.{End}
 use Rattle.nfs_base.specs.declared.seal.End.TheVariants as ends
@@ -39,11 +36,11 @@ use Rattle.session_calls.specs.declared.slot_call.CopyRange.{CopyRange}
 use Rattle.session_calls.specs.declared.slot_call.FileCall.TheVariants as asks
 use Rattle.session_calls.specs.declared.slot_call.SlotCall.{SlotCall}
 use Rattle.session_calls.specs.declared.slot_call.SlotCall.TheVariants as calls
-use Rattle.session_client.specs.Asked.{AskedFits}
 use Rattle.session_client.specs.declared.asked.Asked.{Asked}
 use Rattle.streams.specs.declared.draws.Drawn.{Drawn}
 use Rattle.streams.specs.declared.draws.Drawn.TheVariants.{Got}
 use Rattle.wire_model.specs.Wire.{Acts, ForCopy, ForFirst, ForLast, ForOther, ForStatus, Purpose, Sent}
+use Rattle.mount_runs.specs.Runs.{IsSpelled, MountStep}
 
 -- ---- what the client adds to a mount
 
@@ -82,11 +79,6 @@ abbrev pub above_at : {M : Type 0} → ℕ → (ℕ → Purpose) → ClientState
 above_at boot purpose c = above_by boot c.calls purpose c.copies
 
 -- ---- a run of a mount's steps
-
--- a step, and what the client adds to the mount behind it
-pub record MountStep : Type 0 where
-  pub move : Move
-  pub above : Above
 
 -- a call in a slot is for what it asks, and what the others are for stays
 abbrev pub purpose_after : Move → (ℕ → Purpose) → ℕ → Purpose
@@ -132,19 +124,6 @@ AsksIn t _ = Unit {0}
 
 abbrev pub AllAsk : Copies → List MountStep → Type 0
 AllAsk t steps = AllByRecursion (λ (step : MountStep). AsksIn t step.move) steps
-
--- What is asked can be spelled, and what goes out or comes is bytes: the code's calls of a mount ask for the first, and its types say
--- the second.
-abbrev pub IsSpelled : Mic → Mounted → Move → Type 0
-IsSpelled mic m (Sends at send) =
-    ((asked : Asked) → asked_by at send m ≡ Some asked → AskedFits asked)
-    × ((sent : outs.Sent) → (sent_by mic at send m).0 ≡ Some sent → IsBytes sent.bytes)
-IsSpelled mic m (Takes place message) = IsBytes message
-IsSpelled mic m _ = Unit {0}
-
-abbrev pub AreSpelled : Means → List MountStep → Mounted → Type 0
-AreSpelled means [] m = Unit {0}
-AreSpelled means (step ∷ more) m = IsSpelled means.mic m step.move × AreSpelled means more (done means step.move m).mount
 
 -- From a mount, with what the client adds to it, these steps lead to another, and each of them is one that it may take.
 abbrev pub IsMountRun : Identity → Means → List MountStep → Above → Mounted → Above → Mounted → Type 0

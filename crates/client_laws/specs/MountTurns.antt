@@ -16,8 +16,10 @@ use Rattle.outbox.specs.declared.outgoing.Outgoing.{Outgoing}
 use Rattle.wire_model.specs.Wire.{Acts, Purpose}
 use Rattle.wire_spelling.specs.Replies.{is_reply}
 use Rattle.wire_xdr.specs.Cursor.{IsBytes}
-use Rattle.client_laws.specs.CallerLaws.{AllAsk, IsMountRun, MountStep, PurposesFit, above_at, acts_in, calls_to, goes_to, is_call, taken_in}
-use Rattle.client_laws.specs.Order.{IsOrdered, count_behind, numbers_in, numbers_to}
+use Rattle.mount_runs.specs.Order.{IsOrdered}
+use Rattle.mount_runs.specs.Runs.{MountStep}
+use Rattle.client_laws.specs.CallerLaws.{AllAsk, IsMountRun, PurposesFit, above_at, acts_in, calls_to, goes_to, is_call, taken_in}
+use Rattle.client_laws.specs.Order.{NoneBeginsAnew, count_behind, numbers_in, numbers_to}
 use Rattle.client_laws.specs.Turns.{Hears, Turn}
 
 -- the record of the turn comes from the other server
@@ -72,6 +74,7 @@ pub record IsMountTurn {M : Type 0} (who : Identity) (ways : Ways) (boot : ℕ) 
   pub fits : PurposesFit side purpose c.copies → PurposesFit side after d.copies
   pub taken : IsTaken c.back.owner side turn out.accepted (flat_map taken_in (acts_in ways.means steps (mount_at side c)))
   pub order : IsOrdered ways.means steps (mount_at side c)
+  pub none_anew : NoneBeginsAnew steps
   pub numbers : numbers_in ways.means steps (mount_at side c) ≡ numbers_to side c.calls out.sent
   pub counts : d.calls ≡ count_behind c.calls out.sent
   pub goes_out : AllByRecursion (IsOut ways.means.mic turn c.back.owner) out.sent

@@ -14,7 +14,8 @@ use Rattle.outbox.specs.declared.outgoing.Outgoing.{Outgoing}
 use Rattle.wire_model.specs.CallerLaws.{CallerLaws}
 use Rattle.wire_model.specs.Wire.{Acts, Purpose, Sent}
 use Rattle.wire_spelling.specs.Spelling.{spelling}
-use Rattle.client_laws.specs.CallerLaws.{AreSpelled, above_at}
+use Rattle.mount_runs.specs.Runs.{AreSpelled}
+use Rattle.client_laws.specs.CallerLaws.{above_at}
 use Rattle.client_laws.specs.MountTurns.{IsMountTurn}
 use Rattle.client_laws.specs.Turns.{Hears, Turn}
 

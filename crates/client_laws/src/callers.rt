@@ -14,7 +14,8 @@ ghost use Rattle.outbox.specs.declared.outgoing.Outbox.{Outbox};
 ghost use Rattle.streams.specs.declared.draws.Drawn.TheVariants.{Got};
 ghost use Rattle.wire_model.specs.CallerLaws.{CallerStart};
 ghost use Rattle.wire_model.specs.Wire.{Purpose};
-ghost use Rattle.client_laws.specs.CallerLaws.{AllObey, AreSpelled, IsMountRun, MountStep, PurposesFit, StartsOwn, above_at};
+ghost use Rattle.mount_runs.specs.Runs.{AreSpelled, MountStep};
+ghost use Rattle.client_laws.specs.CallerLaws.{AllObey, IsMountRun, PurposesFit, StartsOwn, above_at};
 ghost use Rattle.client_laws.specs.MountTurns.{IsMountTurn};
 ghost use Rattle.client_laws.specs.Turns.{IsTurn, MayTurn, Turn};
 

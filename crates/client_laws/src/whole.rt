@@ -11,7 +11,7 @@ ghost use Rattle.client_laws.specs.WholeTurns.{IsLawfulTurn, IsSettled, IsSpelle
 
 use caller_laws::{mounts_begin_lawful, steps_are_lawful};
 use gss_mech::{Mechanism, tokens_agree};
-use mount::what_goes_out_is_counted;
+use mount_runs::{calls_have_their_xids, runs_are_lawful, servers_stay};
 use streams::Draws;
 
 /// In each turn the client owes each of its servers what every caller owes, in all that it took and sent: the calls to the other
@@ -24,7 +24,9 @@ pub fn turns_are_lawful<M: Mechanism>()
         → (side : Side) → IsLawfulTurn who (ways_of M.mic_of M.derived M.finished M.started M.accepted s) boot purposes turn c d out t side }
 {
     steps_are_lawful::<M>();
-    what_goes_out_is_counted();
+    servers_stay();
+    calls_have_their_xids::<M>();
+    runs_are_lawful::<M>();
     tokens_agree::<M>();
 }
 
@@ -40,6 +42,8 @@ pub fn clients_stay_settled<M: Mechanism, W: Draws>()
 {
     mounts_begin_lawful();
     steps_are_lawful::<M>();
-    what_goes_out_is_counted();
+    servers_stay();
+    calls_have_their_xids::<M>();
+    runs_are_lawful::<M>();
     tokens_agree::<M>();
 }

@@ -51,7 +51,8 @@ use Rattle.session_client.specs.declared.asked.Asked.{Asked}
 use Rattle.session_client.specs.declared.asked.Asked.TheVariants.{Compound}
 use Rattle.session_client.specs.declared.setup.Setup.{Setup}
 use Rattle.wire_model.specs.Wire.{Purpose}
-use Rattle.client_laws.specs.CallerLaws.{AllAsk, AreSpelled, AsksIn, AsksOf, IsMountRun, MountStep, purpose_after, purpose_for}
+use Rattle.mount_runs.specs.Runs.{AreSpelled, MountStep}
+use Rattle.client_laws.specs.CallerLaws.{AllAsk, AsksIn, AsksOf, IsMountRun, purpose_after, purpose_for}
 use Rattle.client_laws.specs.WordLaws.{Knew}
 use Rattle.client_word.proofs.Desks.{none_went}
 use Rattle.client_word.proofs.Mounts.{Awaits, IsCalled, IsLess, alike_anew, child_goes, emptied_less, fallen_less, none_some, placed, rooted_by, slot_goes, some_is, step_goes}

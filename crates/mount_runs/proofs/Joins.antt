@@ -32,15 +32,16 @@ use Rattle.session_client.specs.declared.answers.Taken.{Taken}
 use Rattle.session_client.specs.declared.answers.Taken.TheVariants as answers
 use Rattle.session_client.specs.declared.answers.TakenChild.{TakenChild}
 use Rattle.session_client.specs.declared.answers.TakenChild.TheVariants as children
+use Rattle.session_client.specs.declared.setup.Setup.TheVariants as setups
 use Rattle.wire_model.specs.CallerLaws.{LearnsRoot}
 use Rattle.wire_model.specs.Spelling.{Context}
 use Rattle.wire_model.specs.Wire.{Acts, Begins}
 use Rattle.wire_spelling.specs.Spelling.{spelling}
-use Rattle.mount_runs.proofs.Rooting.{is_down, rooted_up}
 use Rattle.mount_runs.proofs.RunFacts.{Known, init_at, init_down, none_some, unmounted}
 use Rattle.mount_runs.proofs.RunJoins.{Ended, Upto, again_joins, laws_of, losing_joins, with_out}
 use Rattle.mount_runs.proofs.Servers.{done_server}
 use Rattle.mount_runs.specs.Order.{AreAgain, AreAnew, AreLosing, IsOrdered, IsTake, MayAgain, is_anew, is_losing, is_root}
+use Rattle.mount_runs.specs.RootLaws.{IsRooted, rooted_up}
 use Rattle.mount_runs.specs.Runs.{AreSpelled, IsOneStep, IsRun, MountStep, whole}
 
 -- ---- what a record that is accepted, and doesn't tell the root, leaves of what is awaited, where there is no root
@@ -138,8 +139,10 @@ module _ (who : Identity) (means : Means) (known : Known who means) (owner : End
       ap (option_map (awaited_in n.contexts (b.purpose learnt.takes.place))) stays in
       absurd ((laws_of who means known owner a b m (Takes place message) server step).begin root learnt learnt.takes.place it.init.xid later)
 
-  up_rooted : (st : Standing) → is_down (setup_in st) ≡ false → root_name st ≡ None → ⊥
-  up_rooted (Down kept) up none = absurd cc
+  up_rooted : (st : Standing) → IsRooted (setup_in st) → root_name st ≡ None → ⊥
+  up_rooted (Down kept) up none =
+      let is : setups.Down ≡ setups.Rooted up.verifier = up.is in
+      absurd cc
   up_rooted (Rooted root) up none = absurd cc
 
   itself : (m : Mounted) (a : Above) → GoesOn m a a

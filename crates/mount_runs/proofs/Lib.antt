@@ -2,7 +2,6 @@ mod Knowing
 mod KnownSteps
 mod Behind
 mod Servers
-mod Rooting
 mod RunFacts
 mod RunJoins
 mod Joins

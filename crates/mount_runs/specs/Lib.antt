@@ -1,4 +1,5 @@
 pub mod Runs
 pub mod Order
+pub mod RootLaws
 pub mod Besides
 pub mod Whole

@@ -8,4 +8,7 @@
 
 mod runs;
 
-pub use runs::{others_go_beside, runs_are_lawful, sends_are_counted, whole_steps_are_lawful};
+pub use runs::{
+    calls_have_their_xids, others_go_beside, runs_are_lawful, sends_are_counted, servers_stay,
+    whole_steps_are_lawful,
+};

@@ -1,15 +1,20 @@
-ghost use Rattle.std.specs.Prelude.{◌≡◌, ℕ, List};
+ghost use Rattle.std.specs.Prelude.{◌≡◌, ℕ, List, Option};
 ghost use Rattle.caller_laws.specs.Good.{Identity, IsGood};
-ghost use Rattle.caller_laws.specs.Moves.{Send, sent_by};
+ghost use Rattle.caller_laws.specs.Lawful.{IsStep};
+ghost use Rattle.caller_laws.specs.Moves.{Move, Send, Sends, done, sent_by};
 ghost use Rattle.caller_laws.specs.View.{Above};
 ghost use Rattle.gss_ctx.specs.Seals.{Mic};
 ghost use Rattle.mount.specs.Laws.{Went};
 ghost use Rattle.mount.specs.declared.machine.SendAt.{SendAt};
 ghost use Rattle.mount.specs.State.{Mounted};
+ghost use Rattle.mount.specs.Taking.{Means};
 ghost use Rattle.nfs_base.specs.declared.seal.End.{End};
+ghost use Rattle.nfs_base.specs.declared.seal.Seal.{Seal};
 ghost use Rattle.wire_model.specs.CallerLaws.{CallerLaws};
 ghost use Rattle.wire_model.specs.Spelling.{Spelling};
+ghost use Rattle.wire_model.specs.Wire as wire;
 ghost use Rattle.wire_model.specs.Wire.{Acts, Caller};
+ghost use Rattle.wire_spelling.specs.Calls.{xid_in};
 ghost use Rattle.mount_runs.specs.Besides.{GoesBeside};
 ghost use Rattle.mount_runs.specs.Order.{IsOrdered};
 ghost use Rattle.mount_runs.specs.Runs.{AreSpelled, IsOneStep, IsRun, MountStep};
@@ -47,6 +52,23 @@ pub fn whole_steps_are_lawful<M: Mechanism>()
 {
     runs_are_lawful::<M>();
     others_go_beside();
+}
+
+/// In no step does a mount's server change.
+pub fn servers_stay()
+    ensures { (means : Means) (move : Move) (m : Mounted) → (done means move m).mount.server ≡ m.server }
+{}
+
+/// What goes out in a step of a mount is a call by just the xid that it was given.
+pub fn calls_have_their_xids<M: Mechanism>()
+    ensures { (mech : M) (principal : List ℕ) (who : Identity) (a b : Above) (m : Mounted) (at : SendAt) (send : Send)
+        → IsStep who (record { mic = M.mic_of; derived = M.derived; finished = M.finished mech principal }) a b m (Sends at send)
+        → (bytes : List ℕ) (seal : Option Seal)
+        → wire.Sends (done (record { mic = M.mic_of; derived = M.derived; finished = M.finished mech principal }) (Sends at send) m).shown bytes seal
+        → xid_in bytes ≡ at.xid }
+{
+    steps_are_lawful::<M>();
+    what_goes_out_is_counted();
 }
 
 /// Each call of a mount that goes out is the last one from then on, and where none goes out, the mount is as it was.

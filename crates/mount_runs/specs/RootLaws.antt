@@ -1,6 +1,5 @@
--- Where a mount is told its root, its setup is up behind it.
+-- Where a mount is told its root, its setup goes on from a root behind it.
 use Rattle.std.proofs.Common.{◌≡◌, ℕ, Bool, true, false, List, Option, Some, None, Result, Ok, Err, refl}
-use Rattle.client_site.specs.Sending.{is_down}
 use Rattle.gss_ctx.specs.declared.begin.Begun.{Begun}
 use Rattle.gss_ctx.specs.declared.begin.Begun.TheVariants as begins
 use Rattle.mount.specs.State.{Mounted, awaited_at, context_of, emptied, is_present, setup_in}
@@ -25,17 +24,23 @@ use Rattle.session_client.specs.declared.answers.Taken.TheVariants as answers
 use Rattle.session_client.specs.declared.answers.TakenChild.{TakenChild}
 use Rattle.session_client.specs.declared.answers.TakenChild.TheVariants as children
 use Rattle.session_client.specs.declared.setup.Setup.{Setup}
-use Rattle.client_laws.specs.Order.{is_root}
+use Rattle.session_client.specs.declared.setup.Setup.TheVariants as setups
+use Rattle.mount_runs.specs.Order.{is_root}
 
--- what is heard, if it is a root, leaves the setup up
+-- a context is there, and nothing more yet
+pub record IsRooted (setup : Setup) : Type 0 where
+  pub verifier : List ℕ
+  pub is : setup ≡ setups.Rooted verifier
+
+-- what is heard, if it is a root, leaves the setup there
 abbrev Up : Heard × Mounted → Type 0
-Up o = is_root o.0.told ≡ true → is_down (setup_in o.1.standing) ≡ false
+Up o = is_root o.0.told ≡ true → IsRooted (setup_in o.1.standing)
 
 unlike : {A : Type 0} → false ≡ true → A
 unlike e = absurd cc
 
 up_init : (place : ℕ) (init : Beginning) (begun : Begun) (m : Mounted) → Up (after_init place init begun m)
-up_init place init (begins.Made handle key) m e = refl
+up_init place init (begins.Made handle key) m e = record { verifier = _; is = refl }
 up_init place init (begins.Refused major) m e = unlike e
 up_init place init (begins.Failed stat) m e = unlike e
 up_init place init (begins.Denied why) m e = unlike e
@@ -92,5 +97,5 @@ up_awaiting means place message None m e = unlike e
 up_awaiting means place message (Some a) m e = up_pending means place message a.pending m e
 
 pub rooted_up : (means : Means) (place : ℕ) (message : List ℕ) (m : Mounted) → is_root (taken_at means place message m).0.told ≡ true
-    → is_down (setup_in (taken_at means place message m).1.standing) ≡ false
+    → IsRooted (setup_in (taken_at means place message m).1.standing)
 rooted_up means place message m e = up_awaiting means place message (awaited_at m place) m e
