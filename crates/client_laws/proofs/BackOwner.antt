@@ -32,7 +32,7 @@ use Rattle.rpc_calls.specs.declared.call.What.TheVariants as whats
 use Rattle.rpc_calls.specs.declared.contexts.InitAnswer.{InitAnswer}
 use Rattle.streams.specs.declared.draws.Drawn.{Drawn}
 use Rattle.streams.specs.declared.draws.Drawn.TheVariants.{Got, Failed}
-use Rattle.client_laws.proofs.OwnSeals.{inits_owner}
+use Rattle.call_replies.specs.SealLaws.{inits_owner}
 use Rattle.client_laws.specs.Turns.{IsTurn, Turn, Asks, Begins, Hears, Retries, Ticks, Works}
 
 abbrev Same : {M : Type 0} → ClientState M → ClientState M × Outbox → Type 0

@@ -2,9 +2,6 @@ mod MountRuns
 mod RunKinds
 mod MountMoves
 mod Going
-mod OwnSeals
-mod JudgedSays
-mod Replying
 mod MountCalls
 mod MountAgain
 mod MountHears

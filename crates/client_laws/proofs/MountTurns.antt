@@ -10,7 +10,7 @@ use Rattle.client_copies.specs.Table.{Copies, with_begun}
 use Rattle.client_copies.specs.declared.copy.Query.{Query}
 use Rattle.client_copies.specs.declared.table.TheConstants.{MOST_COPIES}
 use Rattle.client_core.specs.Callbacks.{IsCompound, all_said, called_back, session_under, told_of}
-use Rattle.client_core.specs.Calls.{call_dropped, created, denial_label, denied, destroyed, dropping, failed, inited_unless, is_misspelt, nulled}
+use Rattle.client_core.specs.Calls.{call_dropped, created, denial_label, denied, destroyed, dropping, failed, inited_unless, is_misspelt, nulled, reply_seal}
 use Rattle.client_core.specs.Commands.{IsBegunBy, asked_if, begun_with, with_work}
 use Rattle.client_core.specs.Endings.{IsStep, Ways, acting_at, desk_at, ended_by, given, settled, undrawn}
 use Rattle.client_core.specs.Records.{IsJudged, IsWhat, heard}
@@ -42,6 +42,7 @@ use Rattle.rpc_calls.specs.Making.{made_seal}
 use Rattle.rpc_calls.specs.declared.call.Call.{Call}
 use Rattle.rpc_calls.specs.declared.call.Judged.{Judged}
 use Rattle.rpc_calls.specs.declared.call.Judged.TheVariants as judged
+use Rattle.rpc_calls.specs.declared.call.Under.{Under}
 use Rattle.rpc_calls.specs.declared.call.What.{What}
 use Rattle.rpc_calls.specs.declared.call.What.TheVariants as whats
 use Rattle.rpc_calls.specs.declared.contexts.InitAnswer.{InitAnswer}
@@ -59,6 +60,10 @@ use Rattle.rpc_msg.specs.declared.reply.Stat.TheVariants.{Garbage}
 use Rattle.streams.specs.declared.draws.Drawn.{Drawn}
 use Rattle.streams.specs.declared.draws.Drawn.TheVariants.{Got, Failed}
 use Rattle.wire_model.specs.Wire.{Acts, Purpose}
+use Rattle.call_replies.specs.ReplyLaws.{denial_reply_is, failure_reply_is, init_reply_is, result_reply_is}
+use Rattle.call_replies.specs.SaysLaws.{IsSaid, IsSpoken, auth_fits, garbage_fits, judged_says}
+use Rattle.call_replies.specs.Sealed.{IsSealedBy}
+use Rattle.call_replies.specs.SealLaws.{accepted_owner, inited_owner, under_owner, unsealed}
 use Rattle.client_laws.proofs.Asking.{stays_same}
 use Rattle.client_laws.proofs.Changed.{said_copies}
 use Rattle.client_laws.proofs.Fitting.{fits_begun, fits_evaluated}
@@ -77,9 +82,6 @@ use Rattle.client_laws.specs.Fits.{TurnIsFit}
 use Rattle.client_laws.proofs.MountCalls.{DrawsFit, Goes, IsUp, asked, goes_on, goes_on_up, tells, ticks}
 use Rattle.client_laws.proofs.MountParts.{copies_are, kept_said}
 use Rattle.client_laws.proofs.MountMoves.{Post, any, Counted, IsKept, Runs, kept, mount_in, none, reshaped, rests, runs_then, same_seal}
-use Rattle.client_laws.proofs.JudgedSays.{IsSaid, IsSpoken, auth_fits, garbage_fits, judged_says}
-use Rattle.client_laws.proofs.Replying.{denial_reply_is, failure_reply_is, init_reply_is, result_reply_is}
-use Rattle.client_laws.proofs.OwnSeals.{IsSealedBy, accepted_owner, inited_owner, reply_owner, unsealed}
 use Rattle.mount_runs.specs.Runs.{MountStep}
 use Rattle.client_laws.specs.CallerLaws.{PurposesFit, IsMountRun, StartsOwn, above_by, acts_in, call_if, calls_to, goes_to, is_call, taken_in}
 use Rattle.client_laws.specs.MountTurns.{IsMountTurn, IsOut, IsOwnAnswer, IsStrange, IsTaken, TakesBytes}
@@ -87,6 +89,10 @@ use Rattle.mount_runs.specs.Order.{IsOrdered}
 use Rattle.client_laws.specs.Order.{count_behind, counted_if, number_if, numbers_in, numbers_to}
 use Rattle.client_laws.specs.Turns.{IsTurn, MayTurn, Turn, Asks, Begins, Hears, Retries, Ticks, Works}
 use Rattle.client_laws.proofs.MountHears.{Comes, Heard, Hearing, hears, kept_seal}
+
+reply_owner : (table : ContextTable ℕ) (under : Option Under) → IsSealedBy table.owner (reply_seal table under)
+reply_owner table None = unsealed table.owner
+reply_owner table (Some under) = under_owner table under.number under.seq
 
 -- ---- how a step ends
 

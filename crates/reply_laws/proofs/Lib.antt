@@ -1,5 +1,2 @@
-mod JudgedSays
-mod Replying
-mod OwnSeals
 mod Turns
 mod Owners

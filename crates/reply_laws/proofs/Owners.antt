@@ -20,7 +20,7 @@ use Rattle.session_server.specs.Steps.{IsCompoundTurn, IsJudgedTurn, IsWhatTurn,
 use Rattle.session_server.specs.declared.extending.Judgement.{Judgement}
 use Rattle.session_server.specs.declared.extending.Judgement.TheVariants as judgements
 use Rattle.streams.specs.declared.draws.Drawn.{Drawn}
-use Rattle.reply_laws.proofs.OwnSeals.{inits_owner}
+use Rattle.call_replies.specs.SealLaws.{inits_owner}
 
 verdict_owner : {P : Type 0} (now : ℕ) (o : Option Verdict) (table : ContextTable P) → (counted_by now o table).owner ≡ table.owner
 verdict_owner now None table = refl

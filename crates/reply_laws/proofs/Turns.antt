@@ -1,7 +1,8 @@
 -- What a server sends in each step is an answer of its own.
-use Rattle.std.proofs.Common.{◌≡◌, ◌∙◌, ℕ, true, List, [], ◌∷◌, Option, None, Result, Ok, Err, refl, sym, ap, subst, lit<}
+use Rattle.std.proofs.Common.{◌≡◌, ◌∙◌, ℕ, true, List, [], ◌∷◌, Option, Some, None, Result, Ok, Err, refl, sym, ap, subst, lit<}
 use Rattle.std.specs.Prelude.{replicate}
 use Rattle.std.specs.List.{AllByRecursion}
+use Rattle.gss_ctx.specs.Table.{ContextTable}
 use Rattle.gss_mech.specs.Tokens.{IsSized}
 use Rattle.gss_mech.specs.declared.mechanism.Accepted.{Accepted}
 use Rattle.nfs_compound.specs.declared.compound.Compound.{Compound}
@@ -13,6 +14,7 @@ use Rattle.rpc_calls.specs.declared.contexts.InitAnswer.{InitAnswer}
 use Rattle.rpc_calls.specs.declared.call.Judged.{Judged}
 use Rattle.rpc_calls.specs.declared.call.Judged.TheVariants as judged
 use Rattle.rpc_calls.specs.declared.call.TheConstants.Program as programs
+use Rattle.rpc_calls.specs.declared.call.Under.{Under}
 use Rattle.rpc_calls.specs.declared.call.What.{What}
 use Rattle.rpc_calls.specs.declared.call.What.TheVariants as whats
 use Rattle.rpc_msg.specs.Heads as heads
@@ -29,10 +31,15 @@ use Rattle.streams.specs.declared.draws.Drawn.{Drawn}
 use Rattle.wire_spelling.specs.ReadLaws as reads
 use Rattle.wire_spelling.specs.Replies.{is_reply}
 use Rattle.wire_xdr.specs.Cursor.{IsBytes}
-use Rattle.reply_laws.proofs.JudgedSays.{IsSaid, IsSpoken, auth_fits, garbage_fits, judged_says}
-use Rattle.reply_laws.proofs.OwnSeals.{accepted_owner, inited_owner, reply_owner, unsealed}
-use Rattle.reply_laws.proofs.Replying.{denial_reply_is, failure_reply_is, init_reply_is, result_reply_is}
-use Rattle.reply_laws.specs.Answers.{Answers, IsAnswer, IsSealedBy}
+use Rattle.call_replies.specs.ReplyLaws.{denial_reply_is, failure_reply_is, init_reply_is, result_reply_is}
+use Rattle.call_replies.specs.SaysLaws.{IsSaid, IsSpoken, auth_fits, garbage_fits, judged_says}
+use Rattle.call_replies.specs.Sealed.{IsSealedBy}
+use Rattle.call_replies.specs.SealLaws.{accepted_owner, inited_owner, under_owner, unsealed}
+use Rattle.reply_laws.specs.Answers.{Answers, IsAnswer}
+
+reply_owner : {P : Type 0} (table : ContextTable P) (under : Option Under) → IsSealedBy table.owner (reply_seal table under)
+reply_owner table None = unsealed table.owner
+reply_owner table (Some under) = under_owner table under.number under.seq
 
 module _ {X C W : Type 0} (rules : Rules X C) (codes : Codes) (sized : IsSized codes.mic) (tokens : List ℕ → List ℕ → Option Accepted) (gives : W → Drawn → W → Type 0)
     (second conn : ℕ) (s : HostState X C) where

@@ -1,15 +1,11 @@
 -- What a server answers to a record on a connection.
-use Rattle.std.specs.Prelude.{◌≡◌, true, Option, Some}
+use Rattle.std.specs.Prelude.{◌≡◌, true}
 use Rattle.std.specs.List.{AllByRecursion}
 use Rattle.nfs_base.specs.declared.seal.End.{End}
-use Rattle.nfs_base.specs.declared.seal.Seal.{Seal}
 use Rattle.outbox.specs.declared.outgoing.Outbox.{Outbox}
 use Rattle.outbox.specs.declared.outgoing.Outgoing.{Outgoing}
 use Rattle.wire_spelling.specs.Replies.{is_reply}
-
--- a seal, if there is one, is this end's
-abbrev pub IsSealedBy : End → Option Seal → Type 0
-IsSealedBy owner o = (seal : Seal) → o ≡ Some seal → seal.owner ≡ owner
+pub use Rattle.call_replies.specs.Sealed.{IsSealedBy}
 
 abbrev pub IsAnswer : End → Outgoing → Type 0
 IsAnswer owner one = (is_reply one.bytes ≡ true) × IsSealedBy owner one.seal

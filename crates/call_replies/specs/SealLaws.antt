@@ -1,4 +1,4 @@
--- What is accepted as calls, and what they are answered by, is sealed under contexts of the server's own.
+-- What is accepted as calls, and what they are answered by, is sealed under contexts of the end's own.
 use Rattle.std.proofs.Common.{◌≡◌, ◌∙◌, ℕ, Bool, true, false, List, Option, Some, None, refl, sym, ap}
 use Rattle.gss_ctx.specs.Making.{Inits, InitsUnless, InitsWith, Makes}
 use Rattle.gss_ctx.specs.Seals.{Mic}
@@ -13,11 +13,9 @@ use Rattle.nfs_base.specs.declared.seal.Seal.{Seal}
 use Rattle.rpc_calls.specs.Answers.{accepted_seal, admitted_seal, seal_by, seal_in}
 use Rattle.rpc_calls.specs.Making.{made_seal}
 use Rattle.rpc_calls.specs.declared.call.Call.{Call}
-use Rattle.rpc_calls.specs.declared.call.Under.{Under}
-use Rattle.session_server.specs.Steps.{reply_seal}
-use Rattle.reply_laws.specs.Answers.{IsSealedBy}
 use Rattle.streams.specs.declared.draws.Drawn.{Drawn}
 use Rattle.streams.specs.declared.draws.Drawn.TheVariants.{Got, Failed}
+use Rattle.call_replies.specs.Sealed.{IsSealedBy}
 
 pub unsealed : (owner : End) → IsSealedBy owner None
 unsealed owner seal is = absurd cc
@@ -40,9 +38,9 @@ verdict_owner table (Some verdict) = admitted_owner table verdict.answer
 pub accepted_owner : {P : Type 0} (table : ContextTable P) (call : Call) → IsSealedBy table.owner (accepted_seal table call)
 accepted_owner table call = verdict_owner table call.verdict
 
-pub reply_owner : {P : Type 0} (table : ContextTable P) (under : Option Under) → IsSealedBy table.owner (reply_seal table under)
-reply_owner table None = unsealed table.owner
-reply_owner table (Some under) = sealed_so table.owner (seal_in table under.number under.seq) refl
+-- what is sealed under one of its contexts is the table's
+pub under_owner : {P : Type 0} (table : ContextTable P) (number seq : ℕ) → IsSealedBy table.owner (Some (seal_in table number seq))
+under_owner table number seq = sealed_so table.owner (seal_in table number seq) refl
 
 made_owner : {P : Type 0} (owner : End) (table : ContextTable P) (made : Option ℕ) → table.owner ≡ owner → IsSealedBy owner (made_seal table made)
 made_owner owner table None is = unsealed owner

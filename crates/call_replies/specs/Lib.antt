@@ -1,0 +1,4 @@
+pub mod ReplyLaws
+pub mod SaysLaws
+pub mod Sealed
+pub mod SealLaws
