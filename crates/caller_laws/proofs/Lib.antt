@@ -1,7 +1,6 @@
 pub mod Faces
 pub mod Gained
 pub mod Heard
-pub mod Joined
 pub mod Losses
 pub mod SendMoves
 pub mod SentLaws

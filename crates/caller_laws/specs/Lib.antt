@@ -4,4 +4,5 @@ pub mod Good
 pub mod Lawful
 pub mod Duties
 pub mod Joining
+pub mod JoiningLaws
 pub mod Tokens

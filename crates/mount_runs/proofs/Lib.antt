@@ -1,6 +1,5 @@
 mod Knowing
 mod KnownSteps
-mod Behind
 mod Servers
 mod RunFacts
 mod RunJoins

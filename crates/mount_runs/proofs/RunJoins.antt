@@ -3,7 +3,8 @@ use Rattle.std.proofs.Common.{◌≡◌, ◌∙◌, ◌⊎◌, inl, inr, ℕ, �
 use Rattle.std.proofs.lemmas.List.{append-nil, append_assoc}
 use Rattle.std.proofs.lemmas.List.Elements.{Contains-append_cases}
 use Rattle.caller_laws.specs.Good.{Identity, IsGood}
-use Rattle.caller_laws.specs.Joining.{joined}
+use Rattle.caller_laws.specs.Joining.{KeepsSent, joined}
+use Rattle.caller_laws.specs.JoiningLaws.{joined_obey}
 use Rattle.caller_laws.specs.Lawful.{GoesOn, IsStep, May, Suits}
 use Rattle.caller_laws.specs.Moves.{Again, Begin, BeginAnew, Falls, Finish, Forgets, GivesUp, InSlot, Make, Move, Reclaim, Rests, Send, Sends, SetUp, Takes, done, nothing_shown}
 use Rattle.caller_laws.specs.View.{Above, awaited_in, caller_of}
@@ -20,7 +21,6 @@ use Rattle.wire_model.specs.Wire.{Acts, Awaited, Begins, Caller, Purpose, Sent}
 use Rattle.wire_model.specs.Wire as wire
 use Rattle.wire_spelling.specs.Slots.{slot_of}
 use Rattle.wire_spelling.specs.Spelling.{spelling}
-use Rattle.mount_runs.proofs.Behind.{KeepsSent, joined_obey}
 use Rattle.mount_runs.proofs.RunFacts.{Known, mount_on, no_init, none_some, own_place, rooted_on, stays_elsewhere}
 use Rattle.mount_runs.proofs.Servers.{LeavesRoot, done_server}
 use Rattle.mount_runs.specs.Runs.{AreSpelled, IsRun, MountStep, StaysReady, whole}

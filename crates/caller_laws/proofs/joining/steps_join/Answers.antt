@@ -1,4 +1,4 @@
-use Rattle.caller_laws.proofs.Joined.{joined_obey}
+use Rattle.caller_laws.specs.JoiningLaws.{joined_obey}
 use Rattle.caller_laws.proofs.joining.steps_join.Goals as goal
 
 pub returns : goal.returns

@@ -1,31 +1,12 @@
 -- Two steps of a caller that obey the laws obey them as one, where nothing is lost of what the first sent.
-use Rattle.std.proofs.Common.{◌≡◌, ◌⊎◌, inl, inr, ℕ, ◌<◌, ◌≤◌, true, false, List, [], Contains, Option, Some, None, sym, subst, ◌∙◌, arith}
+use Rattle.std.proofs.Common.{◌≡◌, ◌⊎◌, inl, inr, ℕ, ◌<◌, ◌≤◌, false, List, [], Contains, Option, Some, None, sym, subst, ◌∙◌, arith}
 use Rattle.std.proofs.lemmas.List.Elements.{Contains-append_cases, Contains-append_left, Contains-append_right}
 use Rattle.nfs_base.specs.declared.seal.End.{End}
 use Rattle.nfs_base.specs.declared.seal.Seal.{Seal}
 use Rattle.wire_model.specs.CallerLaws.{CallerLaws, GoesOn, IsAwaited, IsNew, IsSent, LearnsChild, LearnsRoot, Takes}
 use Rattle.wire_model.specs.Spelling.{Context, SlotName, Spelling}
-use Rattle.wire_model.specs.Wire.{Acts, Awaited, Begins, Call, Caller, Purpose, Sends, Sent, Slotted, What}
-use Rattle.caller_laws.specs.Joining.{joined}
-
--- what the first step sent is awaited as it was, and the mount that is there stays
-pub record KeepsSent (spell : Spelling) (owner : End) (a : Acts) (u w : Caller) : Type 0 where
-  pub mount : (root : Context) → u.mount ≡ Some root → w.mount ≡ Some root
-  pub ready : (purpose : Purpose) → u.ready purpose ≡ true → w.ready purpose ≡ true
-  pub sent : (bytes : List ℕ) (seal : Seal) (name : SlotName) (x : Awaited) → Sends a bytes (Some seal) → seal.owner ≡ owner → spell.slot_of bytes ≡ Some name
-      → u.awaits name.slot ≡ Some x → w.awaits name.slot ≡ Some x
-
--- The second step, from u to w, goes on from the first, from v to u: all in one opening; it takes nothing and sends no replies. The
--- first sent nothing, or what it sent stays. A root is learnt only by a caller without a mount, and where one was, no INIT is awaited
--- in the end.
-pub record IsBehind (spell : Spelling) (owner : End) (v u w : Caller) (a b : Acts) : Type 0 where
-  pub opening : v.boot ≡ u.boot
-  pub same_opening : u.boot ≡ w.boot
-  pub takes_nothing : b.took ≡ None
-  pub calls : (bytes : List ℕ) (seal : Option Seal) → Sends b bytes seal → spell.is_reply bytes ≡ false
-  pub keeps : (a.out ≡ []) ⊎ KeepsSent spell owner a u w
-  pub unmounted : (root : Context) → LearnsRoot spell owner v a root → v.mount ≡ None
-  pub begun : (root : Context) → LearnsRoot spell owner v a root → (place xid : ℕ) → w.awaits place ≡ Some (record { xid = xid; what = Begins }) → ⊥
+use Rattle.wire_model.specs.Wire.{Acts, Awaited, Call, Caller, Sends, Sent, Slotted, What}
+use Rattle.caller_laws.specs.Joining.{Follows, KeepsSent, joined}
 
 none_sent : (a : Acts) (bytes : List ℕ) (seal : Option Seal) → a.out ≡ [] → Sends a bytes seal → ⊥
 none_sent a bytes seal none sends =
@@ -35,7 +16,7 @@ none_sent a bytes seal none sends =
     omega arith
 
 module _ (spell : Spelling) (owner own : End) (v u w : Caller) (a b : Acts) (first : CallerLaws spell owner own v u a) (second : CallerLaws spell owner own u w b)
-    (f : IsBehind spell owner v u w a b) where
+    (f : Follows spell owner v u w a b) where
   either : (bytes : List ℕ) (seal : Option Seal) → Sends (joined a b) bytes seal → Sends a bytes seal ⊎ Sends b bytes seal
   either bytes seal sends =
       let x : Sent = record { bytes = bytes; seal = seal } in
