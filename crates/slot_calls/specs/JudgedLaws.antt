@@ -128,16 +128,16 @@ is_served program head gss_proc given args h =
 -- ---- a call, by its credential
 
 -- a COMPOUND that a context admitted
-record IsCompoundCall {P : Type 0} (mic : Mic) (now : ℕ) (program : Program) (head : CallHead) (body : List ℕ) (table : ContextTable P) (call : Call) (args : List ℕ) : Type 0 where
-  cred : GssCred
-  cred_is : cred_of head ≡ Some cred
-  number : ℕ
-  seq : ℕ
-  answer_is : (verdict_of mic now head body table).answer ≡ admits.Admitted number seq args
-  call_is : call ≡ by_verdict program head cred.gss_proc (verdict_of mic now head body table)
-  prog_is : head.prog ≡ program.number
-  proc_is : head.proc ≡ PROC_COMPOUND
-  data_is : cred.gss_proc ≡ RPCSEC_GSS_DATA
+pub record IsCompoundCall {P : Type 0} (mic : Mic) (now : ℕ) (program : Program) (head : CallHead) (body : List ℕ) (table : ContextTable P) (call : Call) (args : List ℕ) : Type 0 where
+  pub cred : GssCred
+  pub cred_is : cred_of head ≡ Some cred
+  pub number : ℕ
+  pub seq : ℕ
+  pub answer_is : (verdict_of mic now head body table).answer ≡ admits.Admitted number seq args
+  pub call_is : call ≡ by_verdict program head cred.gss_proc (verdict_of mic now head body table)
+  pub prog_is : head.prog ≡ program.number
+  pub proc_is : head.proc ≡ PROC_COMPOUND
+  pub data_is : cred.gss_proc ≡ RPCSEC_GSS_DATA
 
 module _ {P : Type 0} (mic : Mic) (now : ℕ) (program : Program) (head : CallHead) (body : List ℕ) (table : ContextTable P) (args : List ℕ) where
   abbrev IsHere : Call → Type 0
@@ -210,35 +210,35 @@ module _ {P : Type 0} (mic : Mic) (now : ℕ) (program : Program) (head : CallHe
   by_version true h = by_flavor (head.cred.flavor == RPCSEC_GSS) h
   by_version false h = absurd cc
 
-  compound_judged : (call : Call) → call_judged mic now program head body table ≡ call → Is call.what args → IsHere call
+  pub compound_judged : (call : Call) → call_judged mic now program head body table ≡ call → Is call.what args → IsHere call
   unfolding call_judged
   compound_judged call is h = subst IsHere is (by_version (head.rpcvers == RPC_VERSION) (subst (λ (c : Call). Is c.what args) (sym is) h))
 
 -- ---- a record
 
-abbrev heads_call : (bytes : List ℕ) → Result (CallHead × ℕ) RpcFault
+abbrev pub heads_call : (bytes : List ℕ) → Result (CallHead × ℕ) RpcFault
 heads_call bytes = head_told heads.call REPLY bytes
 
 -- the head that was read of a call
-record IsRead {P : Type 0} (mic : Mic) (now : ℕ) (program : Program) (bytes : List ℕ) (table : ContextTable P) (call : Call) : Type 0 where
-  head : CallHead
-  at : ℕ
-  told : heads_call bytes ≡ Ok (head, at)
-  call_is : call_judged mic now program head (drop at bytes) table ≡ call
+pub record IsRead {P : Type 0} (mic : Mic) (now : ℕ) (program : Program) (bytes : List ℕ) (table : ContextTable P) (call : Call) : Type 0 where
+  pub head : CallHead
+  pub at : ℕ
+  pub told : heads_call bytes ≡ Ok (head, at)
+  pub call_is : call_judged mic now program head (drop at bytes) table ≡ call
 
 module _ {P : Type 0} (mic : Mic) (now : ℕ) (program : Program) (bytes : List ℕ) (table : ContextTable P) (call : Call) where
   reply_never : (told : Result (ReplyHead × ℕ) RpcFault) → reply_read told ≡ judged.Call call → ⊥
   reply_never (Ok read) h = absurd cc
   reply_never (Err fault) h = absurd cc
 
-  call_is_read : (told : Result (CallHead × ℕ) RpcFault) → heads_call bytes ≡ told → record_read mic now program bytes table told ≡ judged.Call call
+  pub call_is_read : (told : Result (CallHead × ℕ) RpcFault) → heads_call bytes ≡ told → record_read mic now program bytes table told ≡ judged.Call call
       → IsRead mic now program bytes table call
   call_is_read (Ok read) is h = record { head = read.0; at = read.1; told = is; call_is = cc }
   call_is_read (Err (OtherKind found)) is h = absurd (reply_never (head_told heads.reply CALL bytes) h)
   call_is_read (Err (BadXdr at)) is h = absurd cc
 
   -- what a wire sees of it
-  call_seen : (r : IsRead mic now program bytes table call) → call_in bytes ≡ Some (record { head = r.head; body = drop r.at bytes })
+  pub call_seen : (r : IsRead mic now program bytes table call) → call_in bytes ≡ Some (record { head = r.head; body = drop r.at bytes })
   call_seen r = ap (call_read bytes) r.told
 
 -- a COMPOUND of NFS that a context admitted is the one that a wire sees
