@@ -42,7 +42,8 @@ use Rattle.wire_spelling.specs.Replies.{is_reply}
 use Rattle.wire_xdr.specs.Cursor.{IsBytes}
 use Rattle.client_laws.proofs.Fitting.{quiet_deed}
 use Rattle.client_laws.proofs.MountCalls.{goes_on}
-use Rattle.client_laws.proofs.MountMoves.{Counted, unsure}
+use Rattle.mount_runs.specs.Counting.{Counted}
+use Rattle.client_laws.proofs.MountMoves.{unsure}
 use Rattle.client_laws.proofs.MountHears.{Comes, IsFoundAs, does, finds}
 use Rattle.client_laws.specs.Answered.{IsAnswerTaken}
 use Rattle.client_laws.specs.CallerLaws.{StartsOwn}

@@ -19,8 +19,8 @@ use Rattle.nfs_base.specs.declared.side.Side.TheVariants.{Source, Dest}
 use Rattle.session_calls.specs.declared.slot_call.FileCall.TheVariants as asks
 use Rattle.session_calls.specs.declared.slot_call.SlotCall.{SlotCall}
 use Rattle.session_calls.specs.declared.slot_call.SlotCall.TheVariants as calls
-use Rattle.client_laws.proofs.Changed.{copy_kept, copy_written}
 use Rattle.client_laws.specs.CallerLaws.{AsksCopy, AsksLast, AsksName, AsksOf, IsOf, is_safe, is_said_stable, knows_first, purpose_for, range_of, ready_in}
+use Rattle.client_laws.specs.TableLaws.{copy_kept, copy_written}
 
 -- the same is known of a copy, and where it was said to be stable, nothing more was said
 pub record IsSame (c d : ClientCopy) : Type 0 where

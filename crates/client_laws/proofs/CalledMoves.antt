@@ -1,5 +1,5 @@
 -- What a CB_COMPOUND does to copies: each CB_OFFLOAD of a copy's name happens to it, in their order, and nothing else.
-use Rattle.std.proofs.Common.{◌≡◌, ◌≢◌, ◌∙◌, ℕ, suc, ◌<◌, ◌≤◌, Bool, true, false, List, [], ◌∷◌, ◌++◌, length, Option, Some, None, refl, sym, ap, subst, get_or, arith}
+use Rattle.std.proofs.Common.{◌≡◌, ◌≢◌, ◌∙◌, ℕ, suc, ◌<◌, ◌≤◌, Bool, true, false, List, [], ◌∷◌, ◌++◌, length, Option, Some, None, Ok, refl, sym, ap, subst, get_or, arith}
 use Rattle.std.specs.Prelude.{◌==◌, nat_lt}
 use Rattle.std.specs.List.{AllByRecursion, flat_map, Contains}
 use Rattle.std.proofs.lemmas.List.{append-nil, append_assoc, length-set}
@@ -15,7 +15,8 @@ use Rattle.client_copies.specs.declared.event.Event.TheVariants as events
 use Rattle.client_copies.specs.declared.held.HeldOffload.{HeldOffload}
 use Rattle.client_copies.specs.declared.told.Word.{Word}
 use Rattle.client_core.specs.Callbacks.{all_said, session_under}
-use Rattle.client_core.specs.State.{ClientState}
+use Rattle.client_core.specs.Endings.{Ways}
+use Rattle.client_core.specs.State.{ClientState, second_at}
 use Rattle.client_steps.specs.Desks.{said_by}
 use Rattle.client_steps.specs.declared.desk.Desk.{Desk}
 use Rattle.copy_ops.specs.declared.callback.CbOffload.{CbOffload}
@@ -26,6 +27,7 @@ use Rattle.nfs_base.specs.declared.limits.TheConstants.{MOST_OPERATIONS}
 use Rattle.nfs_base.specs.declared.state_id.StateId.{StateId}
 use Rattle.nfs_base.specs.declared.written.Stability.{Stability}
 use Rattle.nfs_base.specs.declared.written.Stability.TheVariants.{Unstable, DataSync, FileSync}
+use Rattle.nfs_compound.specs.Compounds.{cb_compound_of}
 use Rattle.nfs_compound.specs.declared.cb_compound.CbCompound.{CbCompound}
 use Rattle.nfs_compound.specs.declared.cb_op.CbOp.{CbOp}
 use Rattle.nfs_compound.specs.declared.cb_op.CbOp.TheVariants as ops
@@ -33,10 +35,17 @@ use Rattle.nfs_compound.specs.declared.compound.TheConstants.{MINOR_VERSION}
 use Rattle.nfs_compound.specs.declared.tail.Tail.{Tail}
 use Rattle.nfs_compound.specs.declared.tail.Tail.TheVariants as tails
 use Rattle.outbox.specs.declared.note.Note.{Note}
+use Rattle.rpc_calls.specs.Judging.{judged_of}
+use Rattle.rpc_calls.specs.declared.call.Call.{Call}
+use Rattle.rpc_calls.specs.declared.call.Judged.TheVariants as judged
+use Rattle.rpc_calls.specs.declared.call.TheConstants.Program as programs
 use Rattle.rpc_calls.specs.declared.call.Under.{Under}
-use Rattle.client_laws.proofs.Changed.{changes_none, changes_then, notes_said, said_copies, said_if, said_notes, told_each, words_append, words_said, copy_kept, copy_written}
+use Rattle.rpc_calls.specs.declared.call.What.TheVariants as whats
+use Rattle.client_laws.proofs.Changed.{changes_none, changes_then, notes_said, said_copies, said_if, said_notes, told_each, words_append, words_said}
+use Rattle.client_laws.specs.Causes.{IsCalledBack}
 use Rattle.client_laws.specs.Changes.{Changes}
 use Rattle.client_laws.specs.Telling.{words_of}
+use Rattle.client_laws.specs.TableLaws.{copy_kept, copy_written}
 
 -- ---- a copy's name stays what it is
 
@@ -238,9 +247,35 @@ pub evaluated_outcomes : (cause : ℕ → Event → Type 0) (t : Copies) (sessio
 evaluated_outcomes cause t session c few why = evaluated_if cause t (c.minor == MINOR_VERSION) session c few why
 
 -- a call whose session is known came under a context
-pub under_of : {M : Type 0} (c : ClientState M) (o : Option Under) (session : List ℕ) → is_session session (session_under o c) ≡ true → (under : Under) × (o ≡ Some under)
+under_of : {M : Type 0} (c : ClientState M) (o : Option Under) (session : List ℕ) → is_session session (session_under o c) ≡ true → (under : Under) × (o ≡ Some under)
 under_of c None session e = absurd cc
 under_of c (Some under) session e = (under, refl)
+
+-- so each CB_OFFLOAD behind the CB_SEQUENCE of such a call came by it
+pub called_so : {M : Type 0} (ways : Ways) (message : List ℕ) (now : ℕ) (c : ClientState M) (call : Call) (args : List ℕ) (compound : CbCompound)
+    → judged_of ways.means.mic (second_at now c) programs.CALLBACK message c.back ≡ judged.Call call → call.what ≡ whats.Compound args
+    → cb_compound_of args ≡ Ok compound → (first : CbSeq) (more : List CbOp) → is_session first.session (session_under call.under c) ≡ true
+    → compound.ops ≡ ops.Sequence first ∷ more → (offload : CbOffload) → Contains more (ops.Offload offload)
+    → IsCalledBack ways message now c offload.id offload.end
+called_so ways message now c call args compound is what read first more own are offload there =
+    let context = under_of c call.under first.session own in
+    record {
+      call = call;
+      judged_is = is;
+      args = args;
+      what = what;
+      under = context.0;
+      under_is = context.1;
+      compound = compound;
+      read = read;
+      first = first;
+      more = more;
+      ops_are = are;
+      offload = offload;
+      there = there;
+      id_is = refl;
+      end_is = refl;
+    }
 
 -- ---- each of the operations is one of the compound's
 

@@ -1,11 +1,11 @@
 -- What happens to copies over a desk: it can be joined, and what changes neither copies nor notes is nothing.
-use Rattle.std.proofs.Common.{◌≡◌, ◌≢◌, ◌∙◌, ℕ, zero, suc, ◌<◌, Bool, true, false, List, [], ◌∷◌, ◌++◌, length, Option, Some, None, refl, sym, ap, subst, set, get_or, get_or-set_other, arith}
+use Rattle.std.proofs.Common.{◌≡◌, ◌≢◌, ◌∙◌, ℕ, ◌<◌, Bool, true, false, List, [], ◌∷◌, ◌++◌, length, Option, Some, None, refl, sym, ap, subst, set, arith}
 use Rattle.std.specs.Prelude.{◌==◌, option_map}
 use Rattle.std.specs.List.{AllByRecursion}
 use Rattle.std.proofs.lemmas.Grind.{flat_map-append}
 use Rattle.std.proofs.lemmas.List.{append-nil, append_assoc, length-set}
 use Rattle.client_copies.specs.Steps.{after}
-use Rattle.client_copies.specs.Table.{Copies, copy_after, copy_at, said_of, told_at, with_copy}
+use Rattle.client_copies.specs.Table.{Copies, copy_after, copy_at, said_of, told_at}
 use Rattle.client_copies.specs.Words.{ran, told, told_by_run}
 use Rattle.client_copies.specs.declared.copy.ClientCopy.{ClientCopy}
 use Rattle.client_copies.specs.declared.event.Event.{Event}
@@ -18,6 +18,7 @@ use Rattle.client_steps.specs.declared.desk.Desk.{Desk}
 use Rattle.outbox.specs.declared.note.Note.{Note}
 use Rattle.client_laws.specs.Changes.{Changes, told_by}
 use Rattle.client_laws.specs.Telling.{word_if, words_in, words_of}
+use Rattle.client_laws.specs.TableLaws.{copy_kept, copy_written}
 
 -- ---- runs of events, one behind the other
 
@@ -144,20 +145,6 @@ words_said j i (Two first second) small =
     ap (λ (ws : List Word). ws ++ (words_in j (word_note i second) ++ [])) (word_told j i first small)
     ∙ ap (λ (ws : List Word). word_if (i == j) first ++ (ws ++ [])) (word_told j i second small)
     ∙ two_words (i == j) first second
-
--- ---- a copy in the table
-
-set_after : {A : Type 0} (f : A → A) (l : List A) (n : ℕ) (d : A) → f d ≡ d → get_or (set l n (f (get_or l n d))) n d ≡ f (get_or l n d)
-set_after f [] zero d e = sym e
-set_after f [] (suc n) d e = sym e
-set_after f (x ∷ xs) zero d e = refl
-set_after f (x ∷ xs) (suc n) d e = set_after f xs n d e
-
-pub copy_written : (event : Event) (i : ℕ) (t : Copies) → copy_at i (with_copy i (copy_after event (copy_at i t)) t) ≡ copy_after event (copy_at i t)
-copy_written event i t = set_after (copy_after event) t.copies i None refl
-
-pub copy_kept : (i j : ℕ) (x : Option ClientCopy) (t : Copies) → j ≢ i → copy_at j (with_copy i x t) ≡ copy_at j t
-copy_kept i j x t other = get_or-set_other t.copies i j x None other
 
 -- ---- what happens over a desk
 

@@ -59,8 +59,8 @@ use Rattle.nfs_compound.specs.declared.reply.Reply.{Reply}
 use Rattle.nfs_compound.specs.declared.res.Res.{Res}
 use Rattle.wire_model.specs.Wire.{ForCopy, ForFirst, ForLast, ForStatus, Purpose}
 use Rattle.client_laws.proofs.HeardMoves.{IsNoCopys, first_none}
-use Rattle.client_laws.proofs.Changed.{copy_kept, copy_written}
 use Rattle.client_laws.specs.CallerLaws.{FitsAt, PurposesFit, is_past}
+use Rattle.client_laws.specs.TableLaws.{copy_kept, copy_written}
 
 -- ---- what happens to a copy, but that a call of it goes out
 

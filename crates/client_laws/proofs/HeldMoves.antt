@@ -54,7 +54,7 @@ use Rattle.rpc_calls.specs.declared.contexts.InitAnswer.{InitAnswer}
 use Rattle.streams.specs.declared.draws.Drawn.{Drawn}
 use Rattle.streams.specs.declared.draws.Drawn.TheVariants.{Got, Failed}
 use Rattle.write_queue.specs.declared.work.Work.{Work}
-use Rattle.client_laws.proofs.CalledMoves.{AllBehind, all_copies, contains_behind, contains_first, under_of}
+use Rattle.client_laws.proofs.CalledMoves.{AllBehind, all_copies, called_so, contains_behind, contains_first}
 use Rattle.client_laws.proofs.Changed.{said_copies}
 use Rattle.client_laws.proofs.HeardMoves.{IsAtPlace, taken_place}
 use Rattle.client_laws.proofs.OwnMoves.{own_asked, own_goes_down, own_goes_on, own_idle, own_opens, own_queue, own_retried, own_setup, own_ticked}
@@ -290,30 +290,13 @@ module _ {M : Type 0} (ways : Ways) (turn : Turn) (c : ClientState M) where
   compounds gives side message now call args (Err at) v w end is judged_is what read step = subst Ends (sym step.0) (holds_same {brought = Brought} refl)
   compounds gives side message now call args (Ok compound) v w end is judged_is what read step =
       let why : AllBehind (session_under call.under c) compound.ops (Brings Brought) = λ first more own are.
-      let context = under_of c call.under first.session own in
       all_bring Brought more
       (λ offload there. record {
         side = side;
         message = message;
         now = now;
         turn_is = is;
-        by = record {
-          call = call;
-          judged_is = judged_is;
-          args = args;
-          what = what;
-          under = context.0;
-          under_is = context.1;
-          compound = compound;
-          read = read;
-          first = first;
-          more = more;
-          ops_are = are;
-          offload = offload;
-          there = there;
-          id_is = refl;
-          end_is = refl;
-        };
+        by = called_so ways message now c call args compound judged_is what read first more own are offload there;
       }) in
       steps gives (on_desk (called_back ways.means.mic side call compound c) (acting_at now c)) _ v w end
       (held_called {brought = Brought} ways.means.mic side call compound c (desk_at now c) why) step

@@ -14,7 +14,8 @@ use Rattle.nfs_base.specs.declared.side.Side.TheVariants.{Source, Dest}
 use Rattle.outbox.specs.declared.label.CallLabel.{CallLabel}
 use Rattle.client_laws.proofs.Going.{Rise, behind_dest, behind_first, behind_second, behind_third, copies_rise, dest_within, end_of, first_within, from_low, last_within, rises_first, rises_last, rises_second, rises_third, second_within, source_within, third_within, to_next}
 use Rattle.client_laws.proofs.RunKinds.{Kind, OnceMore, once_more}
-use Rattle.client_laws.proofs.MountMoves.{Counted, Own, Post, no_calls, runs_then, same_seal}
+use Rattle.mount_runs.specs.Counting.{Counted}
+use Rattle.client_laws.proofs.MountMoves.{Own, Post, no_calls, runs_then, same_seal}
 use Rattle.client_laws.proofs.MountParts.{ArePlaces, copies_are, first_place}
 use Rattle.client_laws.proofs.MountCalls.{again, same}
 

@@ -25,7 +25,7 @@ use Rattle.client_steps.specs.Acting as acts
 use Rattle.client_steps.specs.Acting.{Acting, GoesOn as GoesOnBy, GoesOnAt, IsDrawnOn, downs_told, queue_at, with_desk}
 use Rattle.client_steps.specs.Calling as calling
 use Rattle.client_steps.specs.Commands as commands
-use Rattle.client_steps.specs.Commands.{copies_again, ticked}
+use Rattle.client_steps.specs.Commands.{ticked}
 use Rattle.client_steps.specs.CopySteps as copying
 use Rattle.client_steps.specs.CopySteps.{all_copies}
 use Rattle.client_steps.specs.Desks.{put_out, noted, send_at, site_at, told_to}
@@ -35,14 +35,12 @@ use Rattle.client_steps.specs.declared.desk.Desk.{Desk}
 use Rattle.client_steps.specs.declared.setting.Setting.{Setting}
 use Rattle.copy_privs.specs.Forms.{privilege_name, privilege_spell}
 use Rattle.copy_privs.specs.declared.privilege.Privilege.{Privilege}
-use Rattle.mount.specs.Sending.{name_under}
-use Rattle.mount.specs.State.{Mounted, is_setting_up, root_name, setup_in}
+use Rattle.mount.specs.State.{Mounted, is_setting_up, setup_in}
 use Rattle.mount.specs.declared.machine.SendAt.{SendAt}
 use Rattle.mount.specs.Taking.{Means}
 use Rattle.mount.specs.declared.machine.Sent.{Sent}
 use Rattle.mount.specs.declared.calling.Under.{Under}
 use Rattle.mount.specs.declared.calling.Under.TheVariants as unders
-use Rattle.mount.specs.declared.state.Aim.TheVariants as aims
 use Rattle.mount.specs.declared.state.TheConstants.{PLACES}
 use Rattle.nfs_base.specs.declared.limits.TheConstants.{PRIVILEGE_LIMIT}
 use Rattle.nfs_base.specs.declared.side.Side.{Side}
@@ -54,7 +52,6 @@ use Rattle.outbox.specs.declared.label.CallLabel.{CallLabel}
 use Rattle.outbox.specs.declared.label.CallLabel.TheVariants as labels
 use Rattle.outbox.specs.declared.note.Note.{Note}
 use Rattle.session_calls.specs.declared.slot_call.SlotCall.{SlotCall}
-use Rattle.session_calls.specs.declared.slot_call.SlotCall.TheVariants.{ReclaimComplete}
 use Rattle.session_calls.specs.declared.sole_call.BackChannel.{BackChannel}
 use Rattle.streams.specs.declared.draws.Drawn.{Drawn}
 use Rattle.streams.specs.declared.draws.Drawn.TheVariants.{Got, Failed}
@@ -81,7 +78,8 @@ use Rattle.client_fits.specs.GoLaws as going_fits
 use Rattle.client_fits.specs.GoLaws.{ActingIsFit, due_fits, file_small, queue_at_fits}
 use Rattle.client_fits.specs.Known.{CopyIsFit, DeskIsFit, FileIsFit, SettingIsFit, WorkIsFit}
 use Rattle.client_fits.specs.StepLaws.{ticked_of_fits}
-use Rattle.client_laws.proofs.MountMoves.{Post, Puts, any, chain, here_or_other, IsOther, kept_when, sent_then, Counted, IsKept, Own, Runs, and_is, free_is, kept, mount_in, no_calls, none, put_copies, not_is, put, reshaped, runs_then, same_seal, silent_stays, slot_purpose, slot_stays, three_are}
+use Rattle.mount_runs.specs.Counting.{Counted}
+use Rattle.client_laws.proofs.MountMoves.{Post, Puts, any, chain, here_or_other, IsOther, kept_when, sent_then, IsKept, Own, Runs, and_is, free_is, kept, mount_in, no_calls, none, put_copies, not_is, put, reshaped, runs_then, same_seal, silent_stays, slot_purpose, slot_stays, three_are}
 use Rattle.client_laws.specs.CallerLaws.{PurposesFit, purpose_after, purpose_for, ready_in}
 use Rattle.client_laws.proofs.MountParts.{ArePlaces, copies_are, first_place, IsReady, ready_open, ready_notify, ready_copy, ready_last, ready_query, ready_work, never, ready_is, other_slot, kept_noted, kept_said, kept_back, kept_there, back_copies, there_copies, down_is, falls_here}
 
@@ -230,7 +228,7 @@ module _ (who : Identity) (means : Means) (boot : ℕ) (post : Post means.mic) (
             (λ j other. other_slot j place (purpose_for place call) (purpose j) other) freed;
         bounds = λ sure. sends_fit place there (InSlot under call) d within free.unused (fit sure);
       })
-      (counted.slot means.mic at (name_under under m) aims.Slot call m) in
+      (counted means.mic at (InSlot under call) m) in
       record {
         own = record { runs = x.runs; stays = λ loud. stays_same d.copies _ (put_copies there _ _ d) };
         for_it = λ here some purpose small.
@@ -260,7 +258,7 @@ module _ (who : Identity) (means : Means) (boot : ℕ) (post : Post means.mic) (
         fits = λ purpose fit. fit;
         bounds = λ sure. sends_fit j there (Make j (privilege_name p) (privilege_spell p)) d within free.unused (fit refl sure);
       })
-      (counted.create means.mic at j (privilege_name p) (privilege_spell p) m))
+      (counted means.mic at (Make j (privilege_name p) (privilege_spell p)) m))
   create_if false there j p d within fit = same Anew tt d
 
   create : (there : Side) (j : ℕ) (p : Privilege) (d : Desk) → j < PLACES → (post.sure → TextFits NAME_LIMIT (privilege_name p) × IsBytes (privilege_spell p)) → R Anew d (calling.create_sent means.mic there j p d).1
@@ -283,7 +281,7 @@ module _ (who : Identity) (means : Means) (boot : ℕ) (post : Post means.mic) (
         fits = λ purpose fit. fit;
         bounds = λ sure. sends_fit place there Again d within (ltb-true m.calls at.xid e) tt;
       })
-      (counted.again means.mic at m))
+      (counted means.mic at Again m))
 
   -- a send of this kind
   abbrev pub MaySend : Kind → Side → Type 0
@@ -308,7 +306,7 @@ module _ (who : Identity) (means : Means) (boot : ℕ) (post : Post means.mic) (
         fits = λ purpose fit. fit;
         bounds = λ sure. sends_fit 0 there (SetUp me back) d first_place free.unused (fit sure);
       })
-      (counted.step means.mic at me back m))
+      (counted means.mic at (SetUp me back) m))
 
   pub reclaim : (k : Kind) → MayRest k → (there : Side) → MaySend k there → (d : Desk) → R k d (calling.reclaim_sent means.mic there d).1
   reclaim k may there sends d =
@@ -326,7 +324,7 @@ module _ (who : Identity) (means : Means) (boot : ℕ) (post : Post means.mic) (
         fits = λ purpose fit. fit;
         bounds = λ sure. sends_fit 0 there Reclaim d first_place free.unused tt;
       })
-      (counted.slot means.mic at (root_name m.standing) aims.Setup ReclaimComplete m))
+      (counted means.mic at Reclaim m))
 
   begin : (there : Side) (nonce : List ℕ) (token : Option (List ℕ)) (d : Desk) → ((t : List ℕ) → token ≡ Some t → IsOwnToken who t)
       → (post.sure → SendIsFit (Begin nonce token)) → may_begin (send_at 0 d) (mount_in there d) ≡ true → R SetsUp d (calling.begin_sent nonce token there d).1
@@ -345,7 +343,7 @@ module _ (who : Identity) (means : Means) (boot : ℕ) (post : Post means.mic) (
         fits = λ purpose fit. fit;
         bounds = λ sure. sends_fit 0 there (Begin nonce token) d first_place free.unused (fit sure);
       })
-      (counted.begin at nonce token m))
+      (counted means.mic at (Begin nonce token) m))
 
   -- ---- a copy goes on
 

@@ -42,7 +42,8 @@ use Rattle.wire_xdr.specs.Cursor.{IsBytes}
 use Rattle.client_laws.proofs.MountCalls.{Goes, IsUp, goes_down, queue, quietly, same, stays, tells}
 use Rattle.client_laws.proofs.MountSetups.{opens, setup_goes_on, setup_stays}
 use Rattle.client_laws.proofs.MountParts.{kept_said, kept_there, there_copies}
-use Rattle.client_laws.proofs.MountMoves.{Post, any, Counted, IsOther, Runs, kept, mount_in, none, other_apart, rests, runs_then, same_seal}
+use Rattle.mount_runs.specs.Counting.{Counted}
+use Rattle.client_laws.proofs.MountMoves.{Post, any, IsOther, Runs, kept, mount_in, none, other_apart, rests, runs_then, same_seal}
 use Rattle.mount_runs.specs.RootLaws.{rooted_up}
 use Rattle.client_laws.specs.CallerLaws.{PurposesFit, above_by}
 use Rattle.mount_runs.specs.Order.{is_root}

@@ -16,12 +16,10 @@ use Rattle.client_steps.specs.Desks.{going, next_xid, put_out, send_at, sent_out
 use Rattle.client_steps.specs.declared.desk.Desk.{Desk}
 use Rattle.gss_ctx.specs.Seals.{Mic}
 use Rattle.mount.specs.Laws.{Goes, Went}
-use Rattle.mount.specs.Sending.{begun, child_asked, sent_again, slotted, stepped_in}
 use Rattle.mount.specs.State.{Mounted, awaited_at, has_numbers}
 use Rattle.mount.specs.Taking.{Means}
 use Rattle.mount.specs.declared.machine.SendAt.{SendAt}
 use Rattle.mount.specs.declared.machine.Sent.{Sent}
-use Rattle.mount.specs.declared.state.Aim.{Aim}
 use Rattle.mount.specs.declared.state.Awaiting.{Awaiting}
 use Rattle.mount.specs.declared.state.TheConstants.{PLACES}
 use Rattle.nfs_base.specs.declared.seal.Seal.{Seal}
@@ -30,8 +28,6 @@ use Rattle.nfs_base.specs.declared.side.Side.TheVariants.{Source, Dest}
 use Rattle.outbox.specs.declared.label.CallLabel.{CallLabel}
 use Rattle.outbox.specs.declared.label.Label.TheVariants as labels
 use Rattle.outbox.specs.declared.outgoing.Outgoing.{Outgoing}
-use Rattle.session_calls.specs.declared.slot_call.SlotCall.{SlotCall}
-use Rattle.session_calls.specs.declared.sole_call.BackChannel.{BackChannel}
 use Rattle.wire_model.specs.Wire as wire
 use Rattle.wire_model.specs.Wire.{Acts, Purpose}
 use Rattle.client_laws.proofs.Asking.{Stays, stays_same, stays_then}
@@ -55,14 +51,6 @@ takes_of acts = flat_map taken_in acts
 
 calls_append : (side : Side) (xs ys : List Outgoing) → calls_to side (xs ++ ys) ≡ calls_to side xs ++ calls_to side ys
 calls_append side xs ys = flat_map-append (λ (one : Outgoing). call_if (goes_to side one.to && is_call one.label) one) xs ys
-
--- what is known of every mount: what it sends is counted, and where nothing goes out it is as it was
-pub record Counted : Type 0 where
-  pub begin : (at : SendAt) (nonce : List ℕ) (token : Option (List ℕ)) (m : Mounted) → Went at m (begun at nonce token m)
-  pub step : (mic : Mic) (at : SendAt) (principal : List ℕ) (back : Option BackChannel) (m : Mounted) → Went at m (stepped_in mic at principal back m.standing m)
-  pub slot : (mic : Mic) (at : SendAt) (context : Option ℕ) (aim : Aim) (call : SlotCall) (m : Mounted) → Went at m (slotted mic at context aim call m)
-  pub create : (mic : Mic) (at : SendAt) (child : ℕ) (name privilege : List ℕ) (m : Mounted) → Went at m (child_asked mic at child name privilege m)
-  pub again : (mic : Mic) (at : SendAt) (m : Mounted) → Went at m (sent_again mic at m)
 
 -- What goes out besides calls is so; and where it is sure that what is known is fit, the codes are bytes.
 pub record Post (mic : Mic) : Type 1 where

@@ -26,7 +26,8 @@ use Rattle.nfs_base.specs.declared.limits.TheConstants.{NAME_LIMIT}
 use Rattle.client_fits.specs.CallLaws.{back_fits}
 use Rattle.client_fits.specs.DeskLaws.{site_fits}
 use Rattle.client_fits.specs.Known.{DeskIsFit}
-use Rattle.client_laws.proofs.MountMoves.{Post, here_or_other, Counted, IsKept, Own, mount_in, no_calls, other_apart}
+use Rattle.mount_runs.specs.Counting.{Counted}
+use Rattle.client_laws.proofs.MountMoves.{Post, here_or_other, IsKept, Own, mount_in, no_calls, other_apart}
 use Rattle.client_laws.proofs.MountParts.{kept_there, there_copies, made_copies, kept_made}
 use Rattle.client_laws.proofs.MountCalls as calls
 

@@ -81,7 +81,8 @@ use Rattle.client_laws.proofs.MountRuns.{AllFit}
 use Rattle.client_laws.specs.Fits.{TurnIsFit}
 use Rattle.client_laws.proofs.MountCalls.{DrawsFit, Goes, IsUp, asked, goes_on, goes_on_up, tells, ticks}
 use Rattle.client_laws.proofs.MountParts.{copies_are, kept_said}
-use Rattle.client_laws.proofs.MountMoves.{Post, any, Counted, IsKept, Runs, kept, mount_in, none, reshaped, rests, runs_then, same_seal}
+use Rattle.mount_runs.specs.Counting.{Counted}
+use Rattle.client_laws.proofs.MountMoves.{Post, any, IsKept, Runs, kept, mount_in, none, reshaped, rests, runs_then, same_seal}
 use Rattle.mount_runs.specs.Runs.{MountStep}
 use Rattle.client_laws.specs.CallerLaws.{PurposesFit, IsMountRun, StartsOwn, above_by, acts_in, call_if, calls_to, goes_to, is_call, taken_in}
 use Rattle.client_laws.specs.MountTurns.{IsMountTurn, IsOut, IsOwnAnswer, IsStrange, IsTaken, TakesBytes}

@@ -50,13 +50,13 @@ use Rattle.rpc_calls.specs.declared.contexts.InitAnswer.{InitAnswer}
 use Rattle.streams.specs.declared.draws.Drawn.{Drawn}
 use Rattle.write_queue.specs.declared.work.Work.{Work}
 use Rattle.client_laws.proofs.CalledMoves.{all_copies, held_same}
-use Rattle.client_laws.proofs.Changed.{copy_kept, copy_written}
 use Rattle.client_laws.proofs.HeardMoves.{heard_goes}
 use Rattle.client_laws.proofs.OwnMoves.{own_asked, own_goes_on, own_retried, own_ticked}
 use Rattle.client_laws.proofs.TurnMoves.{EndChanges, begun_changes, work_still}
 use Rattle.client_laws.specs.Changes.{Changes}
 use Rattle.client_laws.specs.TurnLaws.{IsStart}
 use Rattle.client_laws.specs.Turns.{IsTurn, Turn, Asks, Begins, Hears, Retries, Ticks, Works, begins}
+use Rattle.client_laws.specs.TableLaws.{copy_kept, copy_written}
 
 -- a copy that isn't there in the one table isn't there in the other
 abbrev NoMore : ℕ → Copies → Copies → Type 0

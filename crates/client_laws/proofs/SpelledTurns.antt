@@ -12,7 +12,7 @@ use Rattle.nfs_base.specs.declared.side.Side.{Side}
 use Rattle.nfs_base.specs.declared.side.Side.TheVariants.{Source, Dest}
 use Rattle.outbox.specs.declared.outgoing.Outbox.{Outbox}
 use Rattle.streams.specs.declared.draws.Drawn.{Drawn}
-use Rattle.client_laws.proofs.MountMoves.{Counted}
+use Rattle.mount_runs.specs.Counting.{Counted}
 use Rattle.client_laws.proofs.MountRuns.{fit_spelled}
 use Rattle.client_laws.proofs.MountTurns.{IsFitTurn, Sure, turn_runs}
 use Rattle.client_laws.specs.CallerLaws.{StartsOwn}

@@ -48,7 +48,7 @@ use Rattle.std.specs.List.{Contains}
 use Rattle.streams.specs.declared.draws.Drawn.{Drawn}
 use Rattle.streams.specs.declared.draws.Drawn.TheVariants.{Got, Failed}
 use Rattle.write_queue.specs.declared.work.Work.{Work}
-use Rattle.client_laws.proofs.CalledMoves.{Outcomes, all_copies, all_notes, each_reports, evaluated_outcomes, told_notes, told_words, under_of, words_told}
+use Rattle.client_laws.proofs.CalledMoves.{Outcomes, all_copies, all_notes, called_so, each_reports, evaluated_outcomes, told_notes, told_words, words_told}
 use Rattle.client_laws.proofs.Changed.{IsStill, changes_none, moves_still, moves_wider}
 use Rattle.client_laws.proofs.HeardMoves.{Goes, goes_of, goes_then, heard_goes}
 use Rattle.client_laws.proofs.OwnMoves.{OwnMoves, own_asked, own_goes_on, own_idle, own_retried, own_ticked}
@@ -182,25 +182,7 @@ reports : {M : Type 0} (ways : Ways) (side : Side) (message : List ℕ) (now : �
     → compound.ops ≡ ops.Sequence first ∷ more → (offload : CbOffload) → Contains more (ops.Offload offload) → (j : ℕ)
     → names offload.id (copy_at j c.copies) ≡ true → Cause ways (Hears side message now) c j (events.Offloaded offload.end)
 reports ways side message now c call args compound is what read first more own are offload there j named =
-    let context = under_of c call.under first.session own in
-    ByCallback side message now offload.id offload.end refl named
-    (record {
-      call = call;
-      judged_is = is;
-      args = args;
-      what = what;
-      under = context.0;
-      under_is = context.1;
-      compound = compound;
-      read = read;
-      first = first;
-      more = more;
-      ops_are = are;
-      offload = offload;
-      there = there;
-      id_is = refl;
-      end_is = refl;
-    })
+    ByCallback side message now offload.id offload.end refl named (called_so ways message now c call args compound is what read first more own are offload there)
 
 back_goes : {M : Type 0} (ways : Ways) (side : Side) (message : List ℕ) (now : ℕ) (c : ClientState M) (call : Call) (args : List ℕ) (compound : CbCompound)
     → length c.copies.copies ≤ 256

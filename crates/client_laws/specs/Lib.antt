@@ -8,6 +8,7 @@ pub mod Sound
 pub mod SoundLaws
 pub mod MountTurns
 pub mod Order
+pub mod TableLaws
 pub mod Telling
 pub mod TurnLaws
 pub mod Turns

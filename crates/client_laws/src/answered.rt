@@ -15,7 +15,7 @@ ghost use Rattle.client_laws.specs.CallerLaws.{StartsOwn};
 ghost use Rattle.client_laws.specs.Turns.{Hears, IsTurn};
 
 use answer_laws::{answers_are_awaited, replies_are_judged};
-use mount::what_goes_out_is_counted;
+use mount_runs::sends_are_counted;
 use streams::Draws;
 
 /// Where a record tells a client an answer, the wire of its server sees that it takes the reply to the call that its mount awaited
@@ -27,7 +27,7 @@ pub fn answers_are_taken<M, W: Draws>()
         → (taken ways.means message side (desk_at now c)).0 ≡ Some found → found.told ≡ told.Answer reply
         → IsAnswerTaken who boot purpose side (Hears side message now) message c out found.place reply }
 {
-    what_goes_out_is_counted();
+    sends_are_counted();
     answers_are_awaited();
     replies_are_judged::<u64>();
 }

@@ -21,7 +21,7 @@ ghost use Rattle.client_laws.specs.Turns.{IsTurn, MayTurn, Turn};
 
 use caller_laws::{mounts_begin_lawful, steps_are_lawful, tokens_are_their_senders};
 use gss_mech::Mechanism;
-use mount::what_goes_out_is_counted;
+use mount_runs::sends_are_counted;
 use streams::Draws;
 
 /// What a client does at the source in a step, and at the destination, is a run of its mount's steps there, each of which it may
@@ -34,7 +34,7 @@ pub fn turns_are_mount_runs<M, W: Draws>()
         → StartsOwn who ways W.gives → MayTurn turn c → IsTurn ways W.gives turn c v w (d, out) → d.calls < 4294967295
         → IsMountTurn who ways boot side purpose turn c d out }
 {
-    what_goes_out_is_counted();
+    sends_are_counted();
 }
 
 /// The tokens that a client starts are its own, to every server of its mechanism, where what is drawn are nonces (RFC 2203 section

@@ -13,7 +13,7 @@ ghost use Rattle.client_laws.specs.WholeTurns.{IsGoodTurn, IsSettled, IsSpelledT
 
 use crate::whole::{clients_stay_settled, turns_are_lawful};
 use gss_mech::Mechanism;
-use mount::what_goes_out_is_counted;
+use mount_runs::sends_are_counted;
 use streams::Draws;
 
 /// From a client that is fit, what a turn asks can be spelled at both servers, where what it is told to do is within bounds and what
@@ -23,7 +23,7 @@ pub fn turns_are_spelled<M, W: Draws>()
         → StartsOwn who ways W.gives → MayTurn turn c → WaysAreFit ways W.gives → ClientIsFit c → TurnIsFit turn
         → IsTurn ways W.gives turn c v w (d, out) → d.calls < 4294967295 → IsSpelledTurn who ways boot purposes turn c d out }
 {
-    what_goes_out_is_counted();
+    sends_are_counted();
 }
 
 /// And the turn leaves a client that is fit.

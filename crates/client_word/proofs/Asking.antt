@@ -14,7 +14,7 @@ use Rattle.gss_ctx.specs.declared.begin.Begun.{Begun}
 use Rattle.gss_ctx.specs.declared.begin.Begun.TheVariants as begins
 use Rattle.mount.specs.Falling.{fallen, forgotten, given_up}
 use Rattle.mount.specs.Laws.{Went}
-use Rattle.mount.specs.Sending.{awaits_anew, begun, begun_anew, begun_by, child_asked, contexts_anew, ended_in, ending_call, name_under, out_anew, pending_anew, sent_again, sent_anew, slotted, stepped_in}
+use Rattle.mount.specs.Sending.{awaits_anew, begun, begun_by, child_asked, contexts_anew, ended_in, ending_call, name_under, out_anew, pending_anew, sent_anew, slotted, stepped_in}
 use Rattle.mount.specs.Sending as sending
 use Rattle.mount.specs.State.{Mounted, awaited_at, context_of, emptied, is_present, kept_in, pending_at, pending_in, root_name}
 use Rattle.mount.specs.Taking.{Means, after_call, after_create, after_init, after_reply, after_setup, after_step, by_aim, by_awaiting, by_context, by_pending, child_for, fallen_if, is_lost, parent_of, taken_at}
@@ -38,7 +38,6 @@ use Rattle.session_calls.specs.declared.slot_call.FileCall.TheVariants as asks
 use Rattle.session_calls.specs.declared.slot_call.SlotCall.{SlotCall}
 use Rattle.session_calls.specs.declared.slot_call.SlotCall.TheVariants as calls
 use Rattle.session_calls.specs.declared.slot_call.SlotUse.{SlotUse}
-use Rattle.session_calls.specs.declared.sole_call.BackChannel.{BackChannel}
 use Rattle.session_client.specs.Answers.{child_of, taken_of}
 use Rattle.session_client.specs.Asked.{ops_of}
 use Rattle.session_client.specs.Pending.{Asking, Beginning}
@@ -51,6 +50,7 @@ use Rattle.session_client.specs.declared.asked.Asked.{Asked}
 use Rattle.session_client.specs.declared.asked.Asked.TheVariants.{Compound}
 use Rattle.session_client.specs.declared.setup.Setup.{Setup}
 use Rattle.wire_model.specs.Wire.{Purpose}
+use Rattle.mount_runs.specs.Counting.{Counted}
 use Rattle.mount_runs.specs.Runs.{AreSpelled, MountStep}
 use Rattle.client_laws.specs.CallerLaws.{AllAsk, AsksIn, AsksOf, IsMountRun, purpose_after, purpose_for}
 use Rattle.client_laws.specs.WordLaws.{Knew}
@@ -130,15 +130,6 @@ module _ (place : ℕ) (m : Mounted) where
 
 -- ---- what is sent
 
-pub record Goings : Type 0 where
-  pub begin : (at : SendAt) (nonce : List ℕ) (token : Option (List ℕ)) (m : Mounted) → Went at m (begun at nonce token m)
-  pub anew : (at : SendAt) (m : Mounted) → Went at m (begun_anew at m)
-  pub step : (mic : Mic) (at : SendAt) (principal : List ℕ) (back : Option BackChannel) (m : Mounted) → Went at m (stepped_in mic at principal back m.standing m)
-  pub slot : (mic : Mic) (at : SendAt) (context : Option ℕ) (aim : Aim) (call : SlotCall) (m : Mounted) → Went at m (slotted mic at context aim call m)
-  pub create : (mic : Mic) (at : SendAt) (child : ℕ) (name privilege : List ℕ) (m : Mounted) → Went at m (child_asked mic at child name privilege m)
-  pub end : (mic : Mic) (at : SendAt) (ending : Ending) (m : Mounted) → Went at m (ended_in mic at ending m.standing m)
-  pub again : (mic : Mic) (at : SendAt) (m : Mounted) → Went at m (sent_again mic at m)
-
 -- the call was awaited at this place before
 pub record SlotWas (m : Mounted) (place context : ℕ) (asking : Asking) : Type 0 where
   pub was : Asking
@@ -150,7 +141,7 @@ abbrev pub IsNewAt : SendAt → Send → ℕ → Asking → Type 0
 IsNewAt at (InSlot under call) place asking = (place ≡ at.place) × ((slot : SlotUse) × (asking.asked ≡ Compound (slot_compound slot call)))
 IsNewAt at _ place asking = ⊥
 
-module _ (goings : Goings) (mic : Mic) (at : SendAt) (m : Mounted) (within : at.place < length m.places) where
+module _ (counted : Counted) (mic : Mic) (at : SendAt) (m : Mounted) (within : at.place < length m.places) where
   abbrev Slots : Mounted → ℕ → ℕ → Asking → Type 0
   Slots n place context asking = pending_at n place ≡ Some (Under context aims.Slot asking)
 
@@ -204,7 +195,7 @@ module _ (goings : Goings) (mic : Mic) (at : SendAt) (m : Mounted) (within : at.
   end_was : (ending : Ending) (place context : ℕ) (asking : Asking) → Slots (ended_in mic at ending m.standing m).1 place context asking → SlotWas m place context asking
   end_was ending place context asking is =
       let o = ended_in mic at ending m.standing m in
-      by_went o (goings.end mic at ending m) place context asking is
+      by_went o (counted mic at (Finish ending) m) place context asking is
       (λ sent e.
       let y = end_goes ending m.standing sent refl e in
       by_awaits (Under y.context aims.End y.asking) o.1 y.awaits place context asking is (λ same f. absurd cc))
@@ -235,19 +226,19 @@ module _ (goings : Goings) (mic : Mic) (at : SendAt) (m : Mounted) (within : at.
   sent_was BeginAnew place context asking is = inl (anew_was (kept_in m.standing) place context asking is)
   sent_was (SetUp principal back) place context asking is =
       let o = stepped_in mic at principal back m.standing m in
-      inl (by_went o (goings.step mic at principal back m) place context asking is
+      inl (by_went o (counted mic at (SetUp principal back) m) place context asking is
       (λ sent e.
       let y = step_goes mic at principal back m sent within e in
       by_awaits (Under y.context aims.Setup y.asking) o.1 y.awaits place context asking is (λ same f. absurd cc)))
   sent_was Reclaim place context asking is =
       let o = slotted mic at (root_name m.standing) aims.Setup calls.ReclaimComplete m in
-      inl (by_went o (goings.slot mic at (root_name m.standing) aims.Setup calls.ReclaimComplete m) place context asking is
+      inl (by_went o (counted mic at Reclaim m) place context asking is
       (λ sent e.
       let y = slot_goes mic at (root_name m.standing) aims.Setup calls.ReclaimComplete m sent within e in
       by_awaits (Under y.context aims.Setup y.asking) o.1 y.awaits place context asking is (λ same f. absurd cc)))
   sent_was (Make child name privilege) place context asking is =
       let o = child_asked mic at child name privilege m in
-      inl (by_went o (goings.create mic at child name privilege m) place context asking is
+      inl (by_went o (counted mic at (Make child name privilege) m) place context asking is
       (λ sent e.
       let y = child_goes mic at child name privilege m sent within e in
       by_awaits (Under y.context (aims.Child child) y.asking) o.1 y.awaits place context asking is (λ same f. absurd cc)))
@@ -266,7 +257,7 @@ module _ (goings : Goings) (mic : Mic) (at : SendAt) (m : Mounted) (within : at.
           inl (record { was = asking; there = sym (y.awaits.others place apart) ∙ is; same = refl })
 
       by : (sent : Option Sent) → (slotted mic at (name_under under m) aims.Slot call m).0 ≡ sent → SlotWas m place context asking ⊎ IsNewAt at (InSlot under call) place asking
-      by None e = inl (stays_was (slotted mic at (name_under under m) aims.Slot call m).1 (none_went at m (slotted mic at (name_under under m) aims.Slot call m) (goings.slot mic at (name_under under m) aims.Slot call m) e) place context asking is)
+      by None e = inl (stays_was (slotted mic at (name_under under m) aims.Slot call m).1 (none_went at m (slotted mic at (name_under under m) aims.Slot call m) (counted mic at (InSlot under call) m) e) place context asking is)
       by (Some sent) e = went sent e (cases_eq place at.place)
 
 -- ---- what a call asks, the copy of its place knows
@@ -313,11 +304,11 @@ asked_was purpose other t m place context asking old same w =
 less_asked : (purpose : ℕ → Purpose) (t : Copies) (m n : Mounted) → IsLess m n → AreAskedFor purpose t m → AreAskedFor purpose t n
 less_asked purpose t m n less old place context asking is = old place context asking (less place (Under context aims.Slot asking) is)
 
-module _ (goings : Goings) (who : Identity) (means : Means) (keeps : Keeping who means) (t : Copies) where
+module _ (counted : Counted) (who : Identity) (means : Means) (keeps : Keeping who means) (t : Copies) where
   sent_asked : (purpose : ℕ → Purpose) (above : Above) (m : Mounted) (at : SendAt) (send : Send) → at.place < length m.places
       → (awaited_at m at.place ≡ None ⊎ ((place : ℕ) → purpose_after (Sends at send) purpose place ≡ purpose place)) → AsksIn t (Sends at send) → AreAskedFor purpose t m
       → AreAskedFor (purpose_after (Sends at send) purpose) t (sent_by means.mic at send m).1
-  sent_asked purpose above m at send within free asks old place context asking is = by (sent_was goings means.mic at m within send place context asking is) free
+  sent_asked purpose above m at send within free asks old place context asking is = by (sent_was counted means.mic at m within send place context asking is) free
     where
       new_for : (send : Send) → AsksIn t (Sends at send) → IsNewAt at send place asking → IsAskedFor (purpose_after (Sends at send) purpose) t place asking.asked
       new_for (InSlot under call) asks n = record {

@@ -31,7 +31,8 @@ use Rattle.client_laws.specs.TurnLaws.{TurnChanges}
 use Rattle.client_laws.specs.Turns.{Asks, Begins, Hears, MayTurn, Retries, Ticks, Turn, Works, begins}
 use Rattle.client_laws.specs.WholeTurns.{IsLawfulTurn, IsSettled, IsSpelledAtBoth, IsTurnAtBoth, Purposes, acts_of}
 use Rattle.client_laws.specs.WordLaws.{Knew}
-use Rattle.client_word.proofs.Asking.{Goings, run_asked}
+use Rattle.mount_runs.specs.Counting.{Counted}
+use Rattle.client_word.proofs.Asking.{run_asked}
 use Rattle.client_word.proofs.Mounts.{IsIdle, none_some}
 use Rattle.client_word.proofs.Roots.{bytes_after, rooted_after}
 use Rattle.client_word.proofs.Sounds.{first_after, name_after, sound_after, sound_first}
@@ -94,10 +95,10 @@ pub record IsKnownTurn {M : Type 0} (who : Identity) (ways : Ways) (boot : ℕ) 
 pub none_stays : {M : Type 0} (turn : Turn) (c : ClientState M) → MayTurn turn c → copy_at 0 c.copies ≡ None → (copy_of 0 c ≡ None) × (begins 0 turn ≡ false)
 none_stays turn c may none = (none, none_begins turn c may)
 
-pub carried_on : {M : Type 0} (goings : Goings) (who : Identity) (ways : Ways) (keeps : Keeping who ways.means) (boot : ℕ) (purposes : Purposes) (turn : Turn) (c d : ClientState M)
+pub carried_on : {M : Type 0} (counted : Counted) (who : Identity) (ways : Ways) (keeps : Keeping who ways.means) (boot : ℕ) (purposes : Purposes) (turn : Turn) (c d : ClientState M)
     (out : Outbox) (t : IsTurnAtBoth who ways boot purposes turn c d out) → IsKnownTurn who ways boot purposes turn c d out t
     → IsSpelledAtBoth who ways boot purposes turn c d out t → SendsBytes (acts_of turn out) → IsCarried who boot purposes c → IsCarried who boot (λ side. (t side).after) d
-carried_on goings who ways keeps boot purposes turn c d out t known spelled sends x = record {
+carried_on counted who ways keeps boot purposes turn c d out t known spelled sends x = record {
   settled = known.settled;
   placed = known.placed;
   few = let many = known.changes.many in let few = x.few in omega (arith, many, few);
@@ -109,7 +110,7 @@ carried_on goings who ways keeps boot purposes turn c d out t known spelled send
         first = first_after ways turn c d out known.changes known.may x.sound;
         name = name_after ways turn c d out known.changes known.may x.sound;
       } in
-      run_asked goings who ways.means keeps d.copies (t side).steps (above_at boot (purposes side) c) (mount_at side c) (above_at boot (t side).after d) (mount_at side d) (t side).run
+      run_asked counted who ways.means keeps d.copies (t side).steps (above_at boot (purposes side) c) (mount_at side c) (above_at boot (t side).after d) (mount_at side d) (t side).run
       (spelled side) (t side).asks (x.settled.good side)
       (λ place context asking is.
       let f = x.asked side place context asking is in

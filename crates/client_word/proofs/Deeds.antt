@@ -54,7 +54,8 @@ use Rattle.write_queue.specs.Queue.{Queued, first as first_work}
 use Rattle.write_queue.specs.declared.queue.Head.{Head}
 use Rattle.write_queue.specs.declared.queue.Head.TheVariants as heads
 use Rattle.write_queue.specs.declared.work.Work.{Work}
-use Rattle.client_word.proofs.Desks.{Counted, SparedAt, dest_apart, held_placed, said_placed, source_apart, tells, told_placed}
+use Rattle.mount_runs.specs.Counting.{Counted}
+use Rattle.client_word.proofs.Desks.{SparedAt, dest_apart, held_placed, said_placed, source_apart, tells, told_placed}
 use Rattle.client_word.proofs.Leaving.{Idle, Spares, event_leaves, idle_elsewhere}
 use Rattle.client_word.proofs.Mounts.{none_some, some_is}
 use Rattle.client_word.proofs.Takes.{Fell, IsChild, WasHeard, Why}

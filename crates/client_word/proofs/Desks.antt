@@ -1,9 +1,10 @@
 -- What is done over a desk leaves what is awaited at each place: what happens to a copy, and what goes out.
-use Rattle.std.proofs.Common.{◌≡◌, ◌≢◌, ◌∙◌, ℕ, zero, suc, ◌<◌, Bool, true, false, List, [], ◌∷◌, length, get_or, set, get_or-set_other, Option, Some, None, refl, sym, ap, subst, inl, inr, ◌⊎◌, lit<}
+use Rattle.std.proofs.Common.{◌≡◌, ◌≢◌, ◌∙◌, ℕ, ◌<◌, Bool, true, false, List, length, set, Option, Some, None, refl, sym, ap, subst, inl, inr, ◌⊎◌, lit<}
 use Rattle.std.specs.Prelude.{is_some, nat_lt, not, ◌&&◌}
 use Rattle.std.proofs.lemmas.Bool.{cases_eq}
+use Rattle.caller_laws.specs.Moves.{InSlot, Make, Reclaim, SetUp}
 use Rattle.client_copies.specs.Steps.{after}
-use Rattle.client_copies.specs.Table.{Copies, copy_after, copy_at, said_of, told_at, with_copy}
+use Rattle.client_copies.specs.Table.{Copies, copy_after, copy_at, said_of, told_at}
 use Rattle.client_copies.specs.declared.copy.ClientCopy.{ClientCopy}
 use Rattle.client_copies.specs.declared.event.Event.{Event}
 use Rattle.client_copies.specs.declared.held.HeldOffload.{HeldOffload}
@@ -43,23 +44,11 @@ use Rattle.session_client.specs.Pending.{Asking}
 use Rattle.session_client.specs.declared.asked.Asked.TheVariants.{Compound}
 use Rattle.session_client.specs.declared.setup.Setup.{Setup}
 use Rattle.session_client.specs.declared.setup.Setup.TheVariants as setups
+use Rattle.mount_runs.specs.Counting.{Counted}
 use Rattle.client_word.proofs.Leaving.{Leaves, own_stays}
 use Rattle.client_word.proofs.Mounts.{Awaits, IsCalled, IsSlotted, IsUp, again_placed, begin_placed, child_goes, none_some, placed_more, rooted_idle, slot_goes, step_goes}
 use Rattle.client_word.specs.Places.{AllPlaced, FitsCopy, FitsFirst, FitsOwn, IsPlaced}
-
--- ---- a copy in the table
-
-set_after : {A : Type 0} (f : A → A) (l : List A) (n : ℕ) (d : A) → f d ≡ d → get_or (set l n (f (get_or l n d))) n d ≡ f (get_or l n d)
-set_after f [] zero d e = sym e
-set_after f [] (suc n) d e = sym e
-set_after f (x ∷ xs) zero d e = refl
-set_after f (x ∷ xs) (suc n) d e = set_after f xs n d e
-
-pub copy_written : (event : Event) (i : ℕ) (t : Copies) → copy_at i (with_copy i (copy_after event (copy_at i t)) t) ≡ copy_after event (copy_at i t)
-copy_written event i t = set_after (copy_after event) t.copies i None refl
-
-pub copy_kept : (i j : ℕ) (x : Option ClientCopy) (t : Copies) → j ≢ i → copy_at j (with_copy i x t) ≡ copy_at j t
-copy_kept i j x t other = get_or-set_other t.copies i j x None other
+use Rattle.client_laws.specs.TableLaws.{copy_kept, copy_written}
 
 -- ---- something happens to a copy
 
@@ -148,14 +137,6 @@ by_sent side s t at true o old went goes = by o.0 refl
     by None is = subst (λ (n : Mounted). IsPlaced side (record s { mount = n }) t) (sym (none_went at s.mount o went is)) old
     by (Some sent) is = goes refl sent is
 
--- ---- what is known of every mount
-
-pub record Counted : Type 0 where
-  pub begin : (at : SendAt) (nonce : List ℕ) (token : Option (List ℕ)) (m : Mounted) → Went at m (begun at nonce token m)
-  pub step : (mic : Mic) (at : SendAt) (principal : List ℕ) (back : Option BackChannel) (m : Mounted) → Went at m (stepped_in mic at principal back m.standing m)
-  pub slot : (mic : Mic) (at : SendAt) (context : Option ℕ) (aim : Aim) (call : SlotCall) (m : Mounted) → Went at m (slotted mic at context aim call m)
-  pub create : (mic : Mic) (at : SendAt) (child : ℕ) (name privilege : List ℕ) (m : Mounted) → Went at m (child_asked mic at child name privilege m)
-
 root_is : (x y : Root) → Rooted x ≡ Rooted y → x ≡ y
 root_is x y e = cc
 
@@ -204,7 +185,7 @@ module _ (mic : Mic) (counted : Counted) where
       let s = site_at side d in
       let o = slotted mic at (name_under under s.mount) aims.Slot call s.mount in
       put_placed side _ (sent_if (may_go at s.mount) o s.mount) d x
-      (by_sent side s d.copies at (may_go at s.mount) o (at_side side d x) (counted.slot mic at (name_under under s.mount) aims.Slot call s.mount)
+      (by_sent side s d.copies at (may_go at s.mount) o (at_side side d x) (counted mic at (InSlot under call) s.mount)
       (λ may sent is. first_slot_placed side s d.copies mic at (name_under under s.mount) aims.Slot call sent refl (λ context asking. tt) (at_side side d x) is))
 
   pub call_sent : (side : Side) (under : Under) (o : Option SlotCall) (d : Desk) → AllPlaced d → AllPlaced (calling.call_sent mic side 0 under o d).1
@@ -218,7 +199,7 @@ module _ (mic : Mic) (counted : Counted) where
       let o = slotted mic at (root_name s.mount.standing) aims.Setup ReclaimComplete s.mount in
       put_placed side _ (sent_if (may_go at s.mount) o s.mount) d x
       (by_sent side s d.copies at (may_go at s.mount) o (at_side side d x)
-      (counted.slot mic at (root_name s.mount.standing) aims.Setup ReclaimComplete s.mount)
+      (counted mic at Reclaim s.mount)
       (λ may sent is.
       first_slot_placed side s d.copies mic at (root_name s.mount.standing) aims.Setup ReclaimComplete sent refl
       (λ context asking. tt) (at_side side d x) is))
@@ -230,7 +211,7 @@ module _ (mic : Mic) (counted : Counted) where
       let o = stepped_in mic at me back s.mount.standing s.mount in
       let b = not (is_setting_up s.mount) && may_go at s.mount in
       put_placed side label (sent_if b o s.mount) d x
-      (by_sent side s d.copies at b o (at_side side d x) (counted.step mic at me back s.mount)
+      (by_sent side s d.copies at b o (at_side side d x) (counted mic at (SetUp me back) s.mount)
       (λ may sent is. first_step_placed side s d.copies mic at me back sent refl (at_side side d x) is))
 
   pub again_sent : (side : Side) (place : ℕ) (label : CallLabel) (d : Desk) → place < PLACES → AllPlaced d → AllPlaced (calling.again_sent mic side place label d)
@@ -343,7 +324,7 @@ module _ (mic : Mic) (counted : Counted) (there : Side) (j : ℕ) (d : Desk) (ev
       let m = (site_at there d).mount in
       let name = name_under under m in
       let o = slotted mic at name aims.Slot call m in
-      sent_then there _ j event d (may_go at m) o x (none_went at m o (counted.slot mic at name aims.Slot call m))
+      sent_then there _ j event d (may_go at m) o x (none_went at m o (counted mic at (InSlot under call) m))
       (λ sent gone.
       let y = slot_goes mic at name aims.Slot call m sent lt gone in
       more (pendings.Under y.context aims.Slot y.asking) o.1 y.awaits (λ zero_is. tt) (fits y.context y.asking y.slot y.asked_is)
@@ -356,7 +337,7 @@ module _ (mic : Mic) (counted : Counted) (there : Side) (j : ℕ) (d : Desk) (ev
       let at = send_at j d in
       let m = (site_at there d).mount in
       let o = child_asked mic at j (privilege_name p) (privilege_spell p) m in
-      sent_then there _ j event d (may_go at m) o x (none_went at m o (counted.create mic at j (privilege_name p) (privilege_spell p) m))
+      sent_then there _ j event d (may_go at m) o x (none_went at m o (counted mic at (Make j (privilege_name p) (privilege_spell p)) m))
       (λ sent gone.
       let y = child_goes mic at j (privilege_name p) (privilege_spell p) m sent lt gone in
       more (pendings.Under y.context (aims.Child j) y.asking) o.1 y.awaits (λ zero_is. absurd (some zero_is)) (fits y.context y.asking)

@@ -75,8 +75,10 @@ use Rattle.wire_xdr.specs.Cursor.{IsBytes}
 use Rattle.client_laws.specs.MountTurns.{TakesBytes}
 use Rattle.client_laws.specs.Turns.{IsTurn, MayTurn, Turn, Asks, Begins, Hears, Retries, Ticks, Works}
 use Rattle.client_laws.specs.WholeTurns.{IsSettled}
+use Rattle.client_laws.specs.TableLaws.{copy_kept}
 use Rattle.client_word.proofs.Deeds.{can_heard, done_placed, fell_falls}
-use Rattle.client_word.proofs.Desks.{Counted, at_side, copy_kept, held_placed, said_placed, told_placed, with_placed}
+use Rattle.mount_runs.specs.Counting.{Counted}
+use Rattle.client_word.proofs.Desks.{at_side, held_placed, said_placed, told_placed, with_placed}
 use Rattle.client_word.proofs.Leaving.{event_leaves}
 use Rattle.client_word.proofs.Mounts.{IsUp, none_some}
 use Rattle.client_word.proofs.Takes.{Fell, Tame, WasHeard, take}

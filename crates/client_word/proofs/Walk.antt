@@ -75,7 +75,8 @@ use Rattle.write_queue.specs.declared.work.Line.{Line}
 use Rattle.write_queue.specs.declared.work.QueueEvent.{QueueEvent}
 use Rattle.write_queue.specs.declared.work.Work.{Work}
 use Rattle.client_word.proofs.Clearing.{gone_placed}
-use Rattle.client_word.proofs.Desks.{Counted, SparedAt, SparesOther, again_sent, at_side, begin_sent, call_sent, create_then, reclaim_sent, slot_then, step_sent, tells, then_told, told_placed, with_placed, source_apart, dest_apart}
+use Rattle.mount_runs.specs.Counting.{Counted}
+use Rattle.client_word.proofs.Desks.{SparedAt, SparesOther, again_sent, at_side, begin_sent, call_sent, create_then, reclaim_sent, slot_then, step_sent, tells, then_told, told_placed, with_placed, source_apart, dest_apart}
 use Rattle.client_word.proofs.Leaving.{Leaves, asks_stays, event_leaves, queried_is, queried_leaves, sent_is, sent_leaves}
 use Rattle.client_word.specs.Places.{AllPlaced, AsksOpen, FitsOwn, IsOpened, IsPlaced}
 

@@ -41,7 +41,7 @@ use Rattle.client_laws.specs.TurnLaws.{IsStart, TurnChanges}
 use Rattle.client_laws.specs.Turns.{Asks, Begins, Hears, MayTurn, Retries, Ticks, Turn, Works}
 use Rattle.client_laws.specs.WholeTurns.{Purposes, acts_of}
 use Rattle.client_laws.specs.WordLaws.{Happened, IsFirstTold, IsNamed, Knew}
-use Rattle.client_word.proofs.Desks.{copy_kept}
+use Rattle.client_laws.specs.TableLaws.{copy_kept}
 use Rattle.client_word.proofs.Fields.{Coming, IsAnswer, Taking, answer_of, copied_never}
 use Rattle.client_word.proofs.Hearing.{Reading}
 use Rattle.client_word.proofs.Mounts.{none_some, some_is}

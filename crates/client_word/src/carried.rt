@@ -16,7 +16,7 @@ use client_laws::{
     turns_are_lawful,
 };
 use gss_mech::Mechanism;
-use mount::what_goes_out_is_counted;
+use mount_runs::sends_are_counted;
 use streams::Draws;
 
 /// What holds of a client between turns: among it, that each call in a slot is awaited under the root that is mounted, and asks
@@ -33,7 +33,7 @@ pub fn clients_carry_on<M: Mechanism, W: Draws>()
 {
     places_stay::<M, W>();
     steps_are_lawful::<M>();
-    what_goes_out_is_counted();
+    sends_are_counted();
     clients_begin_lawful::<M>();
     clients_stay_settled::<M, W>();
     turns_are_lawful::<M>();

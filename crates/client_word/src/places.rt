@@ -11,7 +11,7 @@ ghost use Rattle.client_word.specs.Places.{IsPlacedClient};
 
 use caller_laws::steps_are_lawful;
 use gss_mech::Mechanism;
-use mount::what_goes_out_is_counted;
+use mount_runs::sends_are_counted;
 use streams::Draws;
 
 /// What a client awaits at each place, at the beginning and behind each turn.
@@ -22,6 +22,6 @@ pub fn places_stay<M: Mechanism, W: Draws>()
         → IsTurn (ways_of M.mic_of M.derived M.finished M.started M.accepted s) W.gives turn c v w (d, out)
         → IsPlacedClient c → IsPlacedClient d }
 {
-    what_goes_out_is_counted();
+    sends_are_counted();
     steps_are_lawful::<M>();
 }

@@ -3,7 +3,7 @@ use Rattle.std.proofs.Common.{ℕ, List, Option}
 use Rattle.caller_laws.specs.Duties.{SendsOwnCalls}
 use Rattle.caller_laws.specs.Good.{Identity}
 use Rattle.caller_laws.specs.Lawful.{IsStep}
-use Rattle.caller_laws.specs.Moves.{Again, Begin, BeginAnew, Finish, InSlot, Make, Move, Reclaim, Send, SetUp, done, sent_by}
+use Rattle.caller_laws.specs.Moves.{Again, Begin, BeginAnew, Finish, InSlot, Make, Move, Reclaim, SetUp, done}
 use Rattle.caller_laws.specs.View.{Above}
 use Rattle.gss_ctx.specs.Seals.{Mic}
 use Rattle.mount.specs.Laws.{Went}
@@ -19,6 +19,7 @@ use Rattle.session_calls.specs.declared.slot_call.SlotCall.TheVariants.{ReclaimC
 use Rattle.session_calls.specs.declared.sole_call.BackChannel.{BackChannel}
 use Rattle.mount_runs.proofs.Knowing.{Keeping, Obeying}
 use Rattle.mount_runs.proofs.RunFacts.{Known}
+use Rattle.mount_runs.specs.Counting.{Counted}
 
 pub record Goings : Type 0 where
   pub begin : (at : SendAt) (nonce : List ℕ) (token : Option (List ℕ)) (m : Mounted) → Went at m (begun at nonce token m)
@@ -29,7 +30,7 @@ pub record Goings : Type 0 where
   pub end : (mic : Mic) (at : SendAt) (ending : Ending) (m : Mounted) → Went at m (ended_in mic at ending m.standing m)
   pub again : (mic : Mic) (at : SendAt) (m : Mounted) → Went at m (sent_again mic at m)
 
-pub went : (goings : Goings) (mic : Mic) (at : SendAt) (send : Send) (m : Mounted) → Went at m (sent_by mic at send m)
+pub went : Goings → Counted
 went goings mic at (Begin nonce token) m = goings.begin at nonce token m
 went goings mic at BeginAnew m = goings.anew at m
 went goings mic at (SetUp principal back) m = goings.step mic at principal back m
@@ -39,6 +40,6 @@ went goings mic at (Make child name privilege) m = goings.create mic at child na
 went goings mic at (Finish ending) m = goings.end mic at ending m
 went goings mic at Again m = goings.again mic at m
 
-pub known_of : (who : Identity) (means : Means) → Goings → Obeying who means → Keeping who means
+pub known_of : (who : Identity) (means : Means) → Counted → Obeying who means → Keeping who means
     → ((a b : Above) (m : Mounted) (move : Move) → IsStep who means a b m move → SendsOwnCalls a b (done means move m).shown) → Known who means
-known_of who means goings obeys keeps calls = record { obeys = obeys; keeps = keeps; calls = calls; went = λ at send m. went goings means.mic at send m }
+known_of who means counted obeys keeps calls = record { obeys = obeys; keeps = keeps; calls = calls; went = counted means.mic }

@@ -1,3 +1,4 @@
+pub mod Counting
 pub mod Runs
 pub mod Order
 pub mod RootLaws

@@ -1,10 +1,8 @@
 ghost use Rattle.std.specs.Prelude.{◌≡◌, ℕ, List, Option};
 ghost use Rattle.caller_laws.specs.Good.{Identity, IsGood};
 ghost use Rattle.caller_laws.specs.Lawful.{IsStep};
-ghost use Rattle.caller_laws.specs.Moves.{Move, Send, Sends, done, sent_by};
+ghost use Rattle.caller_laws.specs.Moves.{Move, Send, Sends, done};
 ghost use Rattle.caller_laws.specs.View.{Above};
-ghost use Rattle.gss_ctx.specs.Seals.{Mic};
-ghost use Rattle.mount.specs.Laws.{Went};
 ghost use Rattle.mount.specs.declared.machine.SendAt.{SendAt};
 ghost use Rattle.mount.specs.State.{Mounted};
 ghost use Rattle.mount.specs.Taking.{Means};
@@ -16,6 +14,7 @@ ghost use Rattle.wire_model.specs.Wire as wire;
 ghost use Rattle.wire_model.specs.Wire.{Acts, Caller};
 ghost use Rattle.wire_spelling.specs.Calls.{xid_in};
 ghost use Rattle.mount_runs.specs.Besides.{GoesBeside};
+ghost use Rattle.mount_runs.specs.Counting.{Counted};
 ghost use Rattle.mount_runs.specs.Order.{IsOrdered};
 ghost use Rattle.mount_runs.specs.Runs.{AreSpelled, IsOneStep, IsRun, MountStep};
 ghost use Rattle.mount_runs.specs.Whole.{IsLawfulStep, IsWholeStep};
@@ -34,7 +33,7 @@ pub fn runs_are_lawful<M: Mechanism>()
         → IsOneStep who (record { mic = M.mic_of; derived = M.derived; finished = M.finished mech principal }) steps a b m n }
 {
     steps_are_lawful::<M>();
-    what_goes_out_is_counted();
+    sends_are_counted();
 }
 
 /// A machine that does in the same step what is nothing to this server obeys the laws of the server's wire all the same.
@@ -68,12 +67,12 @@ pub fn calls_have_their_xids<M: Mechanism>()
         → xid_in bytes ≡ at.xid }
 {
     steps_are_lawful::<M>();
-    what_goes_out_is_counted();
+    sends_are_counted();
 }
 
 /// Each call of a mount that goes out is the last one from then on, and where none goes out, the mount is as it was.
 pub fn sends_are_counted()
-    ensures { (mic : Mic) (at : SendAt) (send : Send) (m : Mounted) → Went at m (sent_by mic at send m) }
+    ensures { Counted }
 {
     what_goes_out_is_counted();
 }

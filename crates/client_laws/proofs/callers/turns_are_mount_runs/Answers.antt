@@ -1,11 +1,8 @@
-use Rattle.client_laws.proofs.MountMoves.{Counted}
 use Rattle.client_laws.proofs.MountTurns.{turn_runs}
 use Rattle.client_laws.proofs.callers.turns_are_mount_runs.Goals as goal
 
 pub returns : goal.returns
 returns g c =
-    let all = c.what_goes_out_is_counted.ensures in
-    let counted : Counted = record { begin = all.begin; step = all.step; slot = all.slot; create = all.create; again = all.again } in
     λ ways who boot side purpose turn before after v w out own may step left.
-    (turn_runs counted ways _ who boot side purpose turn before after v w out
+    (turn_runs c.sends_are_counted.ensures ways _ who boot side purpose turn before after v w out
     (record { is = ⊥; codes = λ no. absurd no; client = λ no. absurd no; told = λ no. absurd no }) (own, λ no. absurd no) may step left).turns

@@ -1,11 +1,8 @@
-use Rattle.client_word.proofs.Asking.{Goings}
 use Rattle.client_word.proofs.Carrying.{IsKnownTurn, begins_carried, carried_on, none_stays}
 use Rattle.client_word.proofs.carried.clients_carry_on.Goals as goal
 
 pub returns : goal.returns
 returns g c =
-    let all = c.what_goes_out_is_counted.ensures in
-    let goings : Goings = record { begin = all.begin; anew = all.anew; step = all.step; slot = all.slot; create = all.create; end = all.end; again = all.again } in
     record {
       begin = λ s who boot purposes.
           begins_carried s who boot purposes (c.clients_stay_settled.ensures.begin who s) (c.places_stay.ensures.begin s)
@@ -20,5 +17,5 @@ returns g c =
             none = c.copies_begin_by_command.ensures _ turn before after v w out 0 step none.0 none.1;
             may = may;
           } in
-          carried_on goings who _ (c.steps_are_lawful.ensures.good s.mech s.me who) boot purposes turn before after out t known spelled sends x;
+          carried_on c.sends_are_counted.ensures who _ (c.steps_are_lawful.ensures.good s.mech s.me who) boot purposes turn before after out t known spelled sends x;
     }
