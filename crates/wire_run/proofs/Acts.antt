@@ -15,7 +15,7 @@ use Rattle.disk_model.specs.declared.fuse.Fuse.{Fuse}
 use Rattle.outbox.specs.declared.outgoing.Outbox.{Outbox}
 use Rattle.outbox.specs.declared.outgoing.Outgoing.{Outgoing}
 use Rattle.outcome.specs.Causes.{Rose, RoseBy}
-use Rattle.server_volume.specs.Moments.{Ran}
+use Rattle.server_volume.specs.Moments.{Counted, Ran}
 use Rattle.server_volume.specs.Store.{Seat, seat_of}
 use Rattle.server_volume.specs.declared.used.CallAnswer.{CallAnswer}
 use Rattle.server_volume.specs.declared.used.CallAnswer.TheVariants.{Done, DiskFailed, Refused}
@@ -51,11 +51,11 @@ any_alike (u ∷ us) = ap (λ (b : Bool). b || steps.any_failed us) (failed_alik
 
 -- ---- what the calls of a step leave of a volume and its disk
 
--- the laws of volumes that say it
-pub record VolumeLaws : Type 0 where
+-- the laws of volumes that say it, of disks that tell what they hold or not
+pub record VolumeLaws (told : Type 0) : Type 0 where
   pub keeps : (old new : Seat) (used more : List Used) → Ran old new used more → KeepsFiles old.store new.store
-  pub some : (old new : Seat) (used more : List Used) → Ran old new used (used ++ more) → laws.any_failed more ≡ true → Rose old.faults new.faults
-  pub later : (old new : Seat) (used more : List Used) → Ran old new used more → RoseBy 0 old.faults new.faults
+  pub some : (old new : Seat) (used more : List Used) → Counted told old new used (used ++ more) → laws.any_failed more ≡ true → Rose old.faults new.faults
+  pub later : (old new : Seat) (used more : List Used) → Counted told old new used more → RoseBy 0 old.faults new.faults
 
 rose_by : (before now : ℕ) (failed : Bool) → (failed ≡ true → Rose before now) → RoseBy 0 before now → RoseBy (bit failed) before now
 rose_by before now true some none = some refl
@@ -75,30 +75,30 @@ module _ {D : Type 0} (faults size : D → ℕ) where
     boot = ap (λ (v : Opened D). v.volume.boot) same;
   }
 
-  ran_stays : (fuse : D → Fuse) (timeline : D → Timeline) (old new : Opened D) (used : List Used) → VolumeLaws
+  ran_stays : (told : Type 0) (fuse : D → Fuse) (timeline : D → Timeline) (old new : Opened D) (used : List Used) → VolumeLaws told
       → Ran (seat_of size fuse timeline faults old) (seat_of size fuse timeline faults new) [] used → VolumeStays old new
-  ran_stays fuse timeline old new used laws ran =
+  ran_stays told fuse timeline old new used laws ran =
       let k = laws.keeps (seat_of size fuse timeline faults old) (seat_of size fuse timeline faults new) [] used ran in
       record { files = k.opening.files; tag = k.tag; boot = k.opening.boot }
 
-  ran_later : (fuse : D → Fuse) (timeline : D → Timeline) (old new : Opened D) (used : List Used) → VolumeLaws
-      → Ran (seat_of size fuse timeline faults old) (seat_of size fuse timeline faults new) [] used
+  ran_later : (told : Type 0) (fuse : D → Fuse) (timeline : D → Timeline) (old new : Opened D) (used : List Used) → VolumeLaws told
+      → Counted told (seat_of size fuse timeline faults old) (seat_of size fuse timeline faults new) [] used
       → Later faults size (bit (steps.any_failed used)) (Some old.disk) (Some new.disk)
-  ran_later fuse timeline old new used laws ran = record {
+  ran_later told fuse timeline old new used laws ran = record {
     there = refl;
     rose = rose_by (faults old.disk) (faults new.disk) (steps.any_failed used)
         (λ e. laws.some (seat_of size fuse timeline faults old) (seat_of size fuse timeline faults new) [] used ran (sym (any_alike used) ∙ e))
         (laws.later (seat_of size fuse timeline faults old) (seat_of size fuse timeline faults new) [] used ran);
-    as_large = (laws.keeps (seat_of size fuse timeline faults old) (seat_of size fuse timeline faults new) [] used ran).size;
+    as_large = ran.as_large;
   }
 
 -- ---- an act that makes calls on the volume
 
-module _ {D M E : Type 0} (told : Type 0) (m : RunMachines M) (faults size : D → ℕ) (fuse : D → Fuse) (timeline : D → Timeline) (laws : VolumeLaws) where
+module _ {D M E : Type 0} (told : Type 0) (m : RunMachines M) (faults size : D → ℕ) (fuse : D → Fuse) (timeline : D → Timeline) (laws : VolumeLaws told) where
   pub source_acts : (act : SourceAct) (now : ℕ) (old new : SourceEnd D M) (core next : SourceHost D M) (before after : ℕ) (r : Result Outbox E)
       → old ≡ source_end.Open core → new ≡ source_end.Open next
       → (told → IfOk r (λ out. m.source act now (host_of size core) before (host_of size next) after out))
-      → (told → IfOk r (λ out. Ran (seat_of size fuse timeline faults core.server.files.volume) (seat_of size fuse timeline faults next.server.files.volume) [] out.used))
+      → IfOk r (λ out. Counted told (seat_of size fuse timeline faults core.server.files.volume) (seat_of size fuse timeline faults next.server.files.volume) [] out.used)
       → IfOk r (λ _. next.steps ≡ core.steps + 1)
       → IfOk r (SourceActs told m faults size act now old before new after)
   source_acts act now old new core next before after (Ok out) was is turn ran counted = record {
@@ -106,17 +106,17 @@ module _ {D M E : Type 0} (told : Type 0) (m : RunMachines M) (faults size : D �
     next = next;
     was_is = was;
     next_is = is;
-    stays = λ t. ran_stays faults size fuse timeline core.server.files.volume next.server.files.volume out.used laws (ran t);
+    stays = λ t. ran_stays faults size told fuse timeline core.server.files.volume next.server.files.volume out.used laws (ran.ran t);
     acts = λ t. turn t;
     counted = omega (arith, counted);
-    later = λ t. ran_later faults size fuse timeline core.server.files.volume next.server.files.volume out.used laws (ran t);
+    later = ran_later faults size told fuse timeline core.server.files.volume next.server.files.volume out.used laws ran;
   }
   source_acts act now old new core next before after (Err e) was is turn ran counted = tt
 
   pub dest_acts : (act : DestAct) (now : ℕ) (old new : DestEnd D M) (core next : DestHost D M) (before after : ℕ) (r : Result Outbox E)
       → old ≡ dest_end.Open core → new ≡ dest_end.Open next
       → (told → IfOk r (λ out. m.dest act now (host_of size core) before (host_of size next) after out))
-      → (told → IfOk r (λ out. Ran (seat_of size fuse timeline faults core.server.files.volume) (seat_of size fuse timeline faults next.server.files.volume) [] out.used))
+      → IfOk r (λ out. Counted told (seat_of size fuse timeline faults core.server.files.volume) (seat_of size fuse timeline faults next.server.files.volume) [] out.used)
       → IfOk r (λ _. next.steps ≡ core.steps + 1)
       → IfOk r (DestActs told m faults size act now old before new after)
   dest_acts act now old new core next before after (Ok out) was is turn ran counted = record {
@@ -124,10 +124,10 @@ module _ {D M E : Type 0} (told : Type 0) (m : RunMachines M) (faults size : D �
     next = next;
     was_is = was;
     next_is = is;
-    stays = λ t. ran_stays faults size fuse timeline core.server.files.volume next.server.files.volume out.used laws (ran t);
+    stays = λ t. ran_stays faults size told fuse timeline core.server.files.volume next.server.files.volume out.used laws (ran.ran t);
     acts = λ t. turn t;
     counted = omega (arith, counted);
-    later = λ t. ran_later faults size fuse timeline core.server.files.volume next.server.files.volume out.used laws (ran t);
+    later = ran_later faults size told fuse timeline core.server.files.volume next.server.files.volume out.used laws ran;
   }
   dest_acts act now old new core next before after (Err e) was is turn ran counted = tt
 
@@ -148,7 +148,7 @@ module _ {D M E : Type 0} (told : Type 0) (m : RunMachines M) (faults size : D �
     stays = λ t. still_stays faults size core.server.files.volume next.server.files.volume same;
     acts = λ t. turn t;
     counted = omega (arith, counted);
-    later = λ t. still_later faults size core.server.files.volume next.server.files.volume (steps.any_failed out.used) same none;
+    later = still_later faults size core.server.files.volume next.server.files.volume (steps.any_failed out.used) same none;
   }
   source_rests act now old new core next before after (Err e) was is turn same none counted = tt
 
@@ -166,7 +166,7 @@ module _ {D M E : Type 0} (told : Type 0) (m : RunMachines M) (faults size : D �
     stays = λ t. still_stays faults size core.server.files.volume next.server.files.volume same;
     acts = λ t. turn t;
     counted = omega (arith, counted);
-    later = λ t. still_later faults size core.server.files.volume next.server.files.volume (steps.any_failed out.used) same none;
+    later = still_later faults size core.server.files.volume next.server.files.volume (steps.any_failed out.used) same none;
   }
   dest_rests act now old new core next before after (Err e) was is turn same none counted = tt
 
@@ -179,6 +179,10 @@ all_draws (Err e) P f = tt
 pub and_same : {E : Type 0} (r : Result Outbox E) (P : Outbox → Type 0) (d : ℕ) → IfOk r P → IfOk r (λ out. P out × (d ≡ d))
 and_same (Ok out) P d p = (p, refl)
 and_same (Err e) P d p = tt
+
+pub with_that : {E : Type 0} (r : Result Outbox E) (A : Type 0) (P : Outbox → Type 0) → A → IfOk r P → IfOk r (λ out. A × P out)
+with_that (Ok out) A P that p = (that, p)
+with_that (Err e) A P that p = tt
 
 pub ticked_alone : {E A : Type 0} (r : Result Outbox E) (d : ℕ) → IfOk r (λ out. out ≡ nothing) → (IsOk r → A) → IfOk r (λ out. A × (out ≡ nothing) × (d ≡ d))
 ticked_alone (Ok out) d none is = (is refl, none, refl)
@@ -252,7 +256,7 @@ unheard told words faults size worker bytes now end core (Ok out) is few taken n
     none_sent out AreShort quiet no_short,
   );
   counted = omega arith;
-  later = λ t. still_later faults size core.server.files.volume core.server.files.volume (steps.any_failed out.used) refl (ap (λ (o : Outbox). steps.any_failed o.used) quiet);
+  later = still_later faults size core.server.files.volume core.server.files.volume (steps.any_failed out.used) refl (ap (λ (o : Outbox). steps.any_failed o.used) quiet);
 }
 unheard told words faults size worker bytes now end core (Err e) is few taken none quiet = tt
 
@@ -262,25 +266,33 @@ not_true : (b : Bool) → (b ≡ true → ⊥) → b ≡ false
 not_true true never = absurd (never refl)
 not_true false never = refl
 
-peek_is : {A : Type 0} (v : Volume) (file off : ℕ) (old new : List ℕ) (r : Result A ReadFault) → ((r ≡ Err read_faults.Broken) ↔ (v.broken ≡ true))
-    → (IsOk r → new ≡ bytes_at (file_at v file).now off (length old)) → PeekIs v file off old new (peeked_of r)
-peek_is v file off old new (Ok done) broken bytes = record {
+peek_is : {A : Type 0} (told : Type 0) (v : Volume) (file off : ℕ) (old new : List ℕ) (r : Result A ReadFault) → ((r ≡ Err read_faults.Broken) ↔ (v.broken ≡ true))
+    → (told → IsOk r → new ≡ bytes_at (file_at v file).now off (length old)) → PeekIs told v file off old new (peeked_of r)
+peek_is told v file off old new (Ok done) broken bytes = record {
   broken = λ e. absurd cc;
   refused = λ b. let other = broken.1 b in absurd cc;
   whole = λ e. not_true v.broken (λ b. let other = broken.1 b in absurd cc);
-  bytes = λ e. bytes refl;
+  bytes = λ t e. bytes t refl;
 }
-peek_is v file off old new (Err read_faults.Broken) broken bytes = record {
-  broken = λ e. broken.0 refl;
+peek_is told v file off old new (Err read_faults.Broken) broken bytes = record {
+  broken = λ e there. broken.0 refl;
   refused = λ b. refl;
   whole = λ e. absurd cc;
-  bytes = λ e. absurd cc;
+  bytes = λ t e. absurd cc;
 }
-peek_is v file off old new (Err read_faults.DiskFailed) broken bytes = record {
+peek_is told v file off old new (Err read_faults.DiskFailed) broken bytes = record {
   broken = λ e. absurd cc;
   refused = λ b. let other = broken.1 b in absurd cc;
   whole = λ e. absurd cc;
-  bytes = λ e. absurd cc;
+  bytes = λ t e. absurd cc;
+}
+
+peek_none : (told : Type 0) (v : Volume) (file off : ℕ) (old new : List ℕ) → length v.files ≤ file → PeekIs told v file off old new peeks.Refused
+peek_none told v file off old new past = record {
+  broken = λ e there. absurd (omega (arith, past, there));
+  refused = λ b. refl;
+  whole = λ e. absurd cc;
+  bytes = λ t e. absurd cc;
 }
 
 peek_later : {A D : Type 0} (faults size : D → ℕ) (d e : D) (r : Result A ReadFault) → faults d ≤ faults e → (r ≡ Err read_faults.DiskFailed → Rose (faults d) (faults e)) → size e ≡ size d
@@ -306,8 +318,8 @@ module _ {A D M : Type 0} (told : Type 0) (faults size : D → ℕ) (file off : 
         next_is = now;
         same = same;
         counted = counted;
-        is = λ t there. peek_is core.server.files.volume.volume file off bytes_old bytes_new r broken (bytes t);
-        later = λ t. peek_later faults size core.server.files.volume.disk next.server.files.volume.disk r later cause large;
+        is = peek_is told core.server.files.volume.volume file off bytes_old bytes_new r broken bytes;
+        later = peek_later faults size core.server.files.volume.disk next.server.files.volume.disk r later cause large;
       })
 
   pub dest_peeks : (old new : DestEnd D M) (core next : DestHost D M) → old ≡ dest_end.Open core → new ≡ dest_end.Open next
@@ -326,8 +338,8 @@ module _ {A D M : Type 0} (told : Type 0) (faults size : D → ℕ) (file off : 
         next_is = now;
         same = same;
         counted = counted;
-        is = λ t there. peek_is core.server.files.volume.volume file off bytes_old bytes_new r broken (bytes t);
-        later = λ t. peek_later faults size core.server.files.volume.disk next.server.files.volume.disk r later cause large;
+        is = peek_is told core.server.files.volume.volume file off bytes_old bytes_new r broken bytes;
+        later = peek_later faults size core.server.files.volume.disk next.server.files.volume.disk r later cause large;
       })
 
 -- a file that isn't there
@@ -341,8 +353,8 @@ source_peeks_none told faults size file off files bytes old core was count past 
   next_is = refl;
   same = λ t. refl;
   counted = refl;
-  is = λ t there. absurd (omega (arith, count, past, there));
-  later = λ t. record { there = refl; rose = omega arith; as_large = refl };
+  is = peek_none told core.server.files.volume.volume file off bytes bytes (omega (arith, count, past));
+  later = record { there = refl; rose = omega arith; as_large = refl };
 }
 
 pub dest_peeks_none : {D M : Type 0} (told : Type 0) (faults size : D → ℕ) (file off files : ℕ) (bytes : List ℕ) (old : DestEnd D M) (core : DestHost D M) → old ≡ dest_end.Open core
@@ -355,6 +367,6 @@ dest_peeks_none told faults size file off files bytes old core was count past = 
   next_is = refl;
   same = λ t. refl;
   counted = refl;
-  is = λ t there. absurd (omega (arith, count, past, there));
-  later = λ t. record { there = refl; rose = omega arith; as_large = refl };
+  is = peek_none told core.server.files.volume.volume file off bytes bytes (omega (arith, count, past));
+  later = record { there = refl; rose = omega arith; as_large = refl };
 }

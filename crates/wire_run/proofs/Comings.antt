@@ -36,6 +36,7 @@ use Rattle.wire_run.specs.declared.stage.Stage.{Stage}
 use Rattle.wire_run.specs.declared.stage.Ticked.{Ticked}
 use Rattle.wire_schedule.specs.declared.event.Event.TheVariants as kinds
 use Rattle.wire_run.proofs.Keeping.{dest_there, source_there}
+use Rattle.wire_run.proofs.Later.{blamed_none_failed}
 use Rattle.wire_run.proofs.Logs.{mistake_in_none}
 use Rattle.wire_run.proofs.Lone.{choice_left, choice_right, client_lines, dest_lines, dest_log, dest_mistake, rest_log, source_lines, source_log, source_mistake}
 
@@ -167,7 +168,7 @@ module _ {D M : Type 0} (told : Type 0) (words : Words M ℕ) (read : Reading) (
         lines = lines_same text_old text_new _ _ (source_lines (length old.log) took out) put.0.lines;
         choices = choices_same old.choices.items new.choices.items _ _ (choice_left (any_failed out.used)) put.0.choices;
         source_later = acts.later;
-        dest_later = λ t. later_none faults size _;
+        dest_later = later_none faults size _;
       }
   by_source act number opening old new source draws out text_old text_new (Some fault) ready acts is k put =
       let d = dest_there old.dest ready.dest in
@@ -194,8 +195,8 @@ module _ {D M : Type 0} (told : Type 0) (words : Words M ℕ) (read : Reading) (
             put.2;
         text = put.1;
         choices = ap (λ (s : Stage D M). s.choices.items) put.0;
-        source_later = λ t. later_less faults size _ _ _ (acts.later t);
-        dest_later = λ t. later_none faults size _;
+        source_later = later_less faults size _ _ _ acts.later;
+        dest_later = later_none faults size _;
       }
 
   -- ---- the destination
@@ -235,7 +236,7 @@ module _ {D M : Type 0} (told : Type 0) (words : Words M ℕ) (read : Reading) (
             refl put.1;
         lines = lines_same text_old text_new _ _ (dest_lines (length old.log) speaker took out) put.0.lines;
         choices = choices_same old.choices.items new.choices.items _ _ (choice_right (any_failed out.used)) put.0.choices;
-        source_later = λ t. later_none faults size _;
+        source_later = later_none faults size _;
         dest_later = acts.later;
       }
   by_dest act speaker number opening old new dest draws out text_old text_new (Some fault) ready acts is k put =
@@ -262,8 +263,8 @@ module _ {D M : Type 0} (told : Type 0) (words : Words M ℕ) (read : Reading) (
             put.2;
         text = put.1;
         choices = ap (λ (s : Stage D M). s.choices.items) put.0;
-        source_later = λ t. later_none faults size _;
-        dest_later = λ t. later_less faults size _ _ _ (acts.later t);
+        source_later = later_none faults size _;
+        dest_later = later_less faults size _ _ _ acts.later;
       }
 
   -- ---- the client
@@ -298,8 +299,8 @@ module _ {D M : Type 0} (told : Type 0) (words : Words M ℕ) (read : Reading) (
         right = λ t. put.1;
         lines = lines_same text_old text_new _ _ (client_lines (length old.log) took out) put.0.lines;
         choices = put.0.choices;
-        source_later = λ t. later_none faults size _;
-        dest_later = λ t. later_none faults size _;
+        source_later = later_none faults size _;
+        dest_later = later_none faults size _;
       }
   by_client act number old new client draws out text_old text_new (Some fault) ready acts k put =
       let s = source_there old.source ready.source in
@@ -320,8 +321,8 @@ module _ {D M : Type 0} (told : Type 0) (words : Words M ℕ) (read : Reading) (
         fault_is = λ t. put.2;
         text = put.1;
         choices = ap (λ (s : Stage D M). s.choices.items) put.0;
-        source_later = λ t. later_none faults size _;
-        dest_later = λ t. later_none faults size _;
+        source_later = later_none faults size _;
+        dest_later = later_none faults size _;
       }
 
   -- ---- nobody
@@ -350,8 +351,8 @@ module _ {D M : Type 0} (told : Type 0) (words : Words M ℕ) (read : Reading) (
         right = λ t. size_right new.log k.bytes;
         lines = sym (append-nil text);
         choices = choices;
-        source_later = λ t. later_none faults size _;
-        dest_later = λ t. later_none faults size _;
+        source_later = later_none faults size _;
+        dest_later = later_none faults size _;
       }
 
   -- a number under which no record was sent
@@ -386,8 +387,9 @@ module _ {D M : Type 0} (told : Type 0) (words : Words M ℕ) (read : Reading) (
         lines = λ t. line ∙ ap (λ (bytes : List ℕ). text_old ++ bytes) (sym (append-nil (line_text (lines.NoRecord number))))
             ∙ ap (λ (ls : List Line). text_old ++ lines_text (ls ++ [])) (sym (ap (unsent number) is));
         choices = choices;
-        source_later = λ t. later_none faults size _;
-        dest_later = λ t. later_none faults size _;
+        blamed = blamed_none_failed (record { event = kinds.Deliver number; choice = Went; parts = all_idle; after = world_at size s.core d.core new }) refl;
+        source_later = later_none faults size _;
+        dest_later = later_none faults size _;
       }
 
   -- a record that goes in nowhere
@@ -421,8 +423,8 @@ module _ {D M : Type 0} (told : Type 0) (words : Words M ℕ) (read : Reading) (
         right = λ t. size_right new.log k.bytes;
         lines = sym (append-nil text);
         choices = choices;
-        source_later = λ t. later_none faults size _;
-        dest_later = λ t. later_none faults size _;
+        source_later = later_none faults size _;
+        dest_later = later_none faults size _;
       }
 
   -- ---- a record that arrives at an end
@@ -539,6 +541,6 @@ module _ {D M : Type 0} (told : Type 0) (words : Words M ℕ) (read : Reading) (
             (sym (posted_alike ticked only.log (ap (λ (cs : List Choice). length cs) only.choices) source_boots dest_boots)) put.2;
         text = put.1;
         choices = ap (λ (s : Stage D M). s.choices.items) put.0 ∙ only.choices;
-        source_later = λ t. later_less faults size _ _ _ (look.source.later t);
-        dest_later = λ t. later_less faults size _ _ _ (look.dest.later t);
+        source_later = later_less faults size _ _ _ look.source.later;
+        dest_later = later_less faults size _ _ _ look.dest.later;
       }

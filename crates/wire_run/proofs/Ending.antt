@@ -187,6 +187,7 @@ module _ {D M : Type 0} (told : Type 0) (m : RunMachines M) (read : Reading) (fa
     last = volumes_of m (idle_world (mech_of start) done);
     holds = λ t whole. absurd (cc);
     choices = was.choices;
+    blamed = was.blamed;
     source = was.source;
     dest = was.dest;
     puts = ended_front done was.steps start now taken now_taken out was.stands front;
@@ -205,6 +206,7 @@ module _ {D M : Type 0} (told : Type 0) (m : RunMachines M) (read : Reading) (fa
         last = volumes_of m first;
         holds = λ t whole side asks. shown t side asks;
         choices = was.choices;
+        blamed = was.blamed;
         source = was.source;
         dest = was.dest;
         puts = (
@@ -240,6 +242,7 @@ module _ {D M : Type 0} (told : Type 0) (m : RunMachines M) (read : Reading) (fa
         last = volumes_of m (after_steps first was.steps);
         holds = λ t whole side asks. shown_of m read reads now.source_state now.dest_state now (after_steps first was.steps) moves.world side;
         choices = was.choices;
+        blamed = was.blamed;
         source = was.source;
         dest = was.dest;
         puts = (

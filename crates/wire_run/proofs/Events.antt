@@ -68,8 +68,9 @@ module _ {D M : Type 0} (told : Type 0) (m : RunMachines M) (read : Reading) (fa
             ∙ ap (λ (w : RunWorld M). Some w) (g.world none ∙ ap (λ (w : RunWorld M). after_steps w g.steps) world);
         lines = λ t. subst (λ (w : RunWorld M). text_in result ≡ lines_text (lines_of m w g.steps)) world (g.lines t);
         choices = g.choices;
-        source_later = λ t. later_disks _ _ _ _ _ (ap (λ (e : SourceEnd D M). source_disk e) g.source_is) (ap (λ (e : SourceEnd D M). source_disk e) g.source_next_is) (g.source_later t);
-        dest_later = λ t. later_disks _ _ _ _ _ (ap (λ (e : DestEnd D M). dest_disk e) g.dest_is) (ap (λ (e : DestEnd D M). dest_disk e) g.dest_next_is) (g.dest_later t);
+        blamed = g.blamed;
+        source_later = later_disks _ _ _ _ _ (ap (λ (e : SourceEnd D M). source_disk e) g.source_is) (ap (λ (e : SourceEnd D M). source_disk e) g.source_next_is) g.source_later;
+        dest_later = later_disks _ _ _ _ _ (ap (λ (e : DestEnd D M). dest_disk e) g.dest_is) (ap (λ (e : DestEnd D M). dest_disk e) g.dest_next_is) g.dest_later;
       }
 
   -- ---- an event that is one small step

@@ -31,7 +31,7 @@ use Rattle.wire_run.proofs.Ending.{did_of, none_front, schedule_of, some_front}
 use Rattle.wire_run.proofs.Going.{IsWent, kept_rest, lines_more, more_choices, not_early, small_as, there_at, volume_keeps, volume_later, volume_text, went}
 use Rattle.wire_run.proofs.Joining.{one_ends, one_runs, runs_join}
 use Rattle.wire_run.proofs.EventKinds.{Acts, Makes, in_order, kind_of}
-use Rattle.wire_run.proofs.Later.{later_join, later_more, rose_behind}
+use Rattle.wire_run.proofs.Later.{blamed_join, blamed_none, later_join, later_more, rose_behind}
 use Rattle.wire_run.proofs.Middle.{InRun, Moves, Waits, not_both, waits_none}
 use Rattle.wire_run.proofs.Shapes.{idle_world, small_behind}
 use Rattle.wire_schedule.specs.Admission.{admits, files_of}
@@ -135,8 +135,9 @@ module _ {D M : Type 0} (told : Type 0) (m : RunMachines M) (read : Reading) (fa
           last = volumes_of m (idle_world (mech_of start) done);
           holds = λ t whole. absurd (cc);
           choices = made.3 ∙ rests.choices;
-          source = λ t. later_join faults size 0 0 start.source old.source new.source waits.source_later made.1;
-          dest = λ t. later_join faults size 0 0 start.dest old.dest new.dest waits.dest_later made.2;
+          blamed = blamed_none M;
+          source = later_join faults size 0 0 start.source old.source new.source waits.source_later made.1;
+          dest = later_join faults size 0 0 start.dest old.dest new.dest waits.dest_later made.2;
           puts = puts_unmade done was.steps start old new taken now_taken e rest kind.side kind.files kind.blocks kind.is kind.absent waits was.room cause made.0;
         };
         cause = cause_unmade start old new begun later (kinds.Volume kind.side kind.files kind.blocks) waits.source_later waits.dest_later cause made.0;
@@ -168,8 +169,9 @@ module _ {D M : Type 0} (told : Type 0) (m : RunMachines M) (read : Reading) (fa
     last = volumes_of m (after_steps moves.first (was.steps ++ carried.steps));
     holds = λ t whole. absurd (not_whole whole);
     choices = more_choices old new was.steps carried.steps was.choices carried.choices;
-    source = λ t. later_more faults size Source was.steps carried.steps start.source old.source new.source (was.source t) (carried.source_later t);
-    dest = λ t. later_more faults size Dest was.steps carried.steps start.dest old.dest new.dest (was.dest t) (carried.dest_later t);
+    blamed = blamed_join was.steps carried.steps was.blamed carried.blamed;
+    source = later_more faults size Source was.steps carried.steps start.source old.source new.source was.source carried.source_later;
+    dest = later_more faults size Dest was.steps carried.steps start.dest old.dest new.dest was.dest carried.dest_later;
     puts = puts;
   }
 
@@ -286,8 +288,9 @@ module _ {D M : Type 0} (told : Type 0) (m : RunMachines M) (read : Reading) (fa
           last = volumes_of m (idle_world (mech_of start) done);
           holds = λ t whole. absurd (cc);
           choices = kept.choices;
-          source = λ t. later_join faults size 0 0 start.source old.source new.source waits.source_later laters.0;
-          dest = λ t. later_join faults size 0 0 start.dest old.dest new.dest waits.dest_later laters.1;
+          blamed = blamed_none M;
+          source = later_join faults size 0 0 start.source old.source new.source waits.source_later laters.0;
+          dest = later_join faults size 0 0 start.dest old.dest new.dest waits.dest_later laters.1;
           puts = λ t. none_front m read (mech_of start) (done ++ e ∷ rest) taken now.taken all;
         };
         cause = rose;

@@ -16,7 +16,7 @@ use Rattle.wire_machine.specs.World.{Posted, marked, posted_at, waiting, waiting
 use Rattle.wire_machine.specs.declared.choice.Choice.{Choice}
 use Rattle.nfs_base.specs.declared.side.Side.{Side}
 use Rattle.nfs_base.specs.declared.side.Side.TheVariants.{Source, Dest}
-use Rattle.wire_run.specs.Running.{Later, RunMachines, RunStep, RunWorld, failed_calls, has_failed_at}
+use Rattle.wire_run.specs.Running.{AreBlamed, Later, RunMachines, RunStep, RunWorld, failed_calls, has_failed_at}
 use Rattle.wire_run.specs.Stage.{AllDelivered, BeginsNone, DestHost, FlowKeeps, FlowsBy, FlowsOne, FlowsTo, IsBelow, IsFair, IsFlowing, SmallKeeps, faults_named, is_waiting, most_records, Grows, IsReady, SmallIs, SourceHost, StageGoes, bit, next_flowed, world_at}
 use Rattle.wire_run.specs.declared.ends.DestEnd.{DestEnd}
 use Rattle.wire_run.specs.declared.ends.DestEnd.TheVariants as dest_end
@@ -29,7 +29,7 @@ use Rattle.wire_run.proofs.Joining.{after_join, lines_join}
 use Rattle.client_core.specs.State.{ClientState}
 use Rattle.wire_run.proofs.Keeping.{dest_open, dest_still, dest_there, source_open, source_still, source_there, stage_keeps_on}
 use Rattle.wire_run.proofs.Logs.{delivered_append, delivered_next, delivered_past, keeps_none, length_marked}
-use Rattle.wire_run.proofs.Later.{later_join, later_more, later_same}
+use Rattle.wire_run.proofs.Later.{blamed_join, blamed_none, failed_one, later_join, later_more, later_same}
 use Rattle.wire_schedule.specs.declared.event.Event.{Event}
 use Rattle.wire_schedule.specs.declared.event.Event.TheVariants as kinds
 
@@ -48,10 +48,6 @@ module _ {M : Type 0} (m : RunMachines M) (read : Reading) where
   goes_not before event smalls s fault is step wrong =
       (s, is, step, subst (λ (f : Option runs.Fault). GoesBy m read f s (λ (r : List (RunStep M)). Goes m read s.after smalls r (Some fault)) [] (Some fault)) (sym wrong) (refl, refl))
 
-counted_one : (b : Bool) → bit b ≡ 0 + cond b 1 0
-counted_one true = refl
-counted_one false = refl
-
 none_some : {A : Type 0} (x : A) → None ≡ Some x → ⊥
 none_some x e = cc
 
@@ -66,10 +62,6 @@ opened_source a b e = cc
 
 opened_dest : {D M : Type 0} (a b : DestHost D M) → ◌≡◌ {A = DestEnd D M} (dest_end.Open a) (dest_end.Open b) → a ≡ b
 opened_dest a b e = cc
-
--- how often one small step failed at a server
-failed_one : {M : Type 0} (side : Side) (s : RunStep M) → bit (has_failed_at side s) ≡ failed_calls side (s ∷ [])
-failed_one side s = counted_one (has_failed_at side s)
 
 -- ---- the numbers that a flow has still to deliver
 
@@ -179,8 +171,9 @@ module _ {D M : Type 0} (told : Type 0) (m : RunMachines M) (read : Reading) (fa
     world = λ none. sym c.after_is;
     lines = λ t. c.lines t ∙ ap lines_text (sym (append-nil (step_lines m (world_at size c.source c.dest old) c.step)));
     choices = c.choices;
-    source_later = λ t. later_one Source c.step _ _ (c.source_later t);
-    dest_later = λ t. later_one Dest c.step _ _ (c.dest_later t);
+    blamed = c.blamed;
+    source_later = later_one Source c.step _ _ c.source_later;
+    dest_later = later_one Dest c.step _ _ c.dest_later;
   }
   once_goes event old new text (Some fault) c = record {
     source = c.source;
@@ -196,6 +189,7 @@ module _ {D M : Type 0} (told : Type 0) (m : RunMachines M) (read : Reading) (fa
     world = λ none. absurd (some_none fault none);
     lines = λ t. c.text;
     choices = c.choices ∙ sym (append-nil old.choices.items);
+    blamed = blamed_none M;
     source_later = c.source_later;
     dest_later = c.dest_later;
   }
@@ -219,8 +213,9 @@ module _ {D M : Type 0} (told : Type 0) (m : RunMachines M) (read : Reading) (fa
     pub world : world_at size source_next dest_next new ≡ after_steps (world_at size source dest old) steps
     pub lines : told → text ≡ lines_text (lines_of m (world_at size source dest old) steps)
     pub choices : new.choices.items ≡ old.choices.items ++ map (λ (s : RunStep M). s.choice) steps
-    pub source_later : told → Later faults size (failed_calls Source steps) (Some source.server.files.volume.disk) (Some source_next.server.files.volume.disk)
-    pub dest_later : told → Later faults size (failed_calls Dest steps) (Some dest.server.files.volume.disk) (Some dest_next.server.files.volume.disk)
+    pub blamed : AreBlamed steps
+    pub source_later : Later faults size (failed_calls Source steps) (Some source.server.files.volume.disk) (Some source_next.server.files.volume.disk)
+    pub dest_later : Later faults size (failed_calls Dest steps) (Some dest.server.files.volume.disk) (Some dest_next.server.files.volume.disk)
 
   -- before the first delivery
   pub flow_begun : (old : Stage D M) → IsReady old → old.flowed ≤ length old.log → AllDelivered old.flowed old.log → HasFlowed (length old.log) old old []
@@ -241,8 +236,9 @@ module _ {D M : Type 0} (told : Type 0) (m : RunMachines M) (read : Reading) (fa
         world = refl;
         lines = λ t. refl;
         choices = sym (append-nil old.choices.items);
-        source_later = λ t. later_same faults size _;
-        dest_later = λ t. later_same faults size _;
+        blamed = blamed_none M;
+        source_later = later_same faults size _;
+        dest_later = later_same faults size _;
       }
 
   -- one name for a core
@@ -271,6 +267,7 @@ module _ {D M : Type 0} (told : Type 0) (m : RunMachines M) (read : Reading) (fa
     world = h.world;
     lines = h.lines;
     choices = h.choices;
+    blamed = h.blamed;
     source_later = h.source_later;
     dest_later = h.dest_later;
   }
@@ -323,12 +320,13 @@ module _ {D M : Type 0} (told : Type 0) (m : RunMachines M) (read : Reading) (fa
         choices = c.choices ∙ (ap (λ (cs : List Choice). cs ++ c.step.choice ∷ []) h.choices
             ∙ (append_assoc old.choices.items (map (λ (s : RunStep M). s.choice) h.steps) (c.step.choice ∷ [])
             ∙ ap (λ (cs : List Choice). old.choices.items ++ cs) (sym (map-append (λ (s : RunStep M). s.choice) h.steps (c.step ∷ [])))));
-        source_later = λ t. later_more faults size Source h.steps (c.step ∷ []) _ _ _ (h.source_later t)
+        blamed = blamed_join h.steps (c.step ∷ []) h.blamed c.blamed;
+        source_later = later_more faults size Source h.steps (c.step ∷ []) _ _ _ h.source_later
             (subst (λ (a : SourceHost D M). Later faults size (failed_calls Source (c.step ∷ [])) (Some a.server.files.volume.disk) (Some c.source_next.server.files.volume.disk)) source
-            (later_one Source c.step _ _ (c.source_later t)));
-        dest_later = λ t. later_more faults size Dest h.steps (c.step ∷ []) _ _ _ (h.dest_later t)
+            (later_one Source c.step _ _ c.source_later));
+        dest_later = later_more faults size Dest h.steps (c.step ∷ []) _ _ _ h.dest_later
             (subst (λ (b : DestHost D M). Later faults size (failed_calls Dest (c.step ∷ [])) (Some b.server.files.volume.disk) (Some c.dest_next.server.files.volume.disk)) dest
-            (later_one Dest c.step _ _ (c.dest_later t)));
+            (later_one Dest c.step _ _ c.dest_later));
       }
 
   -- one ends the run
@@ -362,12 +360,13 @@ module _ {D M : Type 0} (told : Type 0) (m : RunMachines M) (read : Reading) (fa
         world = λ none. absurd (some_none fault none);
         lines = λ t. c.text ∙ h.lines t;
         choices = c.choices ∙ h.choices;
-        source_later = λ t. later_and_none (failed_calls Source h.steps) _ _
-            (later_join faults size (failed_calls Source h.steps) 0 _ _ _ (h.source_later t)
-            (subst (λ (a : SourceHost D M). Later faults size 0 (Some a.server.files.volume.disk) (Some c.source_next.server.files.volume.disk)) source (c.source_later t)));
-        dest_later = λ t. later_and_none (failed_calls Dest h.steps) _ _
-            (later_join faults size (failed_calls Dest h.steps) 0 _ _ _ (h.dest_later t)
-            (subst (λ (b : DestHost D M). Later faults size 0 (Some b.server.files.volume.disk) (Some c.dest_next.server.files.volume.disk)) dest (c.dest_later t)));
+        blamed = h.blamed;
+        source_later = later_and_none (failed_calls Source h.steps) _ _
+            (later_join faults size (failed_calls Source h.steps) 0 _ _ _ h.source_later
+            (subst (λ (a : SourceHost D M). Later faults size 0 (Some a.server.files.volume.disk) (Some c.source_next.server.files.volume.disk)) source c.source_later));
+        dest_later = later_and_none (failed_calls Dest h.steps) _ _
+            (later_join faults size (failed_calls Dest h.steps) 0 _ _ _ h.dest_later
+            (subst (λ (b : DestHost D M). Later faults size 0 (Some b.server.files.volume.disk) (Some c.dest_next.server.files.volume.disk)) dest c.dest_later));
       }
 
   -- all are
@@ -390,6 +389,7 @@ module _ {D M : Type 0} (told : Type 0) (m : RunMachines M) (read : Reading) (fa
     world = λ none. h.world;
     lines = h.lines;
     choices = h.choices;
+    blamed = h.blamed;
     source_later = h.source_later;
     dest_later = h.dest_later;
   }

@@ -30,7 +30,7 @@ use Rattle.wire_run.specs.declared.system.Stepped.{Stepped}
 use Rattle.wire_run.specs.declared.system.Stepped.TheVariants as stepped
 use Rattle.wire_run.proofs.Joining.{after_join, lines_join, one_runs, runs_join}
 use Rattle.wire_run.proofs.EventKinds.{Acts, Makes, in_order, kind_of}
-use Rattle.wire_run.proofs.Later.{later_join, later_more}
+use Rattle.wire_run.proofs.Later.{blamed_join, blamed_none, later_join, later_more}
 use Rattle.wire_run.proofs.Middle.{AtRest, InRun, Moves, Waits, not_both, standing, waits_made, waits_none, waits_other, waits_same}
 use Rattle.wire_run.proofs.Shapes.{small_behind}
 use Rattle.wire_schedule.specs.Admission.{admits, after, files_of, is_in_order, is_ready}
@@ -302,8 +302,9 @@ module _ {D M : Type 0} (told : Type 0) (m : RunMachines M) (read : Reading) (fa
       record {
         steps = [];
         choices = kept.choices;
-        source = λ t. source_later;
-        dest = λ t. dest_later;
+        blamed = blamed_none M;
+        source = source_later;
+        dest = dest_later;
         room = small_more (size_in size start.source) (size_in size start.dest) done e was.room
             (small_as (size_in size start.source) (size_in size start.dest) (size_in size old.source) (size_in size old.dest) e.event (sym before_source.as_large) (sym before_dest.as_large)
             ∙ (ap (λ (event : Event). event_small (size_in size old.source) (size_in size old.dest) event) kind.is ∙ fits));
@@ -323,8 +324,9 @@ module _ {D M : Type 0} (told : Type 0) (m : RunMachines M) (read : Reading) (fa
       record {
         steps = was.steps ++ carried.steps;
         choices = more_choices old new was.steps carried.steps was.choices carried.choices;
-        source = λ t. later_more faults size Source was.steps carried.steps start.source old.source new.source (was.source t) (carried.source_later t);
-        dest = λ t. later_more faults size Dest was.steps carried.steps start.dest old.dest new.dest (was.dest t) (carried.dest_later t);
+        blamed = blamed_join was.steps carried.steps was.blamed carried.blamed;
+        source = later_more faults size Source was.steps carried.steps start.source old.source new.source was.source carried.source_later;
+        dest = later_more faults size Dest was.steps carried.steps start.dest old.dest new.dest was.dest carried.dest_later;
         room = small_more (size_in size start.source) (size_in size start.dest) done e was.room (kind.small (size_in size start.source) (size_in size start.dest));
         stands = inr (next_moves done was.steps carried.steps start old new taken now out e became no_fault moves carried refl
             (ap (λ (c : Context). c.source) context_is ∙ kind.source) (ap (λ (c : Context). c.dest) context_is ∙ kind.dest) put);

@@ -15,7 +15,7 @@ use Rattle.wire_machine.specs.declared.choice.Choice.{Choice}
 use Rattle.wire_run.specs.Ends.{SourceState}
 use Rattle.wire_run.specs.Fresh.{IsFreshDest, IsFreshSource, Shape}
 use Rattle.wire_run.specs.Run.{IsFirst, asks_for, first_small, shape_by, shape_of, shape_or}
-use Rattle.wire_run.specs.Running.{Later, RunMachines, RunStep, RunWorld, Running, failed_calls, mech_of, size_in, world_by, world_in, world_of}
+use Rattle.wire_run.specs.Running.{AreBlamed, Later, RunMachines, RunStep, RunWorld, Running, failed_calls, mech_of, size_in, world_by, world_in, world_of}
 use Rattle.wire_run.specs.Setting.{dest_place, source_place, user}
 use Rattle.wire_run.proofs.Shapes.{asks_more, shape_behind}
 use Rattle.wire_schedule.specs.Admission.{is_ready}
@@ -173,7 +173,8 @@ module _ {D M : Type 0} (told : Type 0) (m : RunMachines M) (read : Reading) (fa
   pub record InRun (done : List Numbered) (start now : Running D M) (taken now_taken : Option (List ℕ)) : Type 0 where
     pub steps : List (RunStep M)
     pub choices : now.choices ≡ map (λ (s : RunStep M). s.choice) steps
-    pub source : told → Later faults size (failed_calls Source steps) start.source now.source
-    pub dest : told → Later faults size (failed_calls Dest steps) start.dest now.dest
+    pub blamed : AreBlamed steps
+    pub source : Later faults size (failed_calls Source steps) start.source now.source
+    pub dest : Later faults size (failed_calls Dest steps) start.dest now.dest
     pub room : first_small (size_in size start.source) (size_in size start.dest) done ≡ None
     pub stands : Waits told m read faults size done steps start now taken now_taken ⊎ Moves told m read faults size done steps start now taken now_taken

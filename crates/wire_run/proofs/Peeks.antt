@@ -1,5 +1,5 @@
 -- Bytes of a file are shown: a small step in which nobody acts.
-use Rattle.std.proofs.Common.{◌≡◌, ℕ, ◌<◌, Bool, false, List, [], ◌∷◌, ◌++◌, length, take, drop, Some, refl, sym, ap, ◌∙◌, subst, arith}
+use Rattle.std.proofs.Common.{◌≡◌, ℕ, ◌+◌, ◌<◌, ◌≤◌, Bool, false, List, [], ◌∷◌, ◌++◌, length, take, drop, Some, refl, sym, ap, ◌∙◌, subst, arith}
 use Rattle.std.proofs.lemmas.List.{append-nil, drop_all, take_all}
 use Rattle.client_core.specs.State.{ClientState}
 use Rattle.copy_model.specs.Volume.{Volume, bytes_at, file_at}
@@ -15,7 +15,7 @@ use Rattle.wire_machine.specs.World.{Posted, all_idle, bytes_of}
 use Rattle.wire_machine.specs.declared.choice.Choice.TheVariants.{Went}
 use Rattle.dest_core.specs.Stepping.{DestState}
 use Rattle.wire_run.specs.Ends.{SourceState, Words, machines}
-use Rattle.wire_run.specs.Running.{Later, peek_failed}
+use Rattle.wire_run.specs.Running.{Later, is_failed, peek_failed}
 use Rattle.wire_run.specs.Stage.{DestPeeks, HasFileAt, IsReady, PeekIs, Peeks, SettleKeeps, SmallDone, SmallKeeps, SourcePeeks, VolumeStays, bit, bytes_lines, choice_by, dest_files, has_failed, source_files, world_at}
 use Rattle.wire_run.specs.declared.ends.DestEnd.{DestEnd}
 use Rattle.wire_run.specs.declared.ends.SourceEnd.{SourceEnd}
@@ -24,24 +24,27 @@ use Rattle.wire_run.specs.declared.system.Peeked.{Peeked}
 use Rattle.wire_run.specs.declared.system.Peeked.TheVariants as peeks
 use Rattle.wire_run.proofs.Comings.{later_none, one_more, same_world, size_right, world}
 use Rattle.wire_run.proofs.Keeping.{dest_still, dest_there, one_dest, one_source, same_dest, same_source, small_keeps, source_still, source_there}
+use Rattle.wire_run.proofs.Later.{blamed_one}
 use Rattle.wire_run.proofs.Lone.{rest_log}
 use Rattle.wire_schedule.specs.declared.event.Event.TheVariants as kinds
 
 -- ---- the line that is put is that of the bytes as they are
 
-shown_is : (v : Volume) (side : Side) (file off len : ℕ) (zeros bytes : List ℕ) (answer : Peeked) → length zeros ≡ len → PeekIs v file off zeros bytes answer
+shown_is : (told : Type 0) → told → (v : Volume) (side : Side) (file off len : ℕ) (zeros bytes : List ℕ) (answer : Peeked) → length zeros ≡ len
+    → PeekIs told v file off zeros bytes answer → file < length v.files
     → bytes_lines answer side file off bytes ≡ shown v (choice_by (has_failed answer)) side file off len v.broken
-shown_is v side file off len zeros bytes peeks.Shown long is =
-    let got : bytes ≡ bytes_at (file_at v file).now off len = is.bytes refl ∙ ap (λ (n : ℕ). bytes_at (file_at v file).now off n) long in
+shown_is told t v side file off len zeros bytes peeks.Shown long is there =
+    let got : bytes ≡ bytes_at (file_at v file).now off len = is.bytes t refl ∙ ap (λ (n : ℕ). bytes_at (file_at v file).now off n) long in
     ap (λ (b : List ℕ). bytes_lines peeks.Shown side file off b) got ∙ sym (ap (λ (b : Bool). shown v Went side file off len b) (is.whole refl))
-shown_is v side file off len zeros bytes peeks.Refused long is = sym (ap (λ (b : Bool). shown v Went side file off len b) (is.broken refl))
-shown_is v side file off len zeros bytes peeks.Failed long is = refl
+shown_is told t v side file off len zeros bytes peeks.Refused long is there = sym (ap (λ (b : Bool). shown v Went side file off len b) (is.broken refl there))
+shown_is told t v side file off len zeros bytes peeks.Failed long is there = refl
 
-lines_shown : (v : Volume) (side : Side) (file off len : ℕ) (zeros bytes text_old text_new : List ℕ) (answer : Peeked) → length zeros ≡ len → PeekIs v file off zeros bytes answer
+lines_shown : (told : Type 0) → told → (v : Volume) (side : Side) (file off len : ℕ) (zeros bytes text_old text_new : List ℕ) (answer : Peeked) → length zeros ≡ len
+    → PeekIs told v file off zeros bytes answer → file < length v.files
     → text_new ≡ text_old ++ lines_text (bytes_lines answer side file off bytes)
     → text_new ≡ text_old ++ lines_text (shown v (choice_by (has_failed answer)) side file off len v.broken ++ [])
-lines_shown v side file off len zeros bytes text_old text_new answer long is put =
-    put ∙ ap (λ (ls : List Line). text_old ++ lines_text ls) (shown_is v side file off len zeros bytes answer long is ∙ sym (append-nil _))
+lines_shown told t v side file off len zeros bytes text_old text_new answer long is there put =
+    put ∙ ap (λ (ls : List Line). text_old ++ lines_text ls) (shown_is told t v side file off len zeros bytes answer long is there ∙ sym (append-nil _))
 
 -- the bytes that a buffer holds that was filled whole
 pub filled : (zeros items out : List ℕ) (len : ℕ) → zeros ≡ items → length out ≡ length zeros → length zeros ≡ len → take len (out ++ drop (length out) items) ≡ out
@@ -70,6 +73,19 @@ not_there : (answer : Peeked) (file off len : ℕ) → peek_failed Dest (kinds.P
 not_there peeks.Shown file off len = refl
 not_there peeks.Refused file off len = refl
 not_there peeks.Failed file off len = refl
+
+-- a failed peek is one at its server
+blamed_here : (answer : Peeked) (file off len : ℕ) → bit (is_failed (choice_by (has_failed answer)))
+    ≤ bit (peek_failed Source (kinds.Peek Source file off len) (choice_by (has_failed answer))) + bit (peek_failed Dest (kinds.Peek Source file off len) (choice_by (has_failed answer)))
+blamed_here peeks.Shown file off len = omega arith
+blamed_here peeks.Refused file off len = omega arith
+blamed_here peeks.Failed file off len = omega arith
+
+blamed_there : (answer : Peeked) (file off len : ℕ) → bit (is_failed (choice_by (has_failed answer)))
+    ≤ bit (peek_failed Source (kinds.Peek Dest file off len) (choice_by (has_failed answer))) + bit (peek_failed Dest (kinds.Peek Dest file off len) (choice_by (has_failed answer)))
+blamed_there peeks.Shown file off len = omega arith
+blamed_there peeks.Refused file off len = omega arith
+blamed_there peeks.Failed file off len = omega arith
 
 later_bit : {D : Type 0} (faults size : D → ℕ) (a b : Bool) (d e : D) → a ≡ b → Later faults size (bit b) (Some d) (Some e) → Later faults size (bit a) (Some d) (Some e)
 later_bit faults size a b d e same l = subst (λ (x : Bool). Later faults size (bit x) (Some d) (Some e)) (sym same) l
@@ -118,11 +134,13 @@ module _ {D M : Type 0} (told : Type 0) (words : Words M ℕ) (read : Reading) (
           choice = tt;
         };
         right = λ t. size_right new.log k.bytes;
-        lines = λ t. lines_shown p.was.server.files.volume.volume Source file off len zeros bytes text_old text_new answer long
-            (p.is t (subst (λ (e : SourceEnd D M). file < source_files e) p.was_is (has.there t))) put;
+        lines = λ t. lines_shown told t p.was.server.files.volume.volume Source file off len zeros bytes text_old text_new answer long
+            p.is (subst (λ (e : SourceEnd D M). file < source_files e) p.was_is (has.there t)) put;
         choices = choices;
-        source_later = λ t. later_bit faults size _ (has_failed answer) _ _ (peeked_here answer file off len) (p.later t);
-        dest_later = λ t. later_bit faults size _ false _ _ (not_there answer file off len) (later_none faults size _);
+        blamed = blamed_one (record { event = kinds.Peek Source file off len; choice = choice_by (has_failed answer); parts = all_idle; after = world_at size p.next d.core new })
+            (blamed_here answer file off len);
+        source_later = later_bit faults size _ (has_failed answer) _ _ (peeked_here answer file off len) p.later;
+        dest_later = later_bit faults size _ false _ _ (not_there answer file off len) (later_none faults size _);
       }
 
   pub dest_shown : (file off len : ℕ) (old new : Stage D M) (dest : DestEnd D M) (zeros bytes text_old text_new : List ℕ) (answer : Peeked) → IsReady old → HasFileAt told Dest file old
@@ -153,11 +171,13 @@ module _ {D M : Type 0} (told : Type 0) (words : Words M ℕ) (read : Reading) (
           choice = tt;
         };
         right = λ t. size_right new.log k.bytes;
-        lines = λ t. lines_shown p.was.server.files.volume.volume Dest file off len zeros bytes text_old text_new answer long
-            (p.is t (subst (λ (e : DestEnd D M). file < dest_files e) p.was_is (has.there t))) put;
+        lines = λ t. lines_shown told t p.was.server.files.volume.volume Dest file off len zeros bytes text_old text_new answer long
+            p.is (subst (λ (e : DestEnd D M). file < dest_files e) p.was_is (has.there t)) put;
         choices = choices;
-        source_later = λ t. later_bit faults size _ false _ _ (not_here answer file off len) (later_none faults size _);
-        dest_later = λ t. later_bit faults size _ (has_failed answer) _ _ (peeked_there answer file off len) (p.later t);
+        blamed = blamed_one (record { event = kinds.Peek Dest file off len; choice = choice_by (has_failed answer); parts = all_idle; after = world_at size s.core p.next new })
+            (blamed_there answer file off len);
+        source_later = later_bit faults size _ false _ _ (not_here answer file off len) (later_none faults size _);
+        dest_later = later_bit faults size _ (has_failed answer) _ _ (peeked_there answer file off len) p.later;
       }
 
   -- ---- what a peek keeps

@@ -1,5 +1,6 @@
 -- What a peek shows and leaves, by what contracts see of a system.
-use Rattle.std.proofs.Common.{◌≡◌, ◌⊎◌, inl, inr, ℕ, ◌<◌, Bool, true, false, List, length, Option, Some, refl, sym, ap, ◌∙◌, subst, arith}
+use Rattle.std.proofs.Common.{◌≡◌, ◌⊎◌, inl, inr, ℕ, ◌<◌, ◌≤◌, Bool, true, false, List, length, Option, Some, refl, sym, ap, ◌∙◌, subst, arith}
+use Rattle.std.proofs.lemmas.Bool.{cases_lt}
 use Rattle.std.specs.Option.{option_map_or}
 use Rattle.std.specs.Prelude.{IfSome, is_some}
 use Rattle.copy_model.specs.Volume.{Volume, bytes_at, file_at}
@@ -22,16 +23,32 @@ use Rattle.wire_schedule.specs.declared.context.Context.{Context}
 -- What is said of a peek.
 pub record Says {D M : Type 0} (told : Type 0) (faults size : D → ℕ) (side : Side) (file off : ℕ) (old new : Running D M) (bytes_old bytes_new : List ℕ) (answer : Peeked) : Type 0 where
   pub shown : told → is_shown answer ≡ true → IsShown old side file off bytes_new (length bytes_old)
-  pub unread : told → is_shown answer ≡ false → IsUnread faults old new side
-  pub broken : told → is_broken old side ≡ true → is_shown answer ≡ false
+  pub unread : is_shown answer ≡ false → IsUnread told faults old new side file
+  pub broken : is_broken old side ≡ true → is_shown answer ≡ false
   pub still : told → new ≡ with_disk side (disk_of new side) old
-  pub later : told → Later faults size 0 (disk_of old side) (disk_of new side)
+  pub later : Later faults size 0 (disk_of old side) (disk_of new side)
   pub disks : HasDisks old → HasDisks new
 
-unread_by : (A B : Type 0) (answer : Peeked) → is_shown answer ≡ false → (answer ≡ peeks.Refused → A) → (answer ≡ peeks.Failed → B) → A ⊎ B
-unread_by A B peeks.Shown never refused failed = absurd (cc)
-unread_by A B peeks.Refused never refused failed = inl (refused refl)
-unread_by A B peeks.Failed never refused failed = inr (failed refl)
+unread_by : (A B C : Type 0) (answer : Peeked) → is_shown answer ≡ false → (answer ≡ peeks.Refused → A ⊎ C) → (answer ≡ peeks.Failed → B) → A ⊎ (B ⊎ C)
+unread_by A B C peeks.Shown never refused failed = absurd (cc)
+unread_by A B C peeks.Refused never refused failed = by_cause (refused refl)
+  where
+    by_cause : A ⊎ C → A ⊎ (B ⊎ C)
+    by_cause (inl a) = inl a
+    by_cause (inr c) = inr (inr c)
+unread_by A B C peeks.Failed never refused failed = inr (inl (failed refl))
+
+-- a file that isn't there, at a disk that tells, is one more than there are
+refused_by : (told : Type 0) (v : Volume) (file off : ℕ) (old new : List ℕ) (answer : Peeked) → PeekIs told v file off old new answer → (told → file < length v.files)
+    → answer ≡ peeks.Refused → (v.broken ≡ true) ⊎ ((length v.files ≤ file) × (told → ⊥))
+refused_by told v file off old new answer is there refused =
+    elim (cases_lt file (length v.files)) [
+    inl held ↦ inl (is.broken refused held)
+    | inr past ↦ inr (past, λ t. none_past file (length v.files) past (there t))
+    ]
+  where
+    none_past : (file files : ℕ) → files ≤ file → file < files → ⊥
+    none_past file files past held = omega (arith, past, held)
 
 shown_is : (answer : Peeked) → is_shown answer ≡ true → answer ≡ peeks.Shown
 shown_is peeks.Shown shown = refl
@@ -54,8 +71,15 @@ rose_failed faults size old new answer failed l = subst (λ a. RoseBy (bit (has_
 
 -- ---- a peek at either server
 
-not_shown : (v : Volume) (file off : ℕ) (old new : List ℕ) (answer : Peeked) → PeekIs v file off old new answer → v.broken ≡ true → is_shown answer ≡ false
-not_shown v file off old new answer is broken = ap is_shown (is.refused broken)
+-- the same of what is seen of the volume
+unread_as : (told : Type 0) (v : Volume) (file : ℕ) (broken : Bool) (o : Option Volume) → broken ≡ v.broken → o ≡ Some v
+    → (v.broken ≡ true) ⊎ ((length v.files ≤ file) × (told → ⊥)) → (broken ≡ true) ⊎ (IfSome o (λ v. length v.files ≤ file) × (told → ⊥))
+unread_as told v file broken o is seen (inl b) = inl (is ∙ b)
+unread_as told v file broken o is seen (inr past) = inr (subst (λ (x : Option Volume). IfSome x (λ v. length v.files ≤ file)) (sym seen) past.0, past.1)
+
+not_shown : (told : Type 0) (v : Volume) (file off : ℕ) (old new : List ℕ) (answer : Peeked) → PeekIs told v file off old new answer → v.broken ≡ true
+    → is_shown answer ≡ false
+not_shown told v file off old new answer is broken = ap is_shown (is.refused broken)
 
 module _ {D M : Type 0} (told : Type 0) (faults size : D → ℕ) (file off : ℕ) (bytes_old bytes_new : List ℕ) (answer : Peeked) where
   -- a system whose servers' disks and states are these
@@ -73,18 +97,20 @@ module _ {D M : Type 0} (told : Type 0) (faults size : D → ℕ) (file off : �
       let broken : is_broken (running_of size context s) Source ≡ v.broken = ap (λ (o : Option Volume). option_map_or (λ v. v.broken) o false) seen in
       let was : source_disk s.source ≡ Some p.was.server.files.volume.disk = ap (λ (e : SourceEnd D M). source_disk e) p.was_is in
       let now : source_disk new.source ≡ Some p.next.server.files.volume.disk = ap (λ (e : SourceEnd D M). source_disk e) p.next_is in
-      let is : told → PeekIs v file off bytes_old bytes_new answer = λ t. p.is t (subst (λ (e : SourceEnd D M). file < source_files e) p.was_is (has.there t)) in
-      let later : told → Later faults size (bit (has_failed answer)) (source_disk s.source) (source_disk new.source) = λ t. later_at faults size _ _ _ _ _ was now (p.later t) in
+      let is : PeekIs told v file off bytes_old bytes_new answer = p.is in
+      let there : told → file < length v.files = λ t. subst (λ (e : SourceEnd D M). file < source_files e) p.was_is (has.there t) in
+      let later : Later faults size (bit (has_failed answer)) (source_disk s.source) (source_disk new.source) = later_at faults size _ _ _ _ _ was now p.later in
       record {
-        shown = λ t shown. subst (λ (o : Option Volume). IfSome o (λ v. bytes_new ≡ bytes_at (file_at v file).now off (length bytes_old))) (sym seen) ((is t).bytes (shown_is answer shown));
-        unread = λ t never. unread_by _ _ answer never (λ refused. broken ∙ (is t).broken refused)
-            (λ failed. rose_failed faults size (source_disk s.source) (source_disk new.source) answer failed (later t));
-        broken = λ t b. not_shown v file off bytes_old bytes_new answer (is t) (sym broken ∙ b);
+        shown = λ t shown. subst (λ (o : Option Volume). IfSome o (λ v. bytes_new ≡ bytes_at (file_at v file).now off (length bytes_old))) (sym seen) (is.bytes t (shown_is answer shown));
+        unread = λ never. unread_by _ _ _ answer never
+            (λ refused. unread_as told v file (is_broken (running_of size context s) Source) _ broken seen (refused_by told v file off bytes_old bytes_new answer is there refused))
+            (λ failed. rose_failed faults size (source_disk s.source) (source_disk new.source) answer failed later);
+        broken = λ b. not_shown told v file off bytes_old bytes_new answer is (sym broken ∙ b);
         still = λ t.
             ap (λ (x : Stage D M). running_of size context x) q.rest
             ∙ ap (λ (st : Option (SourceState M)). seen_as context s (source_disk new.source) (dest_disk s.dest) st (dest_state size s.dest))
             (ap (λ (e : SourceEnd D M). source_state size e) p.next_is ∙ ap (λ (x : SourceState M). Some x) (p.same t) ∙ sym (ap (λ (e : SourceEnd D M). source_state size e) p.was_is));
-        later = λ t. later_none faults size _ _ _ (later t);
+        later = later_none faults size _ _ _ later;
         disks = λ there. record { source_there = ap (λ (o : Option D). is_some o) now; dest_there = ap (λ (x : Stage D M). is_some (dest_disk x.dest)) q.rest ∙ there.dest_there };
       }
 
@@ -98,18 +124,20 @@ module _ {D M : Type 0} (told : Type 0) (faults size : D → ℕ) (file off : �
       let broken : is_broken (running_of size context s) Dest ≡ v.broken = ap (λ (o : Option Volume). option_map_or (λ v. v.broken) o false) seen in
       let was : dest_disk s.dest ≡ Some p.was.server.files.volume.disk = ap (λ (e : DestEnd D M). dest_disk e) p.was_is in
       let now : dest_disk new.dest ≡ Some p.next.server.files.volume.disk = ap (λ (e : DestEnd D M). dest_disk e) p.next_is in
-      let is : told → PeekIs v file off bytes_old bytes_new answer = λ t. p.is t (subst (λ (e : DestEnd D M). file < dest_files e) p.was_is (has.there t)) in
-      let later : told → Later faults size (bit (has_failed answer)) (dest_disk s.dest) (dest_disk new.dest) = λ t. later_at faults size _ _ _ _ _ was now (p.later t) in
+      let is : PeekIs told v file off bytes_old bytes_new answer = p.is in
+      let there : told → file < length v.files = λ t. subst (λ (e : DestEnd D M). file < dest_files e) p.was_is (has.there t) in
+      let later : Later faults size (bit (has_failed answer)) (dest_disk s.dest) (dest_disk new.dest) = later_at faults size _ _ _ _ _ was now p.later in
       record {
-        shown = λ t shown. subst (λ (o : Option Volume). IfSome o (λ v. bytes_new ≡ bytes_at (file_at v file).now off (length bytes_old))) (sym seen) ((is t).bytes (shown_is answer shown));
-        unread = λ t never. unread_by _ _ answer never (λ refused. broken ∙ (is t).broken refused)
-            (λ failed. rose_failed faults size (dest_disk s.dest) (dest_disk new.dest) answer failed (later t));
-        broken = λ t b. not_shown v file off bytes_old bytes_new answer (is t) (sym broken ∙ b);
+        shown = λ t shown. subst (λ (o : Option Volume). IfSome o (λ v. bytes_new ≡ bytes_at (file_at v file).now off (length bytes_old))) (sym seen) (is.bytes t (shown_is answer shown));
+        unread = λ never. unread_by _ _ _ answer never
+            (λ refused. unread_as told v file (is_broken (running_of size context s) Dest) _ broken seen (refused_by told v file off bytes_old bytes_new answer is there refused))
+            (λ failed. rose_failed faults size (dest_disk s.dest) (dest_disk new.dest) answer failed later);
+        broken = λ b. not_shown told v file off bytes_old bytes_new answer is (sym broken ∙ b);
         still = λ t.
             ap (λ (x : Stage D M). running_of size context x) q.rest
             ∙ ap (λ (st : Option (DestState M)). seen_as context s (source_disk s.source) (dest_disk new.dest) (source_state size s.source) st)
             (ap (λ (e : DestEnd D M). dest_state size e) p.next_is ∙ ap (λ (x : DestState M). Some x) (p.same t) ∙ sym (ap (λ (e : DestEnd D M). dest_state size e) p.was_is));
-        later = λ t. later_none faults size _ _ _ (later t);
+        later = later_none faults size _ _ _ later;
         disks = λ there. record { source_there = ap (λ (x : Stage D M). is_some (source_disk x.source)) q.rest ∙ there.source_there; dest_there = ap (λ (o : Option D). is_some o) now };
       }
 

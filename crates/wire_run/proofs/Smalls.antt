@@ -12,7 +12,7 @@ use Rattle.wire_machine.specs.Ends.{ClientAct}
 use Rattle.wire_machine.specs.Lines.{notes_of, own_lines, records_of, unsent}
 use Rattle.wire_machine.specs.Runs as runs
 use Rattle.wire_machine.specs.Runs.{fault_by, fault_of}
-use Rattle.wire_machine.specs.Steps.{Arrives, ClientDoes, IsChoice, IsDelivered, IsSmall, choice_of, command_of}
+use Rattle.wire_machine.specs.Steps.{Arrives, ClientDoes, IsChoice, IsDelivered, IsSmall, any_failed, choice_of, command_of}
 use Rattle.wire_machine.specs.World.{Parts, Posted, bytes_of, marked, posted_at}
 use Rattle.wire_machine.specs.declared.choice.Choice.{Choice}
 use Rattle.wire_machine.specs.declared.mistake.Mistake.{Mistake}
@@ -20,6 +20,7 @@ use Rattle.wire_machine.specs.declared.port.Port.{Port}
 use Rattle.wire_run.specs.Running.{Later, RunMachines, RunStep, RunWorld, either, peek_failed}
 use Rattle.wire_run.specs.Stage.{Comes, HandsOver, SmallIs, bit, marked_at, world_at}
 use Rattle.wire_run.specs.declared.stage.Stage.{Stage}
+use Rattle.wire_run.proofs.Later.{bits_either, blamed_one}
 use Rattle.wire_run.proofs.Logs.{got_marked, length_marked, mistake_in_marked}
 use Rattle.wire_schedule.specs.declared.event.Event.{Event}
 use Rattle.wire_schedule.specs.declared.event.Event.TheVariants as kinds
@@ -80,8 +81,11 @@ module _ {D M : Type 0} (told : Type 0) (m : RunMachines M) (read : Reading) (fa
     right = c.right;
     lines = λ t. c.lines ∙ ap (λ (ls : List Line). text_old ++ lines_text (ls ++ (notes_of c.parts ++ records_of (length old.log) c.parts))) (sym (quiet.lines (world_at size c.source c.dest old) (choice_of c.parts)));
     choices = c.choices;
-    source_later = λ t. later_as faults size _ _ _ _ (quiet.no_peek Source (choice_of c.parts)) (c.source_later t);
-    dest_later = λ t. later_as faults size _ _ _ _ (quiet.no_peek Dest (choice_of c.parts)) (c.dest_later t);
+    blamed = blamed_one (step_made event c.parts (world_at size c.source_next c.dest_next new))
+        (bits_either (any_failed c.parts.source.out.used) (any_failed c.parts.dest.out.used)
+        (peek_failed Source event (choice_of c.parts)) (peek_failed Dest event (choice_of c.parts)));
+    source_later = later_as faults size _ _ _ _ (quiet.no_peek Source (choice_of c.parts)) c.source_later;
+    dest_later = later_as faults size _ _ _ _ (quiet.no_peek Dest (choice_of c.parts)) c.dest_later;
   }
   small_from event R fits quiet old new text_old text_new (Some fault) c = record {
     source = c.source;
@@ -183,8 +187,10 @@ module _ {D M : Type 0} (told : Type 0) (m : RunMachines M) (read : Reading) (fa
         lines = λ t. c.lines ∙ ap (λ (n : ℕ). text_old ++ lines_text (notes_of c.parts ++ records_of n c.parts)) (length_marked number old.log)
             ∙ ap (λ (ls : List Line). text_old ++ lines_text (ls ++ (notes_of c.parts ++ records_of (length old.log) c.parts))) (sym (ap (unsent number) is));
         choices = c.choices;
-        source_later = λ t. later_as faults size _ _ _ _ refl (c.source_later t);
-        dest_later = λ t. later_as faults size _ _ _ _ refl (c.dest_later t);
+        blamed = blamed_one (step_made (kinds.Deliver number) c.parts (world_at size c.source_next c.dest_next new))
+            (bits_either (any_failed c.parts.source.out.used) (any_failed c.parts.dest.out.used) false false);
+        source_later = later_as faults size _ _ _ _ refl c.source_later;
+        dest_later = later_as faults size _ _ _ _ refl c.dest_later;
       }
   deliver_small number r old new text_old text_new (Some fault) is c = record {
     source = c.source;

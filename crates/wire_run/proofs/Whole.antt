@@ -11,7 +11,7 @@ use Rattle.wire_run.specs.declared.run.Ran.{Ran}
 use Rattle.wire_run.specs.declared.run.Ran.TheVariants as ran
 use Rattle.wire_run.proofs.Ending.{ReadsVolumes, failed_last, whole}
 use Rattle.wire_run.proofs.Final.{Ended, rose_later}
-use Rattle.wire_run.proofs.Later.{later_same}
+use Rattle.wire_run.proofs.Later.{blamed_none, later_same}
 use Rattle.wire_run.proofs.Middle.{InRun}
 use Rattle.wire_run.proofs.Tracing.{cut_in, ends_in, events_at, events_of_entries, faults_along, through}
 use Rattle.wire_schedule.specs.Admission.{at_start, is_ready}
@@ -33,8 +33,9 @@ module _ {D M : Type 0} (told : Type 0) (m : RunMachines M) (read : Reading) (fa
   begins start taken is = record {
     steps = [];
     choices = ap (λ (r : Running D M). r.choices) is;
-    source = λ t. later_same faults size start.source;
-    dest = λ t. later_same faults size start.dest;
+    blamed = blamed_none M;
+    source = later_same faults size start.source;
+    dest = later_same faults size start.dest;
     room = refl;
     stands = inl (record {
       none = refl;

@@ -1,5 +1,5 @@
 -- The run of a schedule from its beginning, and what is put of it. Own definitions.
-use Rattle.std.specs.Prelude.{◌≡◌, ◌⊎◌, ℕ, Bool, true, List, [], ◌∷◌, ◌++◌, length, take, map, Option, Some, None, is_some}
+use Rattle.std.specs.Prelude.{◌≡◌, ◌⊎◌, ◌≤◌, ◌+◌, ℕ, Bool, true, List, [], ◌∷◌, ◌++◌, length, take, map, Option, Some, None, is_some}
 use Rattle.std.specs.Io.KnownBytes.{Appends, Keeps}
 use Rattle.outcome.specs.Causes.{Rose}
 use Rattle.wire_lines.specs.LineText.{lines_text}
@@ -19,7 +19,7 @@ use Rattle.wire_machine.specs.Check.{Reading}
 use Rattle.wire_machine.specs.Runs.{End, MistakenBy, Numbered, Runs, TooLargeAt, Whole, last_line}
 use Rattle.wire_machine.specs.declared.choice.Choice.{Choice}
 use Rattle.wire_run.specs.Fresh.{IsFreshDest, IsFreshSource, Shape, Small, event_small}
-use Rattle.wire_run.specs.Running.{Later, RunMachines, RunStep, RunWorld, Running, disk_of, failed_calls, faults_in, size_in}
+use Rattle.wire_run.specs.Running.{Later, RunMachines, RunStep, RunWorld, Running, disk_of, failed_calls, failed_steps, faults_in, size_in}
 use Rattle.wire_run.specs.Setting.{dest_place, source_place, user}
 use Rattle.wire_run.specs.System.{shown_at}
 use Rattle.wire_schedule.specs.declared.event.Event.{Event}
@@ -138,15 +138,17 @@ RanHasCause faults old new before now (ran.Unmade unmade.DiskFailed) =
     Rose (faults_in faults old.source) (faults_in faults new.source) ⊎ Rose (faults_in faults old.dest) (faults_in faults new.dest)
 RanHasCause faults old new before now result = Unit {0}
 
--- How a run ended, with its own choices.
+-- How a run ended, with its own choices. Of any disks, each small step in which a call failed is one at a disk, and as often as a call
+-- failed at a disk its count of faults rose.
 pub record RanIs {D M : Type 0} (told : Type 0) (m : RunMachines M) (read : Reading) (faults size : D → ℕ) (mech : M) (events : List Numbered) (old new : Running D M)
     (taken now_taken : Option (List ℕ)) (result : Ran) : Type 0 where
   pub did : Did
   pub last : Volumes
   pub holds : told → result ≡ ran.Whole → (side : Side) → asks_for side events ≡ true → shown_at new.source_state new.dest_state side ≡ Some (volume_in last side)
   pub choices : new.choices ≡ did.choices
-  pub source : told → Later faults size (did.failed Source) old.source new.source
-  pub dest : told → Later faults size (did.failed Dest) old.dest new.dest
+  pub blamed : failed_steps did.choices ≤ did.failed Source + did.failed Dest
+  pub source : Later faults size (did.failed Source) old.source new.source
+  pub dest : Later faults size (did.failed Dest) old.dest new.dest
   pub puts : RanPuts told m read mech (first_small (size_in size old.source) (size_in size old.dest) events) events did last old new taken now_taken result
 
 -- Memory ran out in a run: a front of what is due was put.

@@ -1,5 +1,5 @@
 -- What contracts see of a system that runs a schedule, and what one event leaves of it.
-use Rattle.std.specs.Prelude.{◌≡◌, ◌⊎◌, ℕ, Bool, true, false, List, [], ◌++◌, length, map, count_by, Option, Some, None, is_some}
+use Rattle.std.specs.Prelude.{◌≡◌, ◌⊎◌, ◌≤◌, ◌+◌, ℕ, Bool, true, false, List, [], ◌++◌, length, map, count_by, Option, Some, None, is_some}
 use Rattle.std.specs.String.{string_bytes}
 use Rattle.client_core.specs.State.{ClientState, new_client}
 use Rattle.nfs_base.specs.declared.side.Side.{Side}
@@ -125,6 +125,18 @@ has_failed_at side s = either (failed_at side s) (peek_failed side s.event s.cho
 abbrev pub failed_calls : {M : Type 0} → Side → List (RunStep M) → ℕ
 failed_calls {M} side steps = count_by (λ (s : RunStep M). has_failed_at side s) steps
 
+-- in how many small steps a call failed
+abbrev pub is_failed : Choice → Bool
+is_failed Failed = true
+is_failed choice = false
+
+abbrev pub failed_steps : List Choice → ℕ
+failed_steps choices = count_by (λ (choice : Choice). is_failed choice) choices
+
+-- each small step in which a call failed is one at a server's disk
+abbrev pub AreBlamed : {M : Type 0} → List (RunStep M) → Type 0
+AreBlamed {M} steps = failed_steps (map (λ (s : RunStep M). s.choice) steps) ≤ failed_calls Source steps + failed_calls Dest steps
+
 -- a disk that was there is there, as large, and its count of faults rose by at least so many
 abbrev pub faults_in : {D : Type 0} → (D → ℕ) → Option D → ℕ
 faults_in faults None = 0
@@ -160,8 +172,8 @@ MakesNone (stepped.Unmade cause) = ⊥
 MakesNone result = Unit {0}
 
 -- An event of two servers that are there was carried out, up to its end or to a fault: these small steps were done. They are
--- those of the machines, have these lines, and raise the counts of faults by these, where the disks tell what they hold. After a
--- fault nothing is said of the world.
+-- those of the machines and have these lines, where the disks tell what they hold. Of any disks, each in which a call failed is one at
+-- a disk, and as often as a call failed at a disk its count of faults rose. After a fault nothing is said of the world.
 pub record IsCarriedOut {D M : Type 0} (told : Type 0) (m : RunMachines M) (read : Reading) (faults size : D → ℕ) (old new : Running D M) (before : RunWorld M)
     (event : Event) (result : Stepped) : Type 0 where
   pub made : MakesNone result
@@ -170,8 +182,9 @@ pub record IsCarriedOut {D M : Type 0} (told : Type 0) (m : RunMachines M) (read
   pub world : fault_in result ≡ None → world_in new ≡ Some (after_steps before steps)
   pub lines : told → text_in result ≡ lines_text (lines_of m before steps)
   pub choices : new.choices ≡ old.choices ++ map (λ (s : RunStep M). s.choice) steps
-  pub source_later : told → Later faults size (failed_calls Source steps) old.source new.source
-  pub dest_later : told → Later faults size (failed_calls Dest steps) old.dest new.dest
+  pub blamed : AreBlamed steps
+  pub source_later : Later faults size (failed_calls Source steps) old.source new.source
+  pub dest_later : Later faults size (failed_calls Dest steps) old.dest new.dest
 
 -- ---- an event that makes a server
 

@@ -40,7 +40,7 @@ use Rattle.wire_machine.specs.declared.choice.Choice.TheVariants.{Went, Failed}
 use Rattle.wire_machine.specs.declared.mistake.Mistake.{Mistake}
 use Rattle.wire_run.specs.Commanding.{CanBegin}
 use Rattle.wire_run.specs.Ends.{is_worker}
-use Rattle.wire_run.specs.Running.{Later, RunMachines, RunStep, RunWorld, failed_calls, has_failed_at, world_of}
+use Rattle.wire_run.specs.Running.{AreBlamed, Later, RunMachines, RunStep, RunWorld, failed_calls, has_failed_at, world_of}
 use Rattle.wire_run.specs.declared.ends.DestEnd.{DestEnd}
 use Rattle.wire_run.specs.declared.ends.DestEnd.TheVariants as dest_end
 use Rattle.wire_run.specs.declared.ends.SourceEnd.{SourceEnd}
@@ -141,7 +141,7 @@ pub record SourceActs {D M : Type 0} (told : Type 0) (m : RunMachines M) (faults
   pub stays : told → VolumeStays was.server.files.volume next.server.files.volume
   pub acts : told → m.source act now (host_of size was) before (host_of size next) after out
   pub counted : next.steps ≤ was.steps + 1
-  pub later : told → Later faults size (bit (any_failed out.used)) (Some was.server.files.volume.disk) (Some next.server.files.volume.disk)
+  pub later : Later faults size (bit (any_failed out.used)) (Some was.server.files.volume.disk) (Some next.server.files.volume.disk)
 
 pub record DestActs {D M : Type 0} (told : Type 0) (m : RunMachines M) (faults size : D → ℕ) (act : DestAct) (now : ℕ)
     (old : DestEnd D M) (before : ℕ) (new : DestEnd D M) (after : ℕ) (out : Outbox) : Type 0 where
@@ -152,7 +152,7 @@ pub record DestActs {D M : Type 0} (told : Type 0) (m : RunMachines M) (faults s
   pub stays : told → VolumeStays was.server.files.volume next.server.files.volume
   pub acts : told → m.dest act now (host_of size was) before (host_of size next) after out
   pub counted : next.steps ≤ was.steps + 1
-  pub later : told → Later faults size (bit (any_failed out.used)) (Some was.server.files.volume.disk) (Some next.server.files.volume.disk)
+  pub later : Later faults size (bit (any_failed out.used)) (Some was.server.files.volume.disk) (Some next.server.files.volume.disk)
 
 -- ---- an act of the client: it is one step, and begins no copy but by its command
 
@@ -174,13 +174,13 @@ pub record ClientActs {M : Type 0} (m : RunMachines M) (act : ClientAct) (now : 
   pub setting : new.setting ≡ old.setting
   pub begun : BeginsOnly (begun_by act) old new
 
--- ---- a peek: what it answers, where the disk tells what it holds and the file is there
+-- ---- a peek: what it answers. A file that isn't there is refused too. The bytes are right where the disk tells what it holds.
 
-pub record PeekIs (v : Volume) (file off : ℕ) (old new : List ℕ) (answer : Peeked) : Type 0 where
-  pub broken : answer ≡ peeks.Refused → v.broken ≡ true
+pub record PeekIs (told : Type 0) (v : Volume) (file off : ℕ) (old new : List ℕ) (answer : Peeked) : Type 0 where
+  pub broken : answer ≡ peeks.Refused → file < length v.files → v.broken ≡ true
   pub refused : v.broken ≡ true → answer ≡ peeks.Refused
   pub whole : answer ≡ peeks.Shown → v.broken ≡ false
-  pub bytes : answer ≡ peeks.Shown → new ≡ bytes_at (file_at v file).now off (length old)
+  pub bytes : told → answer ≡ peeks.Shown → new ≡ bytes_at (file_at v file).now off (length old)
 
 abbrev pub is_shown : Peeked → Bool
 is_shown peeks.Shown = true
@@ -202,8 +202,8 @@ pub record SourcePeeks {D M : Type 0} (told : Type 0) (faults size : D → ℕ) 
   pub next_is : new ≡ source_end.Open next
   pub same : told → host_of size next ≡ host_of size was
   pub counted : next.steps ≡ was.steps
-  pub is : told → file < length was.server.files.volume.volume.files → PeekIs was.server.files.volume.volume file off out_old out_new answer
-  pub later : told → Later faults size (bit (has_failed answer)) (Some was.server.files.volume.disk) (Some next.server.files.volume.disk)
+  pub is : PeekIs told was.server.files.volume.volume file off out_old out_new answer
+  pub later : Later faults size (bit (has_failed answer)) (Some was.server.files.volume.disk) (Some next.server.files.volume.disk)
 
 pub record DestPeeks {D M : Type 0} (told : Type 0) (faults size : D → ℕ) (file off : ℕ) (old new : DestEnd D M) (out_old out_new : List ℕ) (answer : Peeked) : Type 0 where
   pub was : DestHost D M
@@ -212,8 +212,8 @@ pub record DestPeeks {D M : Type 0} (told : Type 0) (faults size : D → ℕ) (f
   pub next_is : new ≡ dest_end.Open next
   pub same : told → host_of size next ≡ host_of size was
   pub counted : next.steps ≡ was.steps
-  pub is : told → file < length was.server.files.volume.volume.files → PeekIs was.server.files.volume.volume file off out_old out_new answer
-  pub later : told → Later faults size (bit (has_failed answer)) (Some was.server.files.volume.disk) (Some next.server.files.volume.disk)
+  pub is : PeekIs told was.server.files.volume.volume file off out_old out_new answer
+  pub later : Later faults size (bit (has_failed answer)) (Some was.server.files.volume.disk) (Some next.server.files.volume.disk)
 
 -- ---- the world of a stage whose servers are there
 
@@ -273,8 +273,8 @@ pub record IsDone {D M : Type 0} (told : Type 0) (m : RunMachines M) (read : Rea
   pub right : told → fault_by (mistake m read (world_at size source dest old) parts) (bytes_of new.log) ≡ None
   pub lines : text_new ≡ text_old ++ lines_text (notes_of parts ++ records_of (length old.log) parts)
   pub choices : new.choices.items ≡ old.choices.items ++ choice_of parts ∷ []
-  pub source_later : told → Later faults size (bit (any_failed parts.source.out.used)) (Some source.server.files.volume.disk) (Some source_next.server.files.volume.disk)
-  pub dest_later : told → Later faults size (bit (any_failed parts.dest.out.used)) (Some dest.server.files.volume.disk) (Some dest_next.server.files.volume.disk)
+  pub source_later : Later faults size (bit (any_failed parts.source.out.used)) (Some source.server.files.volume.disk) (Some source_next.server.files.volume.disk)
+  pub dest_later : Later faults size (bit (any_failed parts.dest.out.used)) (Some dest.server.files.volume.disk) (Some dest_next.server.files.volume.disk)
 
 -- It ends the run.
 pub record IsFaulty {D M : Type 0} (told : Type 0) (m : RunMachines M) (read : Reading) (faults size : D → ℕ) (R : RunWorld M → Parts → RunWorld M → Type 0)
@@ -293,8 +293,8 @@ pub record IsFaulty {D M : Type 0} (told : Type 0) (m : RunMachines M) (read : R
   pub fault_is : told → fault_by (mistake m read (world_at size source dest old) parts) (bytes_of after.log) ≡ Some fault
   pub text : text_new ≡ text_old
   pub choices : new.choices.items ≡ old.choices.items
-  pub source_later : told → Later faults size 0 (Some source.server.files.volume.disk) (Some source_next.server.files.volume.disk)
-  pub dest_later : told → Later faults size 0 (Some dest.server.files.volume.disk) (Some dest_next.server.files.volume.disk)
+  pub source_later : Later faults size 0 (Some source.server.files.volume.disk) (Some source_next.server.files.volume.disk)
+  pub dest_later : Later faults size 0 (Some dest.server.files.volume.disk) (Some dest_next.server.files.volume.disk)
 
 abbrev pub Comes : {D M : Type 0} → (told : Type 0) → RunMachines M → Reading → (faults size : D → ℕ) → (RunWorld M → Parts → RunWorld M → Type 0)
     → (old new : Stage D M) → (text_old text_new : List ℕ) → Option runs.Fault → Type 0
@@ -513,8 +513,9 @@ pub record SmallDone {D M : Type 0} (told : Type 0) (m : RunMachines M) (read : 
   pub right : told → fault_of m read (world_at size source dest old) step ≡ None
   pub lines : told → text_new ≡ text_old ++ lines_text (step_lines m (world_at size source dest old) step)
   pub choices : new.choices.items ≡ old.choices.items ++ step.choice ∷ []
-  pub source_later : told → Later faults size (bit (has_failed_at Source step)) (Some source.server.files.volume.disk) (Some source_next.server.files.volume.disk)
-  pub dest_later : told → Later faults size (bit (has_failed_at Dest step)) (Some dest.server.files.volume.disk) (Some dest_next.server.files.volume.disk)
+  pub blamed : AreBlamed (step ∷ [])
+  pub source_later : Later faults size (bit (has_failed_at Source step)) (Some source.server.files.volume.disk) (Some source_next.server.files.volume.disk)
+  pub dest_later : Later faults size (bit (has_failed_at Dest step)) (Some dest.server.files.volume.disk) (Some dest_next.server.files.volume.disk)
 
 pub record SmallFails {D M : Type 0} (told : Type 0) (m : RunMachines M) (read : Reading) (faults size : D → ℕ) (event : Event) (fault : runs.Fault)
     (old new : Stage D M) (text_old text_new : List ℕ) : Type 0 where
@@ -532,8 +533,8 @@ pub record SmallFails {D M : Type 0} (told : Type 0) (m : RunMachines M) (read :
   pub fault_is : told → fault_of m read (world_at size source dest old) step ≡ Some fault
   pub text : text_new ≡ text_old
   pub choices : new.choices.items ≡ old.choices.items
-  pub source_later : told → Later faults size 0 (Some source.server.files.volume.disk) (Some source_next.server.files.volume.disk)
-  pub dest_later : told → Later faults size 0 (Some dest.server.files.volume.disk) (Some dest_next.server.files.volume.disk)
+  pub source_later : Later faults size 0 (Some source.server.files.volume.disk) (Some source_next.server.files.volume.disk)
+  pub dest_later : Later faults size 0 (Some dest.server.files.volume.disk) (Some dest_next.server.files.volume.disk)
 
 abbrev pub SmallIs : {D M : Type 0} → (told : Type 0) → RunMachines M → Reading → (faults size : D → ℕ) → Event
     → (old new : Stage D M) → (text_old text_new : List ℕ) → Option runs.Fault → Type 0
@@ -557,8 +558,9 @@ pub record StageGoes {D M : Type 0} (told : Type 0) (m : RunMachines M) (read : 
   pub world : fault ≡ None → world_at size source_next dest_next new ≡ after_steps (world_at size source dest old) steps
   pub lines : told → text ≡ lines_text (lines_of m (world_at size source dest old) steps)
   pub choices : new.choices.items ≡ old.choices.items ++ map (λ (s : RunStep M). s.choice) steps
-  pub source_later : told → Later faults size (failed_calls Source steps) (Some source.server.files.volume.disk) (Some source_next.server.files.volume.disk)
-  pub dest_later : told → Later faults size (failed_calls Dest steps) (Some dest.server.files.volume.disk) (Some dest_next.server.files.volume.disk)
+  pub blamed : AreBlamed steps
+  pub source_later : Later faults size (failed_calls Source steps) (Some source.server.files.volume.disk) (Some source_next.server.files.volume.disk)
+  pub dest_later : Later faults size (failed_calls Dest steps) (Some dest.server.files.volume.disk) (Some dest_next.server.files.volume.disk)
 
 -- ---- a flow
 

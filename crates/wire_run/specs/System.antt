@@ -111,9 +111,15 @@ IsShown r side file off bytes len = IfSome (shown_at r.source_state r.dest_state
 abbrev pub is_broken : {D M : Type 0} → Running D M → Side → Bool
 is_broken r side = option_map_or (λ v. v.broken) (shown_at r.source_state r.dest_state side) false
 
--- why its bytes weren't shown: it is broken, or its disk failed
-abbrev pub IsUnread : {D M : Type 0} → (faults : D → ℕ) → (old new : Running D M) → Side → Type 0
-IsUnread faults old new side = (is_broken old side ≡ true) ⊎ Rose (faults_in faults (disk_of old side)) (faults_in faults (disk_of new side))
+-- a server's volume has no such file
+abbrev pub LacksFile : {D M : Type 0} → Running D M → Side → (file : ℕ) → Type 0
+LacksFile r side file = IfSome (shown_at r.source_state r.dest_state side) (λ v. length v.files ≤ file)
+
+-- why its bytes weren't shown: it is broken, or its disk failed; or the file isn't there any more, at a disk that doesn't tell what it holds
+abbrev pub IsUnread : {D M : Type 0} → (told : Type 0) → (faults : D → ℕ) → (old new : Running D M) → Side → (file : ℕ) → Type 0
+IsUnread told faults old new side file =
+    (is_broken old side ≡ true)
+    ⊎ (Rose (faults_in faults (disk_of old side)) (faults_in faults (disk_of new side)) ⊎ (LacksFile old side file × (told → ⊥)))
 
 -- all but a server's disk is as it was
 abbrev pub with_disk : {D M : Type 0} → Side → Option D → Running D M → Running D M

@@ -43,7 +43,7 @@ impl<D: Disk, M: Mechanism> SourceEnd<D, M> {
         ensures err { OnErr result (self.new ≡ self.old) }
     {
         volume_laws::steps_keep_the_files();
-        volume_laws::counts_rise_where_calls_fail();
+        volume_laws::counts_rise_where_calls_fail::<D>();
         let SourceEnd::Open(core) = self else {
             unreachable!()
         };
@@ -106,7 +106,7 @@ impl<D: Disk, M: Mechanism> DestEnd<D, M> {
         ensures err { OnErr result (self.new ≡ self.old) }
     {
         volume_laws::steps_keep_the_files();
-        volume_laws::counts_rise_where_calls_fail();
+        volume_laws::counts_rise_where_calls_fail::<D>();
         let DestEnd::Open(core) = self else {
             unreachable!()
         };
@@ -129,7 +129,7 @@ impl<D: Disk, M: Mechanism> DestEnd<D, M> {
         ensures err { OnErr result (self.new ≡ self.old) }
     {
         volume_laws::steps_keep_the_files();
-        volume_laws::counts_rise_where_calls_fail();
+        volume_laws::counts_rise_where_calls_fail::<D>();
         let DestEnd::Open(core) = self else {
             unreachable!()
         };
@@ -160,7 +160,7 @@ impl<D: Disk, M: Mechanism> DestEnd<D, M> {
         ensures err { OnErr result (self.new ≡ self.old) }
     {
         volume_laws::steps_keep_the_files();
-        volume_laws::counts_rise_where_calls_fail();
+        volume_laws::counts_rise_where_calls_fail::<D>();
         let DestEnd::Open(core) = self else {
             unreachable!()
         };

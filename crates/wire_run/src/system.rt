@@ -152,17 +152,18 @@ impl<D: Disk + Drop, M: Mechanism + Copy> System<D, M> {
         self.stage.log.count()
     }
 
-    /// Fills `out` with a file's bytes from `off` on as they are now, and with zeros past its end. False where the volume is
-    /// broken, and else only where its disk failed, whose count of faults then rose. It is no step: but for that disk all is as
-    /// it was.
+    /// Fills `out` with a file's bytes from `off` on, and with zeros past its end. Where the disk tells what it holds, and true
+    /// comes back, they are the bytes as they are now; and but for that disk all is as it was, as it is no step. Of any disk: false
+    /// where the volume is broken, and else only where its disk failed, whose count of faults then rose, or where a disk that doesn't
+    /// tell what it holds left the file out; the disk is as large as before, and its count of faults never falls.
     pub fn peek(&mut self, side: Side, file: u32, off: u64, out: &mut [u8]) -> bool
         requires file { HasFile self.old.context side file }
         requires disks { HasDisks self.old }
         ensures bytes { D.Told → IsTrue result → IsShown self.old side file off out.new (length out.old) }
-        ensures unread { D.Told → result ≡ false → IsUnread D.faults self.old self.new side }
-        ensures broken { D.Told → is_broken self.old side ≡ true → result ≡ false }
+        ensures unread { result ≡ false → IsUnread D.Told D.faults self.old self.new side file }
+        ensures broken { is_broken self.old side ≡ true → result ≡ false }
         ensures still { D.Told → self.new ≡ with_disk side (disk_of self.new side) self.old }
-        ensures later { D.Told → Later D.faults D.size 0 (disk_of self.old side) (disk_of self.new side) }
+        ensures later { Later D.faults D.size 0 (disk_of self.old side) (disk_of self.new side) }
         ensures disks { HasDisks self.new }
     {
         was_shown(self.stage.read(side, file, off, out))

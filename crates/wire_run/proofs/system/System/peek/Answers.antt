@@ -15,8 +15,8 @@ returns g c =
     c.args.side c.requires.file c.requires.disks c.read.ensures in
     record {
       bytes = λ t is. said.shown t (sym c.was_shown.ensures ∙ is);
-      unread = λ t is. said.unread t (sym c.was_shown.ensures ∙ is);
-      broken = λ t is. c.was_shown.ensures ∙ said.broken t is;
+      unread = λ is. said.unread (sym c.was_shown.ensures ∙ is);
+      broken = λ is. c.was_shown.ensures ∙ said.broken is;
       still = said.still;
       later = said.later;
       disks = said.disks c.requires.disks;
