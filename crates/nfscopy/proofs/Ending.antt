@@ -1,5 +1,5 @@
 -- How a run of the program ends, put together from what was read and what was put.
-use Rattle.std.proofs.Common.{◌≡◌, inl, inr, ℕ, ◌<◌, ◌≤◌, List, [], ◌++◌, length, Bool, refl, sym, ◌∙◌, ap, subst, arith, append-nil}
+use Rattle.std.proofs.Common.{◌≡◌, inl, inr, ℕ, ◌+◌, ◌<◌, ◌≤◌, List, [], ◌++◌, length, Bool, refl, sym, ◌∙◌, ap, subst, arith, append-nil}
 use Rattle.std.specs.Prelude.{Option, None, Some, is_some, Ok, Err, IfSome, option_map, if◌then◌else◌}
 use Rattle.std.proofs.Math.Seq.{take-length}
 use Rattle.std.proofs.lemmas.Bool.{lt-ltb, le-ltb}
@@ -66,6 +66,9 @@ no_did = record { choices = []; failed = λ side. 0 }
 later_same : {D : Type 0} (w : DiskWords D) (d : Option D) → Later w.faults w.size 0 d d
 later_same w d = record { there = refl; rose = omega arith; as_large = refl }
 
+none_blamed : 0 ≤ 0 + 0
+none_blamed = omega arith
+
 -- the disks are as they were, and no call on them was made
 untouched : {D M : Type 0} (w : DiskWords D) (r : RunWords M) (before now : Outside D) → now.source ≡ before.source → now.dest ≡ before.dest
     → Blamed w r before now no_did
@@ -73,8 +76,9 @@ untouched {D = D} w r before now source dest =
     record {
       source_back = ap is_some source;
       dest_back = ap is_some dest;
-      source = λ told. subst (λ (d : Option D). Later w.faults w.size 0 before.source d) (sym source) (later_same w before.source);
-      dest = λ told. subst (λ (d : Option D). Later w.faults w.size 0 before.dest d) (sym dest) (later_same w before.dest);
+      source = subst (λ (d : Option D). Later w.faults w.size 0 before.source d) (sym source) (later_same w before.source);
+      dest = subst (λ (d : Option D). Later w.faults w.size 0 before.dest d) (sym dest) (later_same w before.dest);
+      blamed = none_blamed;
     }
 
 -- a rise in a later call is one over all
@@ -146,8 +150,9 @@ module _ {D M : Type 0} (w : DiskWords D) (r : RunWords M) (before now : Outside
       record {
         source_back = ap is_some now_source ∙ (there.source_there ∙ (sym had.source_there ∙ ap is_some source));
         dest_back = ap is_some now_dest ∙ (there.dest_there ∙ (sym had.dest_there ∙ ap is_some dest));
-        source = λ told. moved (i.did.failed Source) _ _ _ _ source now_source (i.source told);
-        dest = λ told. moved (i.did.failed Dest) _ _ _ _ dest now_dest (i.dest told);
+        source = moved (i.did.failed Source) _ _ _ _ source now_source i.source;
+        dest = moved (i.did.failed Dest) _ _ _ _ dest now_dest i.dest;
+        blamed = i.blamed;
       }
 
   -- the disk that was as it was in the run is handed back so

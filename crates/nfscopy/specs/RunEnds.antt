@@ -1,5 +1,5 @@
 -- How `run` ends: for each end why it came, what was put, and what became of the disks.
-use Rattle.std.specs.Prelude.{◌≡◌, ◌≢◌, ◌⊎◌, ℕ, true, Option, None, Some, is_some, Ok, Err, List, ◌++◌, option_map}
+use Rattle.std.specs.Prelude.{◌≡◌, ◌≢◌, ◌⊎◌, ◌≤◌, ◌+◌, ℕ, true, Option, None, Some, is_some, Ok, Err, List, ◌++◌, option_map}
 use Rattle.std.specs.Io.KnownBytes.{Keeps, Appends, IsAtEnd}
 use Rattle.outcome.specs.Causes.{Rose}
 use Rattle.streams.specs.Sink.{AppendsFront}
@@ -15,7 +15,7 @@ use Rattle.wire_run.specs.Fresh.{Small}
 use Rattle.wire_run.specs.Run.{Did, RunsFront, ScheduleRuns, Volumes, asks_for, first_small}
 use Rattle.wire_run.specs.System.{DiskHolds}
 use Rattle.wire_run.specs.declared.setting.TheConstants.{SOURCE_TAG, DEST_TAG}
-use Rattle.wire_run.specs.Running.{Later, RunMachines, size_in}
+use Rattle.wire_run.specs.Running.{Later, RunMachines, failed_steps, size_in}
 use Rattle.nfscopy.specs.declared.ends.RunEnd.{RunEnd}
 use Rattle.nfscopy.specs.declared.ends.RunEnd.TheVariants as ends
 use Rattle.nfscopy.specs.Input.{Input, asked, IfSchedule, IfRefused}
@@ -107,13 +107,14 @@ module _ {D M : Type 0} (w : DiskWords D) (r : RunWords M) where
   RunEndIs before now input did ends.NoVolume =
       IfSchedule input (λ events. PutsSmall before now (small_of before events) ⊎ PutsUnreadable before now)
 
-  -- The disks that were handed in are handed back. Of disks that tell what they hold: what they did in the small steps of a run
-  -- is at most what their counts of faults say, and they are as large as before.
+  -- The disks that were handed in are handed back, as large as before; and whatever a disk tells of what it holds, no more calls of a
+  -- run failed at it than its count of faults rose by. Each small step in which a call failed is one at a disk.
   pub record Blamed (before now : Outside D) (did : Did) : Type 0 where
     pub source_back : is_some now.source ≡ is_some before.source
     pub dest_back : is_some now.dest ≡ is_some before.dest
-    pub source : w.told → Later w.faults w.size (did.failed Source) before.source now.source
-    pub dest : w.told → Later w.faults w.size (did.failed Dest) before.dest now.dest
+    pub source : Later w.faults w.size (did.failed Source) before.source now.source
+    pub dest : Later w.faults w.size (did.failed Dest) before.dest now.dest
+    pub blamed : failed_steps did.choices ≤ did.failed Source + did.failed Dest
 
   -- What became of an input that is told or not, with the run's own choices.
   pub record CarriesOut (before now : Outside D) (input : Option Input) (end : RunEnd) : Type 0 where

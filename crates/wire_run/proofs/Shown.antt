@@ -43,8 +43,8 @@ refused_by : (told : Type 0) (v : Volume) (file off : ℕ) (old new : List ℕ) 
     → answer ≡ peeks.Refused → (v.broken ≡ true) ⊎ ((length v.files ≤ file) × (told → ⊥))
 refused_by told v file off old new answer is there refused =
     elim (cases_lt file (length v.files)) [
-    inl held ↦ inl (is.broken refused held)
-    | inr past ↦ inr (past, λ t. none_past file (length v.files) past (there t))
+      | inl held ↦ inl (is.broken refused held)
+      | inr past ↦ inr (past, λ t. none_past file (length v.files) past (there t))
     ]
   where
     none_past : (file files : ℕ) → files ≤ file → file < files → ⊥
