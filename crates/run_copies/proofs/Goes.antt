@@ -48,7 +48,7 @@ module _ {M : Type 0} (words : Words M ℕ) (known : AreKnown words) where
   act_goes (acts.DestTakes conn bytes) now s before t after out d =
       known.record_ s.state.machine.extra.mech conn bytes now s before after (record { host = t; out = out }) d
   act_goes (acts.Works worker) now s before t after out d =
-      known.work (words.started s.state.machine.extra.mech) codes (worker - 1) now s before after (record { host = t; out = out }) d
+      known.work (words.started s.state.machine.extra.mech) codes (worker - 1) now s before after (record { host = t; out = out }) d.1
   act_goes (acts.Hears worker bytes) now s before t after out d = hears_goes (is_worker worker) worker bytes now s t out d.0
   act_goes acts.DestTicks now s before t after out d = subst (λ (x : DestStep M). GoesTo s x) (sym d.0) (known.tick codes now s)
 

@@ -1,5 +1,5 @@
 -- What is seen at a moment of a run are the jobs that its destination has, and so at the next.
-use Rattle.std.proofs.Common.{◌≡◌, ◌∙◌, inl, inr, ⊎_elim, ℕ, zero, suc, ◌<◌, ◌≤◌, Bool, true, false, List, [], ◌∷◌, length, slice_get, Option, Some, None, refl, sym, ap, subst, arith}
+use Rattle.std.proofs.Common.{◌≡◌, ◌⊎◌, ◌∙◌, inl, inr, ⊎_elim, ℕ, zero, suc, ◌<◌, ◌≤◌, Bool, true, false, List, [], ◌∷◌, length, slice_get, Option, Some, None, refl, sym, ap, subst, arith}
 use Rattle.std.specs.Prelude.{◌||◌, slice_index_or}
 use Rattle.std.proofs.lemmas.Bool.{cases_lt}
 use Rattle.deed_laws.specs.Linked.{AreLinked, GoOn, IsSeenAs, IsShown as IsShownAs, Planned, looked_up, name_at}
@@ -21,13 +21,18 @@ use Rattle.run_system.specs.Moments.{made_at}
 use Rattle.run_system.specs.System.{telling}
 use Rattle.server_volume.specs.declared.used.Used.{Used}
 use Rattle.session_server.specs.Host as hosts
-use Rattle.wire_machine.specs.History.{At, Listed, Telling, acts_in, acts_of, at_moment, deed_of, is_reported, job_at, jobs_after, next, no_job, part_acts}
+use Rattle.wire_lines.specs.declared.letters.Speaker.{Speaker}
+use Rattle.wire_lines.specs.declared.letters.Speaker.TheVariants as speakers
+use Rattle.wire_machine.specs.History.{At, Listed, Telling, acts_in, acts_of, at_moment, called_with, deed_of, is_call, is_reported, job_at, jobs_after, next, no_job, part_acts, takes_call, told_by}
 use Rattle.wire_machine.specs.Steps.{AreSteps, IsStep}
+use Rattle.wire_machine.specs.World.{Part}
 use Rattle.wire_model.specs.Copies.{Job as Copy}
 use Rattle.wire_model.specs.Meaning.{Meaning}
 use Rattle.wire_model.specs.Spelling.{Spelling}
+use Rattle.wire_model.specs.Wire.{Executed}
 use Rattle.wire_run.specs.Ends.{SourceState, Words, machines}
 use Rattle.wire_run.specs.Running.{RunMachines, RunStep, RunWorld}
+use Rattle.run_copies.specs.Acts.{DestDid}
 use Rattle.run_copies.specs.ActLaws.{small_did}
 use Rattle.run_copies.specs.Moments.{dest_part}
 use Rattle.run_copies.proofs.Goes.{AreKnown, Goes, did_goes}
@@ -105,6 +110,29 @@ module _ {M : Type 0} (words : Words M ℕ) (known : AreKnown words) (folds : Ar
         → (job_at (next m (telling codes) spell meaning at o).seen j).stable
         ≡ ((job_at at.seen j).stable || is_reported spell meaning (acts_of m (telling codes) spell meaning at.world o Dest) (name_at (table_in (next m (telling codes) spell meaning at o).world.dest).boot j))
     pub story : Story (jobs_in at.world.dest) (jobs_in (next m (telling codes) spell meaning at o).world.dest) (dest_part o).out.used
+
+  -- ---- what is executed
+
+  none_called : (f : List ℕ → Option Executed) (call : Bool) (took : Option (List ℕ)) → took ≡ None → told_by f (called_with call took) ≡ None
+  none_called f true took none = ap (told_by f) none
+  none_called f false took none = refl
+
+  none_heard : (f : List ℕ → Option Executed) (took : Option (List ℕ)) → told_by f (called_with (takes_call speakers.Worker took) took) ≡ None
+  none_heard f None = refl
+  none_heard f (Some bytes) = refl
+
+  none_told : (part : Part) (f : List ℕ → Option Executed) → (part.took ≡ None) ⊎ (part.speaker ≡ speakers.Worker)
+      → told_by f (called_with (is_call part) part.took) ≡ None
+  none_told part f (inl none) = none_called f (is_call part) part.took none
+  none_told part f (inr worker) =
+      ap (λ (speaker : Speaker). told_by f (called_with (takes_call speaker part.took) part.took)) worker ∙ none_heard f part.took
+
+  -- nothing is where nothing is taken, or a worker takes it
+  pub quiet_by : (w : RunWorld M) (o : Option (RunStep M)) → ((dest_part o).took ≡ None) ⊎ ((dest_part o).speaker ≡ speakers.Worker)
+      → (acts_of m (telling codes) spell meaning w o Dest).executed ≡ None
+  quiet_by w None quiet = refl
+  quiet_by w (Some s) quiet =
+      none_told s.parts.dest (λ bytes. tell.dest_told bytes w.clock w.dest s.after.dest s.parts.dest.out) quiet
 
   -- ---- a small step
 
@@ -211,6 +239,10 @@ module _ {M : Type 0} (words : Words M ℕ) (known : AreKnown words) (folds : Ar
   module _ (first : RunWorld M) (steps : List (RunStep M)) (begun : IsSeen (at_moment m (telling codes) spell meaning first steps 0)) (are : AreSteps m first steps) where
     step_from : (k : ℕ) (s : RunStep M) → slice_get steps k ≡ Some s → IsStep m (at_moment m (telling codes) spell meaning first steps k).world s
     step_from k s is = (made_at m (telling codes) spell meaning first steps k s are is).step
+
+    -- what each step is to the destination
+    pub did_at : (k : ℕ) (s : RunStep M) → slice_get steps k ≡ Some s → DestDid words (at_moment m (telling codes) spell meaning first steps k).world s.parts s.after
+    did_at k s is = small_did words s.event (at_moment m (telling codes) spell meaning first steps k).world s.parts s.after (step_from k s is).small
 
     pub seen_at : (k : ℕ) → IsSeen (at_moment m (telling codes) spell meaning first steps k)
     seen_at zero = begun

@@ -31,7 +31,7 @@ use Rattle.wire_run.specs.Ends.{Words, machines}
 use Rattle.wire_run.specs.Run.{IsFirst, shape_of}
 use Rattle.wire_run.specs.Running.{RunMachines, RunStep, RunWorld}
 use Rattle.wire_run.specs.Setting.{dest_name, dest_place, dest_source}
-use Rattle.run_copies.specs.Moments.{host_at, part_at, step_at}
+use Rattle.run_copies.specs.Moments.{ShowsAs, host_at, part_at, step_at}
 use Rattle.run_copies.proofs.Goes.{AreKnown}
 use Rattle.run_copies.proofs.Moments.{AreFolds, IsDone, IsSeen, done_at, seen_at}
 
@@ -146,7 +146,7 @@ module _ {M : Type 0} (words : Words M ℕ) (known : AreKnown words) (folds : Ar
         let at_each = seen_at words known folds spell meaning first steps begun are in
         shows_step k (at_each k) (at_each (suc k)) (done_at words known folds spell meaning first steps begun are k)
 
-    pub shows_run : ShowsRun spell meaning (system_of m codes spell meaning seen first steps purposes) (host_at m codes spell meaning first steps) (step_at m codes spell meaning first steps)
+    shows_run : ShowsRun spell meaning (system_of m codes spell meaning seen first steps purposes) (host_at m codes spell meaning first steps) (step_at m codes spell meaning first steps)
     shows_run =
         let at_each = seen_at words known folds spell meaning first steps begun are in
         let in_each = done_at words known folds spell meaning first steps begun are in
@@ -159,6 +159,10 @@ module _ {M : Type 0} (words : Words M ℕ) (known : AreKnown words) (folds : Ar
           story = λ k. (in_each k).story;
           sound = λ k. (at_each k).kept.sound;
         }
+
+    pub shows_as : ShowsAs m codes spell meaning first steps (system_of m codes spell meaning seen first steps purposes)
+    unfolding shows_run
+    shows_as = record { run = shows_run; took = λ k. refl; speaker = λ k. refl; executed = λ k. refl }
 
   -- ---- from the first moment on
 

@@ -15,7 +15,13 @@ use Rattle.wire_run.specs.Handling.{dest_took}
 use Rattle.wire_run.specs.Running.{RunMachines, RunWorld}
 use Rattle.wire_schedule.specs.declared.event.Event.{Event}
 use Rattle.wire_schedule.specs.declared.event.Event.TheVariants as events
-use Rattle.run_copies.specs.Acts.{DestDid, speaker_of}
+use Rattle.run_copies.specs.Acts.{DestDid, IsSecond, speaker_of}
+
+same_second : (act : DestAct) (clock : ℕ) → IsSecond act clock clock
+same_second (acts.DestTakes conn bytes) clock = refl
+same_second (acts.Works worker) clock = refl
+same_second (acts.Hears worker bytes) clock = refl
+same_second acts.DestTicks clock = tt
 
 module _ {M : Type 0} (words : Words M ℕ) where
   abbrev m : RunMachines M
@@ -25,12 +31,13 @@ module _ {M : Type 0} (words : Words M ℕ) where
   Did before parts after = DestDid words before parts after
 
   acts_as : (act : DestAct) (now draws left : ℕ) (before : RunWorld M) (parts : Parts) (after : RunWorld M) (t : DestState M) (out : Outbox)
-      → dest_goes words act now before.dest draws t left out → after.dest ≡ t → parts.dest.out ≡ out → parts.dest.took ≡ dest_took act
+      → dest_goes words act now before.dest draws t left out → IsSecond act before.clock now → after.dest ≡ t → parts.dest.out ≡ out → parts.dest.took ≡ dest_took act
       → parts.dest.speaker ≡ speaker_of act → Did before parts after
-  acts_as act now draws left before parts after t out goes is out_is took speaker =
+  acts_as act now draws left before parts after t out goes second is out_is took speaker =
       inl (record {
         act = act;
         now = now;
+        second = second;
         draws = draws;
         left = left;
         goes = subst (λ (x : DestState M). dest_goes words act now before.dest draws x left parts.dest.out) (sym is)
@@ -42,7 +49,7 @@ module _ {M : Type 0} (words : Words M ℕ) where
   by_dest : (act : DestAct) (speaker : Speaker) (took : Option (List ℕ)) (before : RunWorld M) (parts : Parts) (after : RunWorld M) → took ≡ dest_took act
       → speaker ≡ speaker_of act → DestDoes m act speaker took before parts after → Did before parts after
   by_dest act speaker took before parts after took_is speaker_is d =
-      acts_as act before.clock before.draws d.draws before parts after d.dest d.out d.acts (ap (λ (w : RunWorld M). w.dest) d.after_is)
+      acts_as act before.clock before.draws d.draws before parts after d.dest d.out d.acts (same_second act before.clock) (ap (λ (w : RunWorld M). w.dest) d.after_is)
       (ap (λ (p : Parts). p.dest.out) d.parts_are)
       (subst (λ (x : Option (List ℕ)). parts.dest.took ≡ x) took_is (ap (λ (p : Parts). p.dest.took) d.parts_are))
       (subst (λ (x : Speaker). parts.dest.speaker ≡ x) speaker_is (ap (λ (p : Parts). p.dest.speaker) d.parts_are))
@@ -73,7 +80,7 @@ module _ {M : Type 0} (words : Words M ℕ) where
 
   unmarked : (log : List Posted) (before : RunWorld M) (parts : Parts) (after : RunWorld M) → Did (record before { log = log }) parts after → Did before parts after
   unmarked log before parts after (inl d) =
-      inl (record { act = d.act; now = d.now; draws = d.draws; left = d.left; goes = d.goes; took = d.took; speaker = d.speaker })
+      inl (record { act = d.act; now = d.now; second = d.second; draws = d.draws; left = d.left; goes = d.goes; took = d.took; speaker = d.speaker })
   unmarked log before parts after (inr d) = inr (record { same = d.same; part = d.part })
 
   delivered : (number : ℕ) (o : Option Posted) (before : RunWorld M) (parts : Parts) (after : RunWorld M) → IsDelivered m number o before parts after
@@ -84,7 +91,7 @@ module _ {M : Type 0} (words : Words M ℕ) where
 
   ticks : (seconds : ℕ) (before : RunWorld M) (parts : Parts) (after : RunWorld M) → AllTick m seconds before parts after → Did before parts after
   ticks seconds before parts after d =
-      acts_as acts.DestTicks (before.clock + seconds) before.draws before.draws before parts after d.dest d.dest_out d.dest_ticks
+      acts_as acts.DestTicks (before.clock + seconds) before.draws before.draws before parts after d.dest d.dest_out d.dest_ticks tt
       (ap (λ (w : RunWorld M). w.dest) d.after_is) (ap (λ (p : Parts). p.dest.out) d.parts_are) (ap (λ (p : Parts). p.dest.took) d.parts_are)
       (ap (λ (p : Parts). p.dest.speaker) d.parts_are)
 

@@ -14,11 +14,17 @@ abbrev pub speaker_of : DestAct → Speaker
 speaker_of (acts.Hears worker bytes) = speakers.Worker
 speaker_of act = speakers.Dest
 
+-- The second of an act is that of the clock, which moves on before the destination looks at it.
+abbrev pub IsSecond : DestAct → (clock now : ℕ) → Type 0
+IsSecond acts.DestTicks clock now = Unit {0}
+IsSecond act clock now = now ≡ clock
+
 module _ {M : Type 0} (words : Words M ℕ) where
   -- It acts so, in this second and with these draws, and leaves those.
   pub record DestActs (before : RunWorld M) (parts : Parts) (after : RunWorld M) : Type 0 where
     pub act : DestAct
     pub now : ℕ
+    pub second : IsSecond act before.clock now
     pub draws : ℕ
     pub left : ℕ
     pub goes : dest_goes words act now before.dest draws after.dest left parts.dest.out

@@ -1,20 +1,21 @@
-ghost use Rattle.std.specs.Prelude.{◌≡◌, ℕ, suc, List, length};
+ghost use Rattle.std.specs.Prelude.{◌≡◌, ◌⊎◌, ℕ, suc, List, length, None, Some, slice_get};
 ghost use Rattle.client_laws.specs.WholeTurns.{Purposes};
 ghost use Rattle.dest_copies.specs.Rooms.{ReachesLast};
-ghost use Rattle.dest_copies.specs.Runs.{ShowsRun};
 ghost use Rattle.dest_sound.specs.Kept.{IsKept};
 ghost use Rattle.dest_view.specs.Dues.{AreSafe, HoldsWell, LandsWell};
 ghost use Rattle.dest_view.specs.Steps.{ShowsStep, table_in};
 ghost use Rattle.nfs_base.specs.declared.seal.End.TheVariants.{Dest};
-ghost use Rattle.run_copies.specs.Moments.{host_at, part_at, step_at};
+ghost use Rattle.run_copies.specs.Acts.{DestDid};
+ghost use Rattle.run_copies.specs.Moments.{ShowsAs, host_at, part_at, step_at};
 ghost use Rattle.run_system.specs.System.{ClientView, system_of, telling};
-ghost use Rattle.wire_machine.specs.History.{acts_at};
+ghost use Rattle.wire_lines.specs.declared.letters.Speaker.TheVariants.{Worker};
+ghost use Rattle.wire_machine.specs.History.{acts_at, at_moment};
 ghost use Rattle.wire_machine.specs.Runs.{Numbered};
 ghost use Rattle.wire_machine.specs.Steps.{AreSteps};
 ghost use Rattle.wire_model.specs.CopyLaws.{CopiesLaws, CopiesStart};
 ghost use Rattle.wire_model.specs.Meaning.{Meaning};
 ghost use Rattle.wire_model.specs.Spelling.{Spelling};
-ghost use Rattle.wire_run.specs.Ends.{run_machines};
+ghost use Rattle.wire_run.specs.Ends.{count_gives, run_machines, words_of};
 ghost use Rattle.wire_run.specs.Run.{IsFirst};
 ghost use Rattle.wire_run.specs.Running.{RunStep, RunWorld};
 
@@ -27,9 +28,8 @@ use streams::CountDraws;
 pub fn destinations_are_shown<M: Mechanism>()
     ensures run { (mech : M) (events : List Numbered) (first : RunWorld M) (steps : List (RunStep M)) (spell : Spelling) (meaning : Meaning) (seen : ClientView M)
         (purposes : ℕ → Purposes) → IsFirst mech events first → AreSteps (run_machines M.mic_of M.derived M.started M.accepted M.finished) first steps
-        → ShowsRun spell meaning (system_of (run_machines M.mic_of M.derived M.started M.accepted M.finished) (record { mic = M.mic_of; derived = M.derived }) spell meaning seen first steps purposes)
-        (host_at (run_machines M.mic_of M.derived M.started M.accepted M.finished) (record { mic = M.mic_of; derived = M.derived }) spell meaning first steps)
-        (step_at (run_machines M.mic_of M.derived M.started M.accepted M.finished) (record { mic = M.mic_of; derived = M.derived }) spell meaning first steps) }
+        → ShowsAs (run_machines M.mic_of M.derived M.started M.accepted M.finished) (record { mic = M.mic_of; derived = M.derived }) spell meaning first steps
+        (system_of (run_machines M.mic_of M.derived M.started M.accepted M.finished) (record { mic = M.mic_of; derived = M.derived }) spell meaning seen first steps purposes) }
     // So at each moment, with what it took, who tells of that, and what it executed.
     ensures step { (mech : M) (events : List Numbered) (first : RunWorld M) (steps : List (RunStep M)) (spell : Spelling) (meaning : Meaning) (seen : ClientView M)
         (purposes : ℕ → Purposes) → IsFirst mech events first → AreSteps (run_machines M.mic_of M.derived M.started M.accepted M.finished) first steps → (k : ℕ)
@@ -39,6 +39,14 @@ pub fn destinations_are_shown<M: Mechanism>()
         (acts_at (run_machines M.mic_of M.derived M.started M.accepted M.finished) (telling (record { mic = M.mic_of; derived = M.derived })) spell meaning first steps Dest k).executed
         (host_at (run_machines M.mic_of M.derived M.started M.accepted M.finished) (record { mic = M.mic_of; derived = M.derived }) spell meaning first steps k)
         (step_at (run_machines M.mic_of M.derived M.started M.accepted M.finished) (record { mic = M.mic_of; derived = M.derived }) spell meaning first steps k) }
+    // What each step is to it; and that it executes nothing where it takes nothing, or one of its workers takes it.
+    ensures did { (mech : M) (events : List Numbered) (first : RunWorld M) (steps : List (RunStep M)) (spell : Spelling) (meaning : Meaning) → IsFirst mech events first
+        → AreSteps (run_machines M.mic_of M.derived M.started M.accepted M.finished) first steps → (k : ℕ) (s : RunStep M) → slice_get steps k ≡ Some s
+        → DestDid (words_of M.mic_of M.derived M.started M.accepted M.finished count_gives) (at_moment (run_machines M.mic_of M.derived M.started M.accepted M.finished) (telling (record { mic = M.mic_of; derived = M.derived })) spell meaning first steps k).world s.parts s.after }
+    ensures quiet { (first : RunWorld M) (steps : List (RunStep M)) (spell : Spelling) (meaning : Meaning) (k : ℕ)
+        → ((part_at (run_machines M.mic_of M.derived M.started M.accepted M.finished) (record { mic = M.mic_of; derived = M.derived }) spell meaning first steps k).took ≡ None)
+        ⊎ ((part_at (run_machines M.mic_of M.derived M.started M.accepted M.finished) (record { mic = M.mic_of; derived = M.derived }) spell meaning first steps k).speaker ≡ Worker)
+        → (acts_at (run_machines M.mic_of M.derived M.started M.accepted M.finished) (telling (record { mic = M.mic_of; derived = M.derived })) spell meaning first steps Dest k).executed ≡ None }
     ensures start { (mech : M) (events : List Numbered) (first : RunWorld M) (steps : List (RunStep M)) (spell : Spelling) (meaning : Meaning) (seen : ClientView M)
         (purposes : ℕ → Purposes) → IsFirst mech events first
         → CopiesStart (system_of (run_machines M.mic_of M.derived M.started M.accepted M.finished) (record { mic = M.mic_of; derived = M.derived }) spell meaning seen first steps purposes) }

@@ -5,5 +5,5 @@ pub returns : goal.returns
 returns g c mech events first steps spell meaning seen purposes is are lands holds safe k =
     let shown = c.destinations_are_shown.ensures in
     let last = length steps in
-    c.runs_keep_copies.ensures spell meaning _ _ _ last (shown.run mech events first steps spell meaning seen purposes is are)
+    c.runs_keep_copies.ensures spell meaning _ _ _ last (shown.run mech events first steps spell meaning seen purposes is are).run
     (shown.start mech events first steps spell meaning seen purposes is).none_made (shown.last first steps spell meaning seen purposes) lands holds safe k

@@ -1,8 +1,10 @@
-use Rattle.std.proofs.Common.{refl}
-use Rattle.wire_run.specs.Ends.{Words, count_gives, words_of}
+use Rattle.std.proofs.Common.{refl, slice_get}
+use Rattle.wire_run.specs.Ends.{count_gives, machines, words_of}
+use Rattle.run_system.specs.System.{telling}
+use Rattle.wire_machine.specs.History.{at_moment}
 use Rattle.run_copies.proofs.Goes.{AreKnown}
-use Rattle.run_copies.proofs.Moments.{AreFolds, seen_at}
-use Rattle.run_copies.proofs.Shown.{begins, reaches, shows_at, shows_run, starts}
+use Rattle.run_copies.proofs.Moments.{AreFolds, did_at, quiet_by, seen_at}
+use Rattle.run_copies.proofs.Shown.{begins, reaches, shows_as, shows_at, starts}
 use Rattle.run_copies.proofs.laws.destinations_are_shown.Goals as goal
 
 pub returns : goal.returns
@@ -41,9 +43,14 @@ returns g c =
     } in
     record {
       run = λ mech events first steps spell meaning seen purposes is are.
-          shows_run words known folds spell meaning seen purposes first steps (begins words known folds spell meaning first steps mech events is kept.begin) are;
+          shows_as words known folds spell meaning seen purposes first steps (begins words known folds spell meaning first steps mech events is kept.begin) are;
       step = λ mech events first steps spell meaning seen purposes is are.
           shows_at words known folds spell meaning seen purposes first steps (begins words known folds spell meaning first steps mech events is kept.begin) are;
+      did = λ mech events first steps spell meaning is are k s made.
+          did_at words known folds spell meaning first steps (begins words known folds spell meaning first steps mech events is kept.begin) are k s made;
+      quiet = λ first steps spell meaning place none.
+          quiet_by words known folds spell meaning
+          (at_moment (machines words) (telling (record { mic = k.mic_of; derived = k.derived })) spell meaning first steps place).world (slice_get steps place) none;
       start = λ mech events first steps spell meaning seen purposes is.
           starts words known folds spell meaning seen purposes first steps mech events is kept.begin c.opened_destinations_show_nothing.ensures.copies;
       last = λ first steps spell meaning seen purposes. reaches words known folds spell meaning seen purposes first steps;
