@@ -32,6 +32,11 @@ pub record Words (W : Type 0) : Type 1 where
 abbrev pub words_by : {W : Type 0} → hosts.Codes → (List ℕ → List ℕ → Option Accepted) → (started finished : List ℕ → List ℕ → Option (List ℕ)) → (W → Drawn → W → Type 0) → Words W
 words_by codes accepted started finished gives = record { codes = codes; accepted = accepted; started = started; finished = finished; gives = gives }
 
+-- at each moment by the mechanism, and what its principal starts and finishes, that it has then
+abbrev pub words_at : {M W : Type 0} → hosts.Codes → (M → List ℕ → List ℕ → Option Accepted) → (mech : ℕ → M) → (started finished : ℕ → List ℕ → List ℕ → Option (List ℕ))
+    → (W → Drawn → W → Type 0) → ℕ → Words W
+words_at codes accepted mech started finished gives k = words_by codes (accepted (mech k)) (started k) (finished k) gives
+
 -- a record on a connection, a worker's turn, a record of the source, a link that failed, a second that comes by itself, or nothing
 pub data Way : Type 0 where
   Hears : (conn : ℕ) (message : List ℕ) (now : ℕ) → Way

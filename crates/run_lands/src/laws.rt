@@ -9,7 +9,7 @@ ghost use Rattle.nfs_base.specs.declared.seal.End.{End};
 ghost use Rattle.wire_meaning.specs.Meaning.{meaning};
 ghost use Rattle.wire_model.specs.System.{System};
 ghost use Rattle.wire_spelling.specs.Spelling.{spelling};
-ghost use Rattle.run_lands.specs.Ways.{GoesBy, GoesSpelled, VolumeOwes, Way, words_by};
+ghost use Rattle.run_lands.specs.Ways.{GoesBy, GoesSpelled, VolumeOwes, Way, words_at};
 
 use dest_lands::{
     landings_are_due, moves_keep_calls_spelled, rests_owe_nothing, volumes_go_on,
@@ -22,21 +22,21 @@ use streams::Draws;
 /// landings is due, what lands and what is held was at hand, and, but where a record comes on a connection, its volume goes on by one
 /// effect that is allowed.
 pub fn runs_land_well<M: Mechanism, W: Draws>()
-    ensures orderly { (mech : M) (started finished : List ℕ → List ℕ → Option (List ℕ)) (accepts : List ℕ → Option (List ℕ)) (whose : List ℕ → Option End) (s : System)
+    ensures orderly { (mech : ℕ → M) (started finished : ℕ → List ℕ → List ℕ → Option (List ℕ)) (accepts : List ℕ → Option (List ℕ)) (whose : List ℕ → Option End) (s : System)
         (host : ℕ → DestState M) (step : ℕ → DestStep M) (ways : ℕ → Way) (run : ShowsRun (spelling accepts whose) meaning s host step) → IsOrderly (host 0)
-        → ((k : ℕ) → GoesBy (words_by (record { mic = M.mic_of; derived = M.derived }) (M.accepted mech) started finished W.gives) s k (run.took k) (run.speaker k) (host k) (step k) (ways k))
+        → ((k : ℕ) → GoesBy (words_at (record { mic = M.mic_of; derived = M.derived }) M.accepted mech started finished W.gives k) s k (run.took k) (run.speaker k) (host k) (step k) (ways k))
         → (k : ℕ) → IsOrderly (host k) }
-    ensures lands { (mech : M) (started finished : List ℕ → List ℕ → Option (List ℕ)) (accepts : List ℕ → Option (List ℕ)) (whose : List ℕ → Option End) (s : System)
+    ensures lands { (mech : ℕ → M) (started finished : ℕ → List ℕ → List ℕ → Option (List ℕ)) (accepts : List ℕ → Option (List ℕ)) (whose : List ℕ → Option End) (s : System)
         (host : ℕ → DestState M) (step : ℕ → DestStep M) (ways : ℕ → Way) (run : ShowsRun (spelling accepts whose) meaning s host step) → IsOrderly (host 0)
-        → ((k : ℕ) → GoesBy (words_by (record { mic = M.mic_of; derived = M.derived }) (M.accepted mech) started finished W.gives) s k (run.took k) (run.speaker k) (host k) (step k) (ways k))
+        → ((k : ℕ) → GoesBy (words_at (record { mic = M.mic_of; derived = M.derived }) M.accepted mech started finished W.gives k) s k (run.took k) (run.speaker k) (host k) (step k) (ways k))
         → (k : ℕ) → LandsWell (spelling accepts whose) meaning s k }
-    ensures holds { (mech : M) (started finished : List ℕ → List ℕ → Option (List ℕ)) (accepts : List ℕ → Option (List ℕ)) (whose : List ℕ → Option End) (s : System)
+    ensures holds { (mech : ℕ → M) (started finished : ℕ → List ℕ → List ℕ → Option (List ℕ)) (accepts : List ℕ → Option (List ℕ)) (whose : List ℕ → Option End) (s : System)
         (host : ℕ → DestState M) (step : ℕ → DestStep M) (ways : ℕ → Way) (run : ShowsRun (spelling accepts whose) meaning s host step) → IsOrderly (host 0)
-        → ((k : ℕ) → GoesBy (words_by (record { mic = M.mic_of; derived = M.derived }) (M.accepted mech) started finished W.gives) s k (run.took k) (run.speaker k) (host k) (step k) (ways k))
+        → ((k : ℕ) → GoesBy (words_at (record { mic = M.mic_of; derived = M.derived }) M.accepted mech started finished W.gives k) s k (run.took k) (run.speaker k) (host k) (step k) (ways k))
         → (k : ℕ) → HoldsWell (spelling accepts whose) meaning s k }
-    ensures volumes { (mech : M) (started finished : List ℕ → List ℕ → Option (List ℕ)) (accepts : List ℕ → Option (List ℕ)) (whose : List ℕ → Option End) (s : System)
+    ensures volumes { (mech : ℕ → M) (started finished : ℕ → List ℕ → List ℕ → Option (List ℕ)) (accepts : List ℕ → Option (List ℕ)) (whose : List ℕ → Option End) (s : System)
         (host : ℕ → DestState M) (step : ℕ → DestStep M) (ways : ℕ → Way) (run : ShowsRun (spelling accepts whose) meaning s host step) → IsOrderly (host 0)
-        → ((k : ℕ) → GoesBy (words_by (record { mic = M.mic_of; derived = M.derived }) (M.accepted mech) started finished W.gives) s k (run.took k) (run.speaker k) (host k) (step k) (ways k))
+        → ((k : ℕ) → GoesBy (words_at (record { mic = M.mic_of; derived = M.derived }) M.accepted mech started finished W.gives k) s k (run.took k) (run.speaker k) (host k) (step k) (ways k))
         → ((k : ℕ) → (host k).state.machine.store.volume.writes < 2 ^ 32) → (k : ℕ) → VolumeOwes (ways k) s k }
 {
     workers_ask_by_plans::<M, W>();

@@ -1,7 +1,7 @@
 use Rattle.wire_meaning.specs.Meaning.{meaning}
 use Rattle.wire_spelling.specs.Spelling.{spelling}
 use Rattle.run_lands.proofs.Along.{both_at, orderly_at, volume_at}
-use Rattle.run_lands.specs.Ways.{words_by}
+use Rattle.run_lands.specs.Ways.{words_at}
 use Rattle.run_lands.proofs.laws.runs_land_well.Goals as goal
 
 pub returns : goal.returns
@@ -12,13 +12,13 @@ returns g c =
     let volumes = c.volumes_go_on.ensures in
     record {
       orderly = λ mech started finished accepts whose s host step ways run first goes.
-          orderly_at _ (words_by _ _ started finished _) accepts whose s host step ways run first goes
-          (record { record_ = asks.record_ mech; work = asks.work; reply = asks.reply; failure = asks.failure; tick = asks.tick });
+          orderly_at _ (words_at _ g.M.Mechanism.accepted mech started finished _) accepts whose s host step ways run first goes
+          (record { record_ = λ k. asks.record_ (mech k); work = λ k. asks.work; reply = asks.reply; failure = asks.failure; tick = asks.tick });
       lands = λ mech started finished accepts whose s host step ways run first goes k.
-          (both_at _ (words_by _ _ started finished _) accepts whose s host step ways run first goes
-          (record { record_ = asks.record_ mech; work = asks.work; reply = asks.reply; failure = asks.failure; tick = asks.tick })
+          (both_at _ (words_at _ g.M.Mechanism.accepted mech started finished _) accepts whose s host step ways run first goes
+          (record { record_ = λ k. asks.record_ (mech k); work = λ k. asks.work; reply = asks.reply; failure = asks.failure; tick = asks.tick })
           (record {
-            record_ = λ k took speaker executed. due.record_ (spelling accepts whose) meaning s k took speaker executed mech;
+            record_ = λ k took speaker executed. due.record_ (spelling accepts whose) meaning s k took speaker executed (mech k);
             work = due.work (spelling accepts whose) meaning s;
             reply = due.reply accepts whose s;
             failure = due.failure (spelling accepts whose) meaning s;
@@ -27,10 +27,10 @@ returns g c =
             rest_holds = rests.holds (spelling accepts whose) meaning s;
           }) k).0;
       holds = λ mech started finished accepts whose s host step ways run first goes k.
-          (both_at _ (words_by _ _ started finished _) accepts whose s host step ways run first goes
-          (record { record_ = asks.record_ mech; work = asks.work; reply = asks.reply; failure = asks.failure; tick = asks.tick })
+          (both_at _ (words_at _ g.M.Mechanism.accepted mech started finished _) accepts whose s host step ways run first goes
+          (record { record_ = λ k. asks.record_ (mech k); work = λ k. asks.work; reply = asks.reply; failure = asks.failure; tick = asks.tick })
           (record {
-            record_ = λ k took speaker executed. due.record_ (spelling accepts whose) meaning s k took speaker executed mech;
+            record_ = λ k took speaker executed. due.record_ (spelling accepts whose) meaning s k took speaker executed (mech k);
             work = due.work (spelling accepts whose) meaning s;
             reply = due.reply accepts whose s;
             failure = due.failure (spelling accepts whose) meaning s;
@@ -39,10 +39,10 @@ returns g c =
             rest_holds = rests.holds (spelling accepts whose) meaning s;
           }) k).1;
       volumes = λ mech started finished accepts whose s host step ways run first goes few k.
-          volume_at _ (words_by _ _ started finished _) accepts whose s host step ways run first goes
-          (record { record_ = asks.record_ mech; work = asks.work; reply = asks.reply; failure = asks.failure; tick = asks.tick })
+          volume_at _ (words_at _ g.M.Mechanism.accepted mech started finished _) accepts whose s host step ways run first goes
+          (record { record_ = λ k. asks.record_ (mech k); work = λ k. asks.work; reply = asks.reply; failure = asks.failure; tick = asks.tick })
           (record {
-            record_ = λ k took speaker executed. due.record_ (spelling accepts whose) meaning s k took speaker executed mech;
+            record_ = λ k took speaker executed. due.record_ (spelling accepts whose) meaning s k took speaker executed (mech k);
             work = due.work (spelling accepts whose) meaning s;
             reply = due.reply accepts whose s;
             failure = due.failure (spelling accepts whose) meaning s;
