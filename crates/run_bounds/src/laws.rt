@@ -20,13 +20,14 @@ ghost use Rattle.run_bounds.specs.Accepted.{AreAccepted};
 use client_laws::{copies_begin_by_command, each_step_counts_one};
 use gss_mech::Mechanism;
 use streams::{CountDraws, Draws};
-use wire_schedule::schedule_lines;
+use wire_schedule::{line_events, schedule_lines};
 
 /// The events of a schedule's text are accepted, and so is each front of accepted ones.
 pub fn schedules_are_accepted()
     ensures whole { (text : List ℕ) (entries : List Entry) → schedule_of text ≡ Ok entries → AreAccepted at_start (events_in entries) }
     ensures fronts { (context : Context) (events : List Numbered) (n : ℕ) → AreAccepted context events → AreAccepted context (take n events) }
 {
+    line_events();
     schedule_lines();
 }
 
