@@ -183,7 +183,7 @@ other_copy begun copy j size last new = by_number (copy == j) refl
         let fifteen : most_copies ≡ 15 = refl in
         let inside : copy < length begun = omega (arith, last, size, sixteen) in
         let small : nat_le j most_copies ≡ true = grind (arith, same, last, sixteen, fifteen) in
-        let there : get_or (set begun copy true) j false ≡ true = get_or-set_at begun j copy true false same inside in
+        let there : get_or (set begun copy true) j false ≡ true = get_or-set_at begun copy j true false same inside in
         let is_true : is_begun (set begun copy true) j ≡ true = ap (λ (b : Bool). b && get_or (set begun copy true) j false) small ∙ there in
         never (sym is_true ∙ new)
     by_number false is =
