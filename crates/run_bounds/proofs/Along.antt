@@ -1,7 +1,6 @@
 -- Along the run of accepted events each act of the client is one that it may make.
-use Rattle.std.proofs.Common.{◌≡◌, ℕ, zero, suc, ◌+◌, ◌*◌, ◌<◌, ◌≤◌, Bool, true, false, List, [], ◌∷◌, ◌++◌, length, Option, Some, None, refl, sym, ap, subst, ◌∙◌, arith}
+use Rattle.std.proofs.Common.{◌≡◌, ℕ, ◌+◌, ◌*◌, ◌<◌, ◌≤◌, Bool, false, List, [], ◌∷◌, ◌++◌, length, Option, Some, None, refl, sym, subst, ◌∙◌, arith}
 use Rattle.std.proofs.lemmas.Option.{same_Some}
-use Rattle.std.specs.Prelude.{◌==◌, drop, slice_get}
 use Rattle.client_core.specs.Endings.{Ways}
 use Rattle.client_core.specs.State.{ClientState}
 use Rattle.client_core.specs.Telling.{copy_of}
@@ -53,7 +52,8 @@ AreBounded begun next (Some act) now c = IsBounded begun next act now c
 
 -- ---- the act of a small step that is asked for
 
-taken_bounded : {M : Type 0} (port : Option Port) (bytes : List ℕ) (begun : List Bool) (now : ℕ) (c : ClientState M) → AreBounded begun begun (taken_at port bytes) now c
+taken_bounded : {M : Type 0} (port : Option Port) (bytes : List ℕ) (begun : List Bool) (now : ℕ) (c : ClientState M)
+    → AreBounded begun begun (taken_at port bytes) now c
 taken_bounded None bytes begun now c = λ j is. is
 taken_bounded (Some (ports.Source conn)) bytes begun now c = λ j is. is
 taken_bounded (Some ports.Dest) bytes begun now c = λ j is. is
@@ -148,7 +148,8 @@ module _ {M : Type 0} (words : Words M ℕ) where
 
     -- ---- along small steps
 
-    step_within : (before : RunWorld M) (s : RunStep M) (begun : List Bool) → IsStep (machines words) before s → IsAsked begun s.event → IsWithin begun before.client
+    step_within : (before : RunWorld M) (s : RunStep M) (begun : List Bool) → IsStep (machines words) before s → IsAsked begun s.event
+        → IsWithin begun before.client
         → StepsWithin (begun_by s.event begun) (act_in s.event before.log) (second_in s.event before.clock) before.client s.after.client
     step_within before s begun step is within =
         does_within (act_in s.event before.log) (second_in s.event before.clock) begun (begun_by s.event begun) before.client s.after.client s.parts.client
@@ -164,8 +165,8 @@ module _ {M : Type 0} (words : Words M ℕ) where
     some_fault fault o is none = absurd (cc)
 
     module _ (read : Reading) where
-      goes_by : (before : RunWorld M) (s : RunStep M) (o : Option Fault) (go_on : List (RunStep M) → Type 0) (steps : List (RunStep M)) (fault : Option Fault) (next : List Bool)
-          → StepMay before s → ((rest : List (RunStep M)) → go_on rest → AreDone next s.after rest fault)
+      goes_by : (before : RunWorld M) (s : RunStep M) (o : Option Fault) (go_on : List (RunStep M) → Type 0) (steps : List (RunStep M)) (fault : Option Fault)
+          (next : List Bool) → StepMay before s → ((rest : List (RunStep M)) → go_on rest → AreDone next s.after rest fault)
           → GoesBy (machines words) read o s go_on steps fault → AreDone next before steps fault
       goes_by before s None go_on steps fault next may later by =
           let rest = later by.0 by.2 in
@@ -185,12 +186,14 @@ module _ {M : Type 0} (words : Words M ℕ) where
           goes_by before s (fault_of (machines words) read before s) _ steps fault (begun_all smalls (begun_by small begun)) one.may
           (λ rest on. goes_within s.after smalls (begun_by small begun) rest fault are.1 next on) goes.3
 
-      all_joined : (before : RunWorld M) (front rest : List (RunStep M)) → AllMay before front → AllMay (after_steps before front) rest → AllMay before (front ++ rest)
+      all_joined : (before : RunWorld M) (front rest : List (RunStep M)) → AllMay before front → AllMay (after_steps before front) rest
+          → AllMay before (front ++ rest)
       all_joined before [] rest one two = two
       all_joined before (s ∷ front) rest one two = (one.0, all_joined s.after front rest one.1 two)
 
-      runs_by : (before : RunWorld M) (o : Option Fault) (line : ℕ) (first : List (RunStep M)) (go_on : List (RunStep M) → Type 0) (steps : List (RunStep M)) (end : End) (next : List Bool)
-          → AreDone next before first o → (IsWithin next (after_steps before first).client → (rest : List (RunStep M)) → go_on rest → AllMay (after_steps before first) rest)
+      runs_by : (before : RunWorld M) (o : Option Fault) (line : ℕ) (first : List (RunStep M)) (go_on : List (RunStep M) → Type 0)
+          (steps : List (RunStep M)) (end : End) (next : List Bool) → AreDone next before first o
+          → (IsWithin next (after_steps before first).client → (rest : List (RunStep M)) → go_on rest → AllMay (after_steps before first) rest)
           → RunsBy (machines words) read o line first go_on steps end → AllMay before steps
       runs_by before None line first go_on steps end next done later by =
           subst (λ (xs : List (RunStep M)). AllMay before xs) (sym by.1) (all_joined before first by.0 done.may (later (done.within refl) by.0 by.2))
@@ -198,7 +201,8 @@ module _ {M : Type 0} (words : Words M ℕ) where
           subst (λ (xs : List (RunStep M)). AllMay before xs) (sym by.0) done.may
 
       event_within : (before : RunWorld M) (context : Context) (event : Event) (steps : List (RunStep M)) (fault : Option Fault) → IsAsked context.begun event
-          → IsWithin context.begun before.client → EventGoes (machines words) read before event steps fault → AreDone (after context event).begun before steps fault
+          → IsWithin context.begun before.client → EventGoes (machines words) read before event steps fault
+          → AreDone (after context event).begun before steps fault
       event_within before context event steps fault is within goes =
           subst (λ (b : List Bool). AreDone b before steps fault) (smalls_begin before context event)
           (goes_within before (small_steps before event) context.begun steps fault (smalls_asked before context event is) within goes)

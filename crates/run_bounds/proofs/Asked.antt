@@ -1,5 +1,5 @@
 -- What an accepted event asks of the client is within its bounds, and what it begins wasn't begun before.
-use Rattle.std.proofs.Common.{◌≡◌, ◌≢◌, ℕ, zero, suc, ◌+◌, ◌<◌, ◌≤◌, ◌^◌, Bool, true, false, List, [], ◌∷◌, length, get_or, set, map, All, Option, Some, None, refl, sym, ap, subst, ◌∙◌, arith, length-set, get_or-set_other}
+use Rattle.std.proofs.Common.{◌≡◌, ◌≢◌, ℕ, ◌<◌, ◌≤◌, Bool, true, false, List, [], ◌∷◌, length, get_or, set, map, All, refl, sym, ap, ◌∙◌, arith, length-set, get_or-set_other}
 use Rattle.std.proofs.lemmas.Bool.{and_parts}
 use Rattle.std.proofs.lemmas.Grind.{get_or-set_at}
 use Rattle.std.proofs.lemmas.List.{get_or_past}
@@ -85,9 +85,10 @@ asked context (events.Copy copy spec) admitted fits =
     let event = events.Copy copy spec in
     let order = and_parts (admission.is_ready context) _ (ordered context event admitted) in
     let new = and_parts (not (admission.has_begun context copy)) _ order.1 in
-    let spec_fits = fits.1 in
-    (new_copy context copy (within context event admitted) (is_not (admission.has_begun context copy) new.0),
-    record { src_file = spec_fits.src_file; src_off = spec_fits.src_off; dst_file = spec_fits.dst_file; dst_off = spec_fits.dst_off; count = spec_fits.count })
+    let spec_fits = fits.1 in (
+      new_copy context copy (within context event admitted) (is_not (admission.has_begun context copy) new.0),
+      record { src_file = spec_fits.src_file; src_off = spec_fits.src_off; dst_file = spec_fits.dst_file; dst_off = spec_fits.dst_off; count = spec_fits.count },
+    )
 asked context (events.Status copy) admitted fits = few_copies copy (within context (events.Status copy) admitted)
 asked context (events.Cancel copy) admitted fits = few_copies copy (within context (events.Cancel copy) admitted)
 asked context (events.Volume side files blocks) admitted fits = tt

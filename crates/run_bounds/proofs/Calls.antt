@@ -17,7 +17,7 @@ use Rattle.client_copies.specs.declared.told.Said.{Said}
 use Rattle.client_copies.specs.declared.told.Said.TheVariants.{Nothing, One, Two}
 use Rattle.client_core.specs.Commands.{asked_if}
 use Rattle.client_site.specs.declared.site.Site.{Site}
-use Rattle.client_steps.specs.Calling.{again_sent, call_sent, create_if, create_sent}
+use Rattle.client_steps.specs.Calling.{again_sent, call_sent, create_if}
 use Rattle.client_steps.specs.Commands as commands
 use Rattle.client_steps.specs.Commands.{copies_again, copy_label, ticked}
 use Rattle.client_steps.specs.CopySteps as copying

@@ -1,11 +1,10 @@
 -- The client at each moment of the run of accepted events.
-use Rattle.std.proofs.Common.{◌≡◌, ℕ, zero, suc, ◌<◌, ◌≤◌, Bool, true, false, List, [], ◌∷◌, get_or, length, replicate, Option, Some, None, refl, sym, ap, subst, ◌∙◌, arith}
+use Rattle.std.proofs.Common.{◌≡◌, ℕ, zero, suc, ◌<◌, Bool, true, false, List, [], ◌∷◌, Option, Some, None, refl, sym, subst, arith}
 use Rattle.std.proofs.lemmas.List.{get_or-replicate}
 use Rattle.std.specs.Prelude.{drop, nat_lt, slice_get}
-use Rattle.client_copies.specs.declared.copy.ClientCopy.{ClientCopy}
 use Rattle.client_copies.specs.declared.table.TheConstants.{MOST_COPIES}
-use Rattle.client_core.specs.State.{ClientState, new_client}
-use Rattle.client_core.specs.Telling.{copy_if, copy_of}
+use Rattle.client_core.specs.State.{new_client}
+use Rattle.client_core.specs.Telling.{copy_if}
 use Rattle.client_steps.specs.declared.setting.Setting.{Setting}
 use Rattle.run_clients.specs.Along.{MayAct, MayGo, act_by, client_at, codes_of, run_at, second_by}
 use Rattle.run_system.specs.Moments.{made_at}
@@ -50,7 +49,7 @@ module _ {M : Type 0} (words : Words M ℕ) (spell : Spelling) (meaning : Meanin
       subst (λ (xs : List (RunStep M)). AllMay (run_at words spell meaning first steps (suc k)) xs) (sym (drop_past steps k is)) tt
   rest_next k (Some s) is here =
       let both : AllMay (run_at words spell meaning first steps k) (s ∷ drop (suc k) steps) =
-          subst (λ (xs : List (RunStep M)). AllMay (run_at words spell meaning first steps k) xs) (drop_one steps k s is) here in
+      subst (λ (xs : List (RunStep M)). AllMay (run_at words spell meaning first steps k) xs) (drop_one steps k s is) here in
       subst (λ (w : RunWorld M). AllMay w (drop (suc k) steps))
       (sym (made_at (machines words) (telling (codes_of words)) spell meaning first steps k s are is).after) both.1
 
@@ -59,12 +58,14 @@ module _ {M : Type 0} (words : Words M ℕ) (spell : Spelling) (meaning : Meanin
   rest_at (suc k) = rest_next k (slice_get steps k) refl (rest_at k)
 
   may_by : (k : ℕ) (o : Option (RunStep M)) (act : ClientAct) → slice_get steps k ≡ o → act_by o (run_at words spell meaning first steps k) ≡ Some act
-      → MayAct act (second_by o (run_at words spell meaning first steps k)) (client_at words spell meaning first steps k) (client_at words spell meaning first steps (suc k))
+      → MayAct act (second_by o (run_at words spell meaning first steps k)) (client_at words spell meaning first steps k)
+      (client_at words spell meaning first steps (suc k))
   may_by k None act is acts = absurd (cc)
   may_by k (Some s) act is acts =
       let both : AllMay (run_at words spell meaning first steps k) (s ∷ drop (suc k) steps) =
-          subst (λ (xs : List (RunStep M)). AllMay (run_at words spell meaning first steps k) xs) (drop_one steps k s is) (rest_at k) in
-      subst (λ (w : RunWorld M). MayAct act (second_by (Some s) (run_at words spell meaning first steps k)) (client_at words spell meaning first steps k) w.client)
+      subst (λ (xs : List (RunStep M)). AllMay (run_at words spell meaning first steps k) xs) (drop_one steps k s is) (rest_at k) in
+      subst (λ (w : RunWorld M). MayAct act (second_by (Some s) (run_at words spell meaning first steps k))
+      (client_at words spell meaning first steps k) w.client)
       (sym (made_at (machines words) (telling (codes_of words)) spell meaning first steps k s are is).after) (both.0 act acts)
 
   pub may_go : MayGo words spell meaning first steps

@@ -1,5 +1,5 @@
 -- The events of a schedule are accepted, and so is a front of accepted ones.
-use Rattle.std.proofs.Common.{◌≡◌, ℕ, zero, suc, ◌<◌, ◌^◌, true, List, [], ◌∷◌, ◌++◌, take, IsTrue, lit<}
+use Rattle.std.proofs.Common.{◌≡◌, ℕ, zero, suc, true, List, [], ◌∷◌, ◌++◌, take, IsTrue, lit<}
 use Rattle.std.proofs.lemmas.Bool.{and_parts}
 use Rattle.std.specs.List.{AllByRecursion}
 use Rattle.wire_machine.specs.Runs.{Numbered, events_in, numbered}
@@ -31,8 +31,8 @@ line_fits (Rounds times) fits = rounds_fit times
 
 -- ---- line by line
 
-line_accepted : (context : Context) (line : ℕ) (events : List Event) (others : List Numbered) → are_admitted context events ≡ true → AllByRecursion EventFits events
-    → AreAccepted (after_all context events) others → AreAccepted context (numbered line events ++ others)
+line_accepted : (context : Context) (line : ℕ) (events : List Event) (others : List Numbered) → are_admitted context events ≡ true
+    → AllByRecursion EventFits events → AreAccepted (after_all context events) others → AreAccepted context (numbered line events ++ others)
 line_accepted context line [] others admitted fits more = more
 line_accepted context line (event ∷ events) others admitted fits more =
     let parts = and_parts (admits context event) (are_admitted (after context event) events) admitted in

@@ -1,11 +1,10 @@
 -- How many calls a client's step makes at most.
-use Rattle.std.proofs.Common.{◌≡◌, ℕ, ◌+◌, ◌≤◌, Bool, true, false, List, [], ◌∷◌, Option, Some, None, Result, Ok, Err, refl, sym, ap, subst, arith, ◌∙◌}
+use Rattle.std.proofs.Common.{◌≡◌, ℕ, ◌+◌, ◌≤◌, Bool, true, false, List, [], ◌∷◌, Option, Some, None, Result, Ok, Err, refl, sym, subst, arith}
 use Rattle.std.proofs.lemmas.Option.{same_Some}
 use Rattle.std.specs.Prelude.{◌==◌, nat_lt}
 use Rattle.callbacks.specs.Callbacks.{Outcome, evaluated}
 use Rattle.callbacks.specs.declared.evaluation.Told.{Told}
 use Rattle.client_copies.specs.Table.{accepted_at}
-use Rattle.client_copies.specs.declared.copy.Query.{Query}
 use Rattle.client_copies.specs.declared.event.Event.TheVariants as events
 use Rattle.client_copies.specs.declared.table.TheConstants.{MOST_COPIES}
 use Rattle.client_core.specs.Callbacks.{IsCompound, all_said, called_back, session_under, told_of}
@@ -159,7 +158,9 @@ begun_one o side a one = and_then one (unless_none o.0 side (with_desk o.1 a))
 
 begins_one : (b : Bool) (nonce : List ℕ) (token : Option (List ℕ)) (side : Side) (a : Acting) → Calls 1 a.desk (acts.begins_if b nonce token side a).desk
 begins_one false nonce token side a = at_most 1
-begins_one true nonce token side a = begun_one (begin_sent nonce token side a.desk) side a (put_one side labels.Init (begun_in (send_at 0 a.desk) nonce token (site_at side a.desk)) a.desk)
+begins_one true nonce token side a =
+    begun_one (begin_sent nonce token side a.desk) side a
+    (put_one side labels.Init (begun_in (send_at 0 a.desk) nonce token (site_at side a.desk)) a.desk)
 
 -- ---- what was done goes on
 
@@ -173,7 +174,8 @@ module _ {M : Type 0} (s : Setting M) (mic : Mic) (started : List ℕ → Option
   drawn_few side (Got nonce) a b is = subst (λ (x : Acting). Calls 18 a.desk x.desk) (sym (same_Some b _ is)) (begins_few nonce side a)
   drawn_few side Failed a b is = absurd (cc)
 
-  goes_few : {W : Type 0} (o : Option Side) (gives : W → Drawn → W → Type 0) (a b : Acting) (v w : W) → GoesOnAt o s mic started gives a v w (Some b) → Calls 18 a.desk b.desk
+  goes_few : {W : Type 0} (o : Option Side) (gives : W → Drawn → W → Type 0) (a b : Acting) (v w : W) → GoesOnAt o s mic started gives a v w (Some b)
+      → Calls 18 a.desk b.desk
   goes_few None gives a b v w on = subst (λ (x : Acting). Calls 18 a.desk x.desk) (sym (same_Some b _ on.0)) (wider 1 (all_few s mic a))
   goes_few (Some side) gives a b v w on = drawn_few side on.0 a b on.2
 
@@ -199,7 +201,8 @@ session_one mic me free side d =
     and_then (step_one mic me side (back_channel free (site_at side d)) (labels.Operation OP_CREATE_SESSION) d)
     (back_if_none o.0 free (replies.root_key (root_context (site_at side d).mount)) side o.1)
   where
-    step_one : (mic : Mic) (me : List ℕ) (side : Side) (back : Option BackChannel) (label : CallLabel) (d : Desk) → Calls 1 d (step_sent mic me side back label d).1
+    step_one : (mic : Mic) (me : List ℕ) (side : Side) (back : Option BackChannel) (label : CallLabel) (d : Desk)
+        → Calls 1 d (step_sent mic me side back label d).1
     step_one mic me side back label d = put_one side label (stepped_at mic (send_at 0 d) me back (site_at side d)) d
 
 setup_by_one : (setup : Setup) (mic : Mic) (me : List ℕ) (free : Option ℕ) (side : Side) (d : Desk) → Calls 1 d (replies.setup_by setup mic me free side d)
@@ -215,10 +218,12 @@ opener_none false side place a = told_none place (events.Opened side) a.desk
 
 opened_none : (side : Side) (place : ℕ) (opened_file : OpenFile) (a : Acting) → Calls 0 a.desk (replies.opened side place opened_file a).desk
 opened_none side place opened_file a =
-    and_then (site_none side (with_file opened_file (site_at side a.desk)) a.desk) (opener_none (place == 0) side place (on_desk (replies.file_added side opened_file) a))
+    and_then (site_none side (with_file opened_file (site_at side a.desk)) a.desk)
+    (opener_none (place == 0) side place (on_desk (replies.file_added side opened_file) a))
 
 started_none : (j : ℕ) (id : StateId) (sent_at : ℕ) (d : Desk) → Calls 0 d (replies.started j id sent_at d)
-started_none j id sent_at d = and_then (no_call refl) (said_none j (accepted_at j id sent_at d.copies).0 (record d { copies = (accepted_at j id sent_at d.copies).1 }))
+started_none j id sent_at d =
+    and_then (no_call refl) (said_none j (accepted_at j id sent_at d.copies).0 (record d { copies = (accepted_at j id sent_at d.copies).1 }))
 
 done_one : (deed : Deed) (mic : Mic) (me : List ℕ) (free : Option ℕ) (side : Side) (place sent_at : ℕ) (a : Acting)
     → Calls 1 a.desk (replies.done deed mic me free side place sent_at a).desk
@@ -240,7 +245,8 @@ answered_one setting_up mic me free side (Some found) a =
 taken_none : (means : Means) (message : List ℕ) (side : Side) (d : Desk) → Calls 0 d (replies.taken means message side d).1
 taken_none means message side d = site_none side (found_in means message (site_at side d)).1 d
 
-replied_one : (means : Means) (me : List ℕ) (free : Option ℕ) (side : Side) (message : List ℕ) (a : Acting) → Calls 1 a.desk (replies.replied means me free side message a).desk
+replied_one : (means : Means) (me : List ℕ) (free : Option ℕ) (side : Side) (message : List ℕ) (a : Acting)
+    → Calls 1 a.desk (replies.replied means me free side message a).desk
 replied_one means me free side message a =
     let o = replies.taken means message side a.desk in
     and_then (taken_none means message side a.desk)
@@ -286,8 +292,8 @@ module _ {M W : Type 0} (ways : Ways) (gives : W → Drawn → W → Type 0) whe
   ended_few does back now c v w (Some a) before on =
       at_desk 15 now (and_then before (goes_few c.setting ways.means.mic ways.started (to_begin does) gives does a v w on)) refl
 
-  step_few : (does : Acting) (back : Acting → ContextTable ℕ) (now : ℕ) (c : ClientState M) (v w : W) (end : ClientState M × Outbox) → Calls 1 (desk_at now c) does.desk
-      → IsStep ways gives does back c v w end → CallsFew 34 c end.0
+  step_few : (does : Acting) (back : Acting → ContextTable ℕ) (now : ℕ) (c : ClientState M) (v w : W) (end : ClientState M × Outbox)
+      → Calls 1 (desk_at now c) does.desk → IsStep ways gives does back c v w end → CallsFew 34 c end.0
   step_few does back now c v w end before step =
       subst (λ (e : ClientState M × Outbox). CallsFew 34 c e.0) (sym step.is) (ended_few does back now c v w step.to before step.goes_on)
 
@@ -310,7 +316,8 @@ module _ {M W : Type 0} (ways : Ways) (gives : W → Drawn → W → Type 0) whe
   inited_few true second side told back c = rested refl
   inited_few false second side told back c = rested refl
 
-  created_few : (misspelt : Bool) (mic : Mic) (second : ℕ) (side : Side) (call : Call) (c : ClientState M) → CallsFew 34 c (created misspelt mic second side call c).0
+  created_few : (misspelt : Bool) (mic : Mic) (second : ℕ) (side : Side) (call : Call) (c : ClientState M)
+      → CallsFew 34 c (created misspelt mic second side call c).0
   created_few true mic second side call c = rested refl
   created_few false mic second side call c = rested refl
 

@@ -40,7 +40,8 @@ pub fn each_step_calls_few<M, W: Draws>()
 /// Along the run of accepted events, from a new client on, each act of the client is one that it may make, is within its bounds, and
 /// leaves an xid for the next call.
 pub fn clients_may_go<M: Mechanism>()
-    ensures { (read : Reading) (spell : Spelling) (meaning : Meaning) (s : Setting M) (first : RunWorld M) (events : List Numbered) (steps : List (RunStep M)) (end : End)
+    ensures { (read : Reading) (spell : Spelling) (meaning : Meaning) (s : Setting M) (first : RunWorld M) (events : List Numbered)
+        (steps : List (RunStep M)) (end : End)
         → AreAccepted at_start events → first.client ≡ new_client s
         → Runs (run_machines M.mic_of M.derived M.started M.accepted M.finished) read first events steps end
         → MayGo (words_of M.mic_of M.derived M.started M.accepted M.finished count_gives) spell meaning first steps }
