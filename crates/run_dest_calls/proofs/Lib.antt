@@ -1,0 +1,3 @@
+mod DestSteps
+mod RunSteps
+mod Runs
