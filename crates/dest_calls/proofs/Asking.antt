@@ -1,6 +1,6 @@
 -- What is due in a worker's turn: nothing that changes its mount, or a call that the mount may send.
 use Rattle.std.proofs.Common.{◌≡◌, ◌⊎◌, inl, inr, ℕ, ◌+◌, ◌-◌, ◌<◌, ◌≤◌, Bool, true, false, List, length, Option, Some, None, refl, ap, subst, arith}
-use Rattle.std.proofs.lemmas.Bool.{and_parts, lt-ltb}
+use Rattle.std.proofs.lemmas.Bool.{and_parts, leb-true, lt-ltb, ltb-true}
 use Rattle.std.specs.Prelude.{◌^◌, is_none, is_some, nat_le, nat_lt, if◌then◌else◌}
 use Rattle.caller_laws.specs.Good.{Identity}
 use Rattle.caller_laws.specs.Lawful.{Suits}
@@ -25,6 +25,7 @@ use Rattle.dest_work.specs.declared.work.Due.{Due}
 use Rattle.dest_work.specs.declared.work.Due.TheVariants as dues
 use Rattle.dest_work.specs.declared.work.Work.{Work}
 use Rattle.gss_ctx.specs.Seals.{Mic}
+use Rattle.gss_mech.specs.declared.mechanism.TheConstants.{INITIATOR}
 use Rattle.job_book.specs.Book.{BookView, id_of, named}
 use Rattle.job_log.specs.declared.chunk.Chunk.{Chunk}
 use Rattle.job_table.specs.declared.job.Job.{Job}
@@ -37,22 +38,28 @@ use Rattle.mount.specs.declared.machine.SendAt.{SendAt}
 use Rattle.mount.specs.declared.machine.Sent.{Sent}
 use Rattle.mount.specs.declared.state.Awaiting.{Awaiting}
 use Rattle.mount.specs.declared.state.Context.{Context}
+use Rattle.mount_fits.specs.Asking.{SlotCallIsFit}
+use Rattle.mount_fits.specs.Bounds.{TextFits}
+use Rattle.mount_fits.specs.Moving.{GivesBytes, SendIsFit}
 use Rattle.mount_runs.specs.Order.{is_anew}
 use Rattle.nfs_base.specs.declared.job.JobName.{JobName}
-use Rattle.nfs_base.specs.declared.limits.TheConstants.{NAME_LIMIT, PRIVILEGE_LIMIT}
+use Rattle.nfs_base.specs.declared.limits.TheConstants.{MOST_JOBS, NAME_LIMIT, PRIVILEGE_LIMIT}
 use Rattle.sess_slots.specs.Table.{SessionTable}
 use Rattle.session_calls.specs.declared.slot_call.FileCall.{FileCall}
 use Rattle.session_calls.specs.declared.slot_call.SlotCall.TheVariants.{OnFile}
 use Rattle.session_client.specs.declared.setup.Setup.{Setup}
 use Rattle.session_client.specs.declared.setup.Setup.TheVariants as setups
+use Rattle.wire_xdr.specs.Cursor.{IsBytes}
 use Rattle.dest_calls.proofs.GivenOut.{claimed_given, found_given}
+use Rattle.dest_calls.proofs.Plans.{ReadsShort, after_fit, confirm_are, confirm_named, found_fit, task_short}
+use Rattle.dest_calls.specs.Fits.{PlanIsFit, PlansAreFit}
 use Rattle.dest_calls.specs.Settled.{AreGivenOut}
 
 -- a task is for a job whose call, once it goes out, is ready
 abbrev pub IsReady : (made : ℕ) → JobName → Errand → Type 0
 IsReady made job errand = ready_by made (errand_purpose job errand) ≡ true
 
-module _ (who : Identity) (mic : Mic) (at : SendAt) (me : List ℕ) (w : Work) where
+module _ (fit : Type 0) (who : Identity) (mic : Mic) (at : SendAt) (me : List ℕ) (w : Work) where
   pub record IsQuiet (told : Due × Work) : Type 0 where
     pub work : told.1 ≡ w
     pub unasked : (errand : Errand) (sent : Sent) → told.0 ≡ dues.Asked errand sent → ⊥
@@ -69,6 +76,7 @@ module _ (who : Identity) (mic : Mic) (at : SendAt) (me : List ℕ) (w : Work) w
     pub anew : is_anew (Sends at send) ≡ true
     pub suits : (above : Above) → above.ready (above.purpose at.place) ≡ true → Suits who above w.mount at send
     pub ready : IsReady made job errand
+    pub sends : fit → SendIsFit send
 
   abbrev pub Does : (made : ℕ) → Due × Work → Type 0
   Does made told = IsQuiet told ⊎ IsCall made told
@@ -76,11 +84,12 @@ module _ (who : Identity) (mic : Mic) (at : SendAt) (me : List ℕ) (w : Work) w
   rests : (made : ℕ) → Does made (dues.Rest, w)
   rests made = inl (record { work = refl; unasked = λ errand sent e. absurd cc; begins = λ job e. absurd cc })
 
-  module _ (went : (send : Send) → Went at w.mount (sent_by mic at send w.mount)) (free : awaited_at w.mount at.place ≡ None) (made : ℕ) where
+  module _ (went : (send : Send) → Went at w.mount (sent_by mic at send w.mount)) (free : awaited_at w.mount at.place ≡ None) (made : ℕ)
+      (spells : fit → GivesBytes mic) (me_fits : fit → TextFits NAME_LIMIT me) where
     asked_does : (job : JobName) (errand : Errand) (send : Send) → is_anew (Sends at send) ≡ true
-        → ((above : Above) → above.ready (above.purpose at.place) ≡ true → Suits who above w.mount at send) → IsReady made job errand
-        → Does made (works.asked_by at.place job errand (sent_by mic at send w.mount) w)
-    asked_does job errand send anew suits ready = by (sent_by mic at send w.mount).0 refl
+        → ((above : Above) → above.ready (above.purpose at.place) ≡ true → Suits who above w.mount at send) → (fit → SendIsFit send)
+        → IsReady made job errand → Does made (works.asked_by at.place job errand (sent_by mic at send w.mount) w)
+    asked_does job errand send anew suits sends ready = by (sent_by mic at send w.mount).0 refl
       where
         by : (o : Option Sent) → (sent_by mic at send w.mount).0 ≡ o → Does made (works.asked at.place job errand o (with_mount (sent_by mic at send w.mount).1 w))
         by None is =
@@ -88,7 +97,7 @@ module _ (who : Identity) (mic : Mic) (at : SendAt) (me : List ℕ) (w : Work) w
             subst (λ (o : Option Sent). Goes at w.mount o (sent_by mic at send w.mount).1) is (went send) in
             inl (record { work = ap (λ (m : Mounted). with_mount m w) same; unasked = λ errand sent e. absurd cc; begins = λ job e. absurd cc })
         by (Some sent) is =
-            inr (record { send = send; errand = errand; job = job; sent = sent; goes = is; due = refl; work = refl; anew = anew; suits = suits; ready = ready })
+            inr (record { send = send; errand = errand; job = job; sent = sent; goes = is; due = refl; work = refl; anew = anew; suits = suits; ready = ready; sends = sends })
 
     nothing_asked : (job : JobName) (errand : Errand) → Does made (works.asked_by at.place job errand (None, w.mount) w)
     nothing_asked job errand = rests made
@@ -104,11 +113,11 @@ module _ (who : Identity) (mic : Mic) (at : SendAt) (me : List ℕ) (w : Work) w
 
     step_does : (job : JobName) → is_setting_up w.mount ≡ false → (setup : Setup)
         → Does made (works.asked_by at.place job errands.Setup (sendings.step_by setup mic at me w.mount) w)
-    step_does job alone setups.Down = asked_does job errands.Setup BeginAnew refl (λ above ready. (free, alone)) refl
-    step_does job alone (setups.Rooted nonce) = asked_does job errands.Setup (SetUp me None) refl (λ above ready. (free, alone)) refl
-    step_does job alone (setups.Registered client sequence) = asked_does job errands.Setup (SetUp me None) refl (λ above ready. (free, alone)) refl
-    step_does job alone (setups.Joined client session) = asked_does job errands.Setup (SetUp me None) refl (λ above ready. (free, alone)) refl
-    step_does job alone (setups.Up client session) = asked_does job errands.Setup (SetUp me None) refl (λ above ready. (free, alone)) refl
+    step_does job alone setups.Down = asked_does job errands.Setup BeginAnew refl (λ above ready. (free, alone)) (λ f. tt) refl
+    step_does job alone (setups.Rooted nonce) = asked_does job errands.Setup (SetUp me None) refl (λ above ready. (free, alone)) (λ f. (me_fits f, tt)) refl
+    step_does job alone (setups.Registered client sequence) = asked_does job errands.Setup (SetUp me None) refl (λ above ready. (free, alone)) (λ f. (me_fits f, tt)) refl
+    step_does job alone (setups.Joined client session) = asked_does job errands.Setup (SetUp me None) refl (λ above ready. (free, alone)) (λ f. (me_fits f, tt)) refl
+    step_does job alone (setups.Up client session) = asked_does job errands.Setup (SetUp me None) refl (λ above ready. (free, alone)) (λ f. (me_fits f, tt)) refl
 
     setup_does : (job : JobName) → Does made (works.set_up mic at me job w)
     setup_does job = by (is_setting_up w.mount) refl
@@ -132,8 +141,9 @@ module _ (who : Identity) (mic : Mic) (at : SendAt) (me : List ℕ) (w : Work) w
 
     -- ---- what is asked for a job that has a seat and a plan
 
-    module _ (b : BookView) (given : AreGivenOut b.table) (counted : b.table.made ≡ made) where
-      planned : (job : JobName) (go : ℕ → Plan → Due × Work) → ((seat : ℕ) (plan : Plan) → (0 < job.number) × (job.number ≤ made) → Does made (go seat plan))
+    module _ (b : BookView) (given : AreGivenOut b.table) (counted : b.table.made ≡ made) (plans : fit → PlansAreFit b.table) where
+      planned : (job : JobName) (go : ℕ → Plan → Due × Work)
+          → ((seat : ℕ) (plan : Plan) → (fit → PlanIsFit plan) → (0 < job.number) × (job.number ≤ made) → Does made (go seat plan))
           → Does made (works.for_job job go b w)
       planned job go does = by (seat_of job.number w.seats) (named b.table job) refl
         where
@@ -142,7 +152,7 @@ module _ (who : Identity) (mic : Mic) (at : SendAt) (me : List ℕ) (w : Work) w
           by (Some seat) None is = rests made
           by (Some seat) (Some own) is =
               let out = found_given b.table.made b.table.boot (id_of job) b.table.jobs own given is in
-              does seat own.plan (subst (λ (x : ℕ). (0 < job.number) × (job.number ≤ x)) counted out)
+              does seat own.plan (λ f. found_fit b.table.boot (id_of job) b.table.jobs own (plans f) is) (subst (λ (x : ℕ). (0 < job.number) × (job.number ≤ x)) counted out)
 
       is_ready : (job : JobName) → (0 < job.number) × (job.number ≤ made) → nat_lt (place_of job) made ≡ true
       is_ready job out =
@@ -152,49 +162,58 @@ module _ (who : Identity) (mic : Mic) (at : SendAt) (me : List ℕ) (w : Work) w
           lt-ltb (job.number - 1) made below
 
       created_does : (job : JobName) (seat : ℕ) (privilege : Privilege)
+          → (fit → IsBytes (privilege_spell privilege) × TextFits NAME_LIMIT (privilege_name privilege))
           → Does made (works.asked_by at.place job errands.Confirm (sendings.created_by mic at seat privilege w.mount) w)
-      created_does job seat privilege = by (nat_le (length (privilege_spell privilege)) PRIVILEGE_LIMIT)
+      created_does job seat privilege fits = by (nat_le (length (privilege_spell privilege)) PRIVILEGE_LIMIT) refl
         where
-          by : (o : Bool) → Does made (works.asked_by at.place job errands.Confirm
+          by : (o : Bool) → nat_le (length (privilege_spell privilege)) PRIVILEGE_LIMIT ≡ o → Does made (works.asked_by at.place job errands.Confirm
               (if o then child_asked mic at seat (privilege_name privilege) (privilege_spell privilege) w.mount else (None, w.mount)) w)
-          by true = asked_does job errands.Confirm (Make seat (privilege_name privilege) (privilege_spell privilege)) refl (λ above ready. free) refl
-          by false = rests made
+          by true short =
+              asked_does job errands.Confirm (Make seat (privilege_name privilege) (privilege_spell privilege)) refl (λ above ready. free)
+              (λ f. ((fits f).1, record { short = leb-true (length (privilege_spell privilege)) PRIVILEGE_LIMIT short; are_bytes = (fits f).0 })) refl
+          by false short = rests made
 
-      confirmed_does : (job : JobName) (seat : ℕ) (plan : Plan) (o : Option Context)
+      confirmed_does : (job : JobName) (seat : ℕ) (plan : Plan) → (fit → PlanIsFit plan) → (o : Option Context)
           → Does made (works.asked_by at.place job errands.Confirm (sendings.confirmed_under mic at seat plan o w.mount) w)
-      confirmed_does job seat plan None = rests made
-      confirmed_does job seat plan (Some root) = created_does job seat (sendings.privilege_of mic root.key plan)
+      confirmed_does job seat plan fits None = rests made
+      confirmed_does job seat plan fits (Some root) =
+          created_does job seat (sendings.privilege_of mic root.key plan)
+          (λ f. (confirm_are (mic root.key INITIATOR plan.secret) plan.user (spells f root.key INITIATOR plan.secret) (fits f).user, confirm_named))
 
-      confirm_at : (job : JobName) (seat : ℕ) (plan : Plan) → Does made (works.asked_by at.place job errands.Confirm (sendings.confirm_sent mic at seat plan w.mount) w)
-      confirm_at job seat plan = by (nat_le (length plan.user) NAME_LIMIT)
+      confirm_at : (job : JobName) (seat : ℕ) (plan : Plan) → (fit → PlanIsFit plan) → Does made (works.asked_by at.place job errands.Confirm (sendings.confirm_sent mic at seat plan w.mount) w)
+      confirm_at job seat plan fits = by (nat_le (length plan.user) NAME_LIMIT)
         where
           by : (o : Bool) → Does made (works.asked_by at.place job errands.Confirm
               (if o then sendings.confirmed_under mic at seat plan (root_context w.mount) w.mount else (None, w.mount)) w)
-          by true = confirmed_does job seat plan (root_context w.mount)
+          by true = confirmed_does job seat plan fits (root_context w.mount)
           by false = rests made
 
-      call_does : (job : JobName) (errand : Errand) (seat : ℕ) (plan : Plan) (call : FileCall) → IsReady made job errand
+      call_does : (job : JobName) (errand : Errand) (seat : ℕ) (plan : Plan) (call : FileCall) → (fit → SlotCallIsFit (OnFile plan.source call)) → IsReady made job errand
           → Does made (works.asked_by at.place job errand (sendings.call_sent mic at seat plan call w.mount) w)
-      call_does job errand seat plan call ready = asked_does job errand (InSlot (Child seat) (OnFile plan.source call)) refl (λ above goes. (free, goes)) ready
+      call_does job errand seat plan call fits ready = asked_does job errand (InSlot (Child seat) (OnFile plan.source call)) refl (λ above goes. (free, goes)) fits ready
 
-      read_does : (job : JobName) (chunk : Chunk) (seat : ℕ) (plan : Plan) → (0 < job.number) × (job.number ≤ made) → Does made (works.read_at mic at job chunk seat plan w)
-      read_does job chunk seat plan out = by (nat_lt (plan.src_off + chunk.off) (2 ^ 64))
+      read_does : (job : JobName) (chunk : Chunk) (seat : ℕ) (plan : Plan) → chunk.len < 2 ^ 32 → (fit → PlanIsFit plan) → (0 < job.number) × (job.number ≤ made)
+          → Does made (works.read_at mic at job chunk seat plan w)
+      read_does job chunk seat plan short fits out = by (nat_lt (plan.src_off + chunk.off) (2 ^ 64)) refl
         where
-          by : (o : Bool) → Does made (if o
+          by : (o : Bool) → nat_lt (plan.src_off + chunk.off) (2 ^ 64) ≡ o → Does made (if o
               then works.asked_by at.place job (errands.Bytes chunk) (sendings.call_sent mic at seat plan (sendings.read_call plan chunk) w.mount) w
               else (dues.Rest, w))
-          by true = call_does job (errands.Bytes chunk) seat plan (sendings.read_call plan chunk) (is_ready job out)
-          by false = rests made
+          by true below =
+              call_does job (errands.Bytes chunk) seat plan (sendings.read_call plan chunk)
+              (λ f. ((fits f).source, ((fits f).src_id, ltb-true (plan.src_off + chunk.off) (2 ^ 64) below, short))) (is_ready job out)
+          by false below = rests made
 
       -- ---- a task
 
-      task_does : (task : Option Task) → Does made (works.by_task mic at me task w b).told
-      task_does None = rests made
-      task_does (Some (tasks.Setup job)) = setup_does job
-      task_does (Some (tasks.Confirm job)) = planned job _ (λ seat plan out. confirm_at job seat plan)
-      task_does (Some (tasks.Size job)) = planned job _ (λ seat plan out. call_does job errands.Size seat plan sendings.size_call (is_ready job out))
-      task_does (Some (tasks.Read job chunk)) = planned job _ (λ seat plan out. read_does job chunk seat plan out)
-      task_does (Some (tasks.Commit job)) = inl (record { work = refl; unasked = λ errand sent e. absurd cc; begins = λ other e. absurd cc })
+      task_does : (task : Option Task) → ReadsShort task → Does made (works.by_task mic at me task w b).told
+      task_does None short = rests made
+      task_does (Some (tasks.Setup job)) short = setup_does job
+      task_does (Some (tasks.Confirm job)) short = planned job _ (λ seat plan fits out. confirm_at job seat plan fits)
+      task_does (Some (tasks.Size job)) short =
+          planned job _ (λ seat plan fits out. call_does job errands.Size seat plan sendings.size_call (λ f. ((fits f).source, tt)) (is_ready job out))
+      task_does (Some (tasks.Read job chunk)) short = planned job _ (λ seat plan fits out. read_does job chunk seat plan short fits out)
+      task_does (Some (tasks.Commit job)) short = inl (record { work = refl; unasked = λ errand sent e. absurd cc; begins = λ other e. absurd cc })
 
   after_given : (task : Option Task) (b : BookView) → AreGivenOut b.table → AreGivenOut (after_task task b).table
   after_given None b given = given
@@ -223,8 +242,9 @@ module _ (who : Identity) (mic : Mic) (at : SendAt) (me : List ℕ) (w : Work) w
   asks_nothing (Some a) e = absurd cc
 
   pub turn_does : ((send : Send) → Went at w.mount (sent_by mic at send w.mount)) → (sessions : SessionTable) (b : BookView) → AreGivenOut b.table
+      → (fit → GivesBytes mic) → (fit → TextFits NAME_LIMIT me) → (fit → PlansAreFit b.table)
       → IsTurned b.table.made (works.turn mic at me sessions w b).told
-  turn_does went sessions b given =
+  turn_does went sessions b given spells me_fits plans =
       by (is_some (awaited_at w.mount at.place)) (holds (post_at w.workers at.place)) (has_numbers w.mount.standing at.place) refl
     where
       by : (awaits holding left : Bool) → is_some (awaited_at w.mount at.place) ≡ awaits
@@ -239,4 +259,9 @@ module _ (who : Identity) (mic : Mic) (at : SendAt) (me : List ℕ) (w : Work) w
       by false false true is =
           let free = asks_nothing (awaited_at w.mount at.place) is in
           let doing = task_at sessions at.now w b in
-          record { does = task_does went free b.table.made (after_task doing b) (after_given doing b given) (after_made doing b) doing; lands = λ e. free; free = λ call. free }
+          record {
+            does = task_does went free b.table.made spells me_fits (after_task doing b) (after_given doing b given) (after_made doing b)
+                (λ f. after_fit doing b (plans f)) doing (task_short _ MOST_JOBS 0 b);
+            lands = λ e. free;
+            free = λ call. free;
+          }

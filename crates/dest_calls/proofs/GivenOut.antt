@@ -20,7 +20,7 @@ use Rattle.nfs_base.specs.declared.job.JobName.{JobName}
 use Rattle.dest_calls.proofs.Callbacks.{all_filter, all_more}
 use Rattle.dest_calls.specs.Settled.{AreGivenOut, IsGivenOut}
 
-chosen : (b : Bool) (first job : Job) (rest : Option Job) → (if b then Some first else rest) ≡ Some job → ((b ≡ true) × (first ≡ job)) ⊎ (rest ≡ Some job)
+pub chosen : (b : Bool) (first job : Job) (rest : Option Job) → (if b then Some first else rest) ≡ Some job → ((b ≡ true) × (first ≡ job)) ⊎ (rest ≡ Some job)
 chosen true first job rest e = inl (refl, cc)
 chosen false first job rest e = inr e
 
@@ -39,24 +39,19 @@ found_given made boot id (first ∷ jobs) job all is =
       | inr later ↦ found_given made boot id jobs job all.1 later
     ]
 
--- another log leaves the number
-pub changed_given : (made : ℕ) (test : Job → Bool) (f : Job → Job) → ((job : Job) → (f job).number ≡ job.number) → (jobs : List Job) → AllByRecursion (IsGivenOut made) jobs
-    → AllByRecursion (IsGivenOut made) (changed test f jobs)
-changed_given made test f same [] all = tt
-changed_given made test f same (job ∷ jobs) all =
-    by (test job) (changed test f jobs) (changed_given made test f same jobs all.1)
+-- what a change of a job leaves true of it stays true of all
+pub changed_all : (P : Job → Type 0) (test : Job → Bool) (f : Job → Job) → ((job : Job) → P job → P (f job)) → (jobs : List Job) → AllByRecursion P jobs
+    → AllByRecursion P (changed test f jobs)
+changed_all P test f same [] all = tt
+changed_all P test f same (job ∷ jobs) all = by (test job) (changed test f jobs) (changed_all P test f same jobs all.1)
   where
-    by : (b : Bool) (rest : List Job) → AllByRecursion (IsGivenOut made) rest → AllByRecursion (IsGivenOut made) (if b then f job ∷ jobs else job ∷ rest)
-    by true rest rests =
-        let is = same job in
-        let low = all.0.0 in
-        let high = all.0.1 in
-        ((omega (arith, is, low), omega (arith, is, high)), all.1)
+    by : (b : Bool) (rest : List Job) → AllByRecursion P rest → AllByRecursion P (if b then f job ∷ jobs else job ∷ rest)
+    by true rest rests = (same job all.0, all.1)
     by false rest rests = (all.0, rests)
 
 pub its_given : (name : JobName) (f : JobView → JobView) (b : BookView) → AreGivenOut b.table → AreGivenOut (with_its name f b).table
 its_given name f b all =
-    changed_given b.table.made (is_job b.table.boot (id_of name)) (λ job. record job { log = f job.log }) (λ job. refl) b.table.jobs all
+    changed_all (IsGivenOut b.table.made) (is_job b.table.boot (id_of name)) (λ job. record job { log = f job.log }) (λ job it. it) b.table.jobs all
 
 pub claimed_given : (chunk : Option Chunk) (name : JobName) (b : BookView) → AreGivenOut b.table → AreGivenOut (claimed chunk name b).table
 claimed_given None name b all = all

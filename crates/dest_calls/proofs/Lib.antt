@@ -1,5 +1,6 @@
 mod Callbacks
 mod GivenOut
+mod Plans
 mod Asking
 mod Landings
 mod Wholes
@@ -14,4 +15,5 @@ mod Records
 mod Failures
 mod Principals
 mod Fitting
+mod Silences
 mod Staying

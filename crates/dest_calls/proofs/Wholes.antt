@@ -14,6 +14,7 @@ use Rattle.mount.specs.declared.machine.SendAt.{SendAt}
 use Rattle.mount.specs.declared.machine.Sent as out
 use Rattle.mount.specs.declared.state.Awaiting.{Awaiting}
 use Rattle.mount.specs.declared.state.TheConstants.{PLACES}
+use Rattle.mount_fits.specs.Moving.{SendIsFit}
 use Rattle.mount_runs.specs.Besides.{AreBesides, Stays}
 use Rattle.mount_runs.specs.Order.{is_anew, is_root}
 use Rattle.mount_runs.specs.Runs.{StaysReady}
@@ -54,14 +55,15 @@ goes m a b n le moves = record { boot = moves.boot; calls = le; purpose = moves.
 pub stays_seen : (b : Above) (n : Mounted) (calls : ℕ) → Stays (caller_of (counting calls b) n) (caller_of b n)
 stays_seen b n calls = record { boot = refl; has = refl; mount = refl; next = refl; awaits = refl; ready = λ purpose is. is }
 
--- a step that asks nothing new, and one that does
+-- a step that asks nothing new, and one that does, by what is within its bounds where this holds
 pub record Plain (who : Identity) (means : Means) (a b : Above) (m n : Mounted) (shown : Acts) : Type 0 where
   pub step : IsWholeStep who means a b m n shown
   pub sends : SendsAreFit step.steps
   pub fits : MovesAreFit means step.steps m
 
-pub record Asks (who : Identity) (means : Means) (a b : Above) (m n : Mounted) (shown : Acts) : Type 0 where
+pub record Asks (who : Identity) (means : Means) (fit : Type 0) (a b : Above) (m n : Mounted) (shown : Acts) : Type 0 where
   pub step : IsWholeStep who means a b m n shown
+  pub sends : fit → SendsAreFit step.steps
   pub fits : SendsAreFit step.steps → MovesAreFit means step.steps m
 
 module _ (who : Identity) (means : Means) (a b : Above) (m n : Mounted) (shown : Acts) where
@@ -104,7 +106,7 @@ module _ (who : Identity) (means : Means) (a b : Above) (m n : Mounted) (shown :
   -- a call goes out
   pub send_whole : (at : SendAt) (send : Send) (sent : out.Sent) → (sent_by means.mic at send m).0 ≡ Some sent → n ≡ (sent_by means.mic at send m).1 → is_anew (Sends at send) ≡ true
       → Moves m a b → at.place < PLACES → m.calls < at.xid → a.calls < at.xid → at.xid ≤ b.calls → at.xid < 2 ^ 32 → Suits who b m at send
-      → shown.out ≡ (record { bytes = sent.bytes; seal = sent.seal }) ∷ [] → shown.took ≡ None → Asks who means a b m n shown
+      → shown.out ≡ (record { bytes = sent.bytes; seal = sent.seal }) ∷ [] → shown.took ≡ None → Asks who means (SendIsFit send) a b m n shown
   send_whole at send sent goes_out same anew moves place unused fresh counted small suits is took = record {
     step = record {
       steps = (record { move = Sends at send; above = b }) ∷ [];
@@ -141,6 +143,7 @@ module _ (who : Identity) (means : Means) (a b : Above) (m n : Mounted) (shown :
       out = is ∙ ap (λ (o : Option out.Sent). (whole_out o ++ []) ++ []) (sym goes_out);
       are = omega arith;
     };
+    sends = λ fit. (fit, tt);
     fits = λ sends. (record { place = place; unused = unused; small = small; fits = sends.0 }, tt);
   }
     where

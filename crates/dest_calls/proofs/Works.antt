@@ -41,8 +41,9 @@ use Rattle.dest_calls.proofs.Callbacks.{max_left}
 use Rattle.dest_calls.proofs.Dues.{IsAsked, IsIdle, dues_turn}
 use Rattle.dest_calls.proofs.Landings.{Ends, TurnTells, made_ends, put_keeps}
 use Rattle.dest_calls.proofs.Wholes.{rest_whole, send_whole, stays_ready}
+use Rattle.dest_calls.specs.Fits.{WorkIsFit}
 use Rattle.dest_calls.specs.Settled.{AreClients, IsSettledAs}
-use Rattle.dest_calls.specs.Steps.{IsSeen, StartsOwn, above_of}
+use Rattle.dest_calls.specs.Steps.{IsSeenWhere, StartsOwn, above_of}
 
 -- what was put is there, or nothing is
 pub put_there : (place : ℕ) (post : Post) (posts : List Post) → (post_at (put_at place post posts) place ≡ post) ⊎ (post_at (put_at place post posts) place ≡ Idle)
@@ -68,15 +69,15 @@ counted at m w sent (Some other) is goes = goes.calls
 
 module _ {M : Type 0} (who : Identity) (means : Means) (went : (at : SendAt) (send : Send) (m : Mounted) → Went at m (sent_by means.mic at send m))
     (choice : Choice) (place now : ℕ) (s : DestState M) (settled : IsSettledAs who (copier_in s)) (within : place < WORKERS) (speaker : Speaker)
-    (executed : Option Executed) where
+    (executed : Option Executed) (fit : Type 0) where
   abbrev T : Turn → Copier → DestStep M
   T turn x = turn_step choice place now turn (with_copier x s)
 
   abbrev Seen : DestStep M → Type 0
-  Seen t = IsSeen who means s t.host (part_acts (part_by None speaker t) executed)
+  Seen t = IsSeenWhere fit who means s t.host (part_acts (part_by None speaker t) executed)
 
   idle_seen : (turn : Turn) (x : Copier)
-      → IsIdle who means.mic place (copier_in s).copies.book.table.made (copier_in s).work (copier_in s).back (turn, x) → made_in s ≤ made_in (T turn x).host
+      → IsIdle fit who means.mic place (copier_in s).copies.book.table.made (copier_in s).work (copier_in s).back (turn, x) → made_in s ≤ made_in (T turn x).host
       → Seen (T turn x)
   idle_seen turn x idle later =
       let c = copier_in s in
@@ -105,10 +106,10 @@ module _ {M : Type 0} (who : Identity) (means : Means) (went : (at : SendAt) (se
       (inl refl) (map sent_of done.sent) refl
       (subst (λ (e : End). AreBesides (spelling who.accepts who.whose) e (last_xid m c.back) (map sent_of done.sent)
       (last_xid done.doing.copier.work.mount done.doing.copier.back)) (sym settled.server) counts) in
-      record { step = step.step; fits = λ sends. step.fits; clients = ends.tells.clients }
+      record { seen = record { step = step.step; fits = λ sends. step.fits; clients = ends.tells.clients }; sends = λ f. step.sends }
 
   call_seen : (turn : Turn) (x : Copier)
-      → (asked : IsAsked who means.mic place (copier_in s).copies.book.table.made (copier_in s).work (copier_in s).back (turn, x))
+      → (asked : IsAsked fit who means.mic place (copier_in s).copies.book.table.made (copier_in s).work (copier_in s).back (turn, x))
       → made_in s ≤ made_in (T (turns.Sent (workers_call place asked.label asked.sent)) x).host
       → Seen (T (turns.Sent (workers_call place asked.label asked.sent)) x)
   call_seen turn x asked later =
@@ -138,28 +139,32 @@ module _ {M : Type 0} (who : Identity) (means : Means) (went : (at : SendAt) (se
       (ap (λ (w : Work). ready_by (made_in s) (post_purpose (post_at w.workers place))) asked.work
       ∙ put_ready place (made_in s) asked.job asked.errand c.work.workers asked.ready)))
       refl refl in
-      record { step = step.step; fits = step.fits; clients = subst AreClients (sym asked.back_is) settled.clients }
+      record {
+        seen = record { step = step.step; fits = step.fits; clients = subst AreClients (sym asked.back_is) settled.clients };
+        sends = λ f. step.sends (asked.sends f);
+      }
 
 pub work_seen : {M W : Type 0} (who : Identity) (means : Means) → ((at : SendAt) (send : Send) (m : Mounted) → Went at m (sent_by means.mic at send m))
     → (gives : W → Drawn → W → Type 0) (started : List ℕ → List ℕ → Option (List ℕ)) (place now : ℕ) (s : DestState M) (before after : W) (t : DestStep M)
     (speaker : Speaker) (executed : Option Executed) → IsSettledAs who (copier_in s) → place < WORKERS → StartsOwn who (started (copier_in s).principal) gives
     → made_in s ≤ made_in t.host → IsWork gives started (record { mic = means.mic; derived = means.derived }) place now s before after t
-    → IsSeen who means s t.host (part_acts (part_by None speaker t) executed)
+    → IsSeenWhere (WorkIsFit means.mic gives started (copier_in s)) who means s t.host (part_acts (part_by None speaker t) executed)
 work_seen {M} who means went gives started place now s before after t speaker executed settled within own later work =
     let choice = choice_of t.out.used in
     let is : t ≡ turn_step choice place now work.turn (with_copier work.copier s) = work.is choice (λ n below. refl) in
     let c = copier_in s in
     let codes : Codes = record { mic = means.mic; derived = means.derived } in
-    subst (λ (u : DestStep M). IsSeen who means s u.host (part_acts (part_by None speaker u) executed)) (sym is)
-    (elim (dues_turn who gives started codes (around (max s.second now) s) before after place c (work.turn, work.copier) (λ at send. went at send c.work.mount) settled.clients settled.given
-    (λ nonce token drew started_is. own before after nonce token drew started_is) work.due) [
+    let fit = WorkIsFit means.mic gives started c in
+    subst (λ (u : DestStep M). IsSeenWhere fit who means s u.host (part_acts (part_by None speaker u) executed)) (sym is)
+    (elim (dues_turn fit who gives started codes (around (max s.second now) s) before after place c (work.turn, work.copier) (λ at send. went at send c.work.mount) settled.clients settled.given
+    (λ nonce token drew started_is. own before after nonce token drew started_is) (λ f. f) work.due) [
       | inl idle ↦
-          idle_seen who means went choice place now s settled within speaker executed work.turn work.copier idle
+          idle_seen who means went choice place now s settled within speaker executed fit work.turn work.copier idle
           (subst (λ (u : DestStep M). made_in s ≤ made_in u.host) is later)
       | inr asked ↦
           let turn_is : work.turn ≡ turns.Sent (workers_call place asked.label asked.sent) = asked.due in
           let step = λ (turn : Turn). turn_step choice place now turn (with_copier work.copier s) in
-          subst (λ (turn : Turn). IsSeen who means s (step turn).host (part_acts (part_by None speaker (step turn)) executed)) (sym turn_is)
-          (call_seen who means went choice place now s settled within speaker executed work.turn work.copier asked
+          subst (λ (turn : Turn). IsSeenWhere fit who means s (step turn).host (part_acts (part_by None speaker (step turn)) executed)) (sym turn_is)
+          (call_seen who means went choice place now s settled within speaker executed fit work.turn work.copier asked
           (subst (λ (turn : Turn). made_in s ≤ made_in (step turn).host) turn_is (subst (λ (u : DestStep M). made_in s ≤ made_in u.host) is later)))
     ])

@@ -1,5 +1,6 @@
 -- A step of a destination, as its source sees it: a run of the steps of its mount there, and the rest is nothing to the source.
-use Rattle.std.specs.Prelude.{◌≡◌, ℕ, List, Option, Some}
+use Rattle.std.specs.Prelude.{◌≡◌, ℕ, false, List, Option, Some}
+use Rattle.std.specs.List.{AllByRecursion}
 use Rattle.caller_laws.specs.Good.{Identity, IsOwnToken}
 use Rattle.caller_laws.specs.View.{Above}
 use Rattle.dest_core.specs.Stepping.{DestState, copier_in}
@@ -7,9 +8,11 @@ use Rattle.dest_view.specs.View.{above_in}
 use Rattle.mount.specs.State.{Mounted}
 use Rattle.mount.specs.Taking.{Means}
 use Rattle.mount_runs.specs.Whole.{IsWholeStep}
+use Rattle.outbox.specs.declared.outgoing.Outgoing.{Outgoing}
 use Rattle.streams.specs.declared.draws.Drawn.{Drawn}
 use Rattle.streams.specs.declared.draws.Drawn.TheVariants.{Got}
 use Rattle.wire_model.specs.Wire.{Acts}
+use Rattle.wire_spelling.specs.Replies.{is_reply}
 use Rattle.dest_calls.specs.Fits.{MovesAreFit, SendsAreFit}
 use Rattle.dest_calls.specs.Settled.{AreClients}
 
@@ -31,6 +34,15 @@ pub record IsSeen {M : Type 0} (who : Identity) (means : Means) (s t : DestState
 pub record IsSeenPlain {M : Type 0} (who : Identity) (means : Means) (s t : DestState M) (shown : Acts) : Type 0 where
   pub seen : IsSeen who means s t shown
   pub sends : SendsAreFit seen.step.steps
+
+-- where what is asked keeps to the bounds where this holds
+pub record IsSeenWhere {M : Type 0} (fit : Type 0) (who : Identity) (means : Means) (s t : DestState M) (shown : Acts) : Type 0 where
+  pub seen : IsSeen who means s t shown
+  pub sends : fit → SendsAreFit seen.step.steps
+
+-- what goes out are calls
+abbrev pub AreCalls : List Outgoing → Type 0
+AreCalls sent = AllByRecursion (λ (o : Outgoing). is_reply o.bytes ≡ false) sent
 
 -- The tokens that it starts with drawn nonces are its own; `tokens_are_their_senders` of `caller_laws` says so of every mechanism.
 abbrev pub StartsOwn : {W : Type 0} → Identity → (started : List ℕ → Option (List ℕ)) → (W → Drawn → W → Type 0) → Type 0

@@ -1,6 +1,7 @@
 ghost use Rattle.std.specs.Prelude.{◌≡◌, ◌<◌, ℕ, List, [], Option, Some, None};
 ghost use Rattle.caller_laws.specs.Good.{Identity};
 ghost use Rattle.dest_core.specs.Stepping.{DestState, DestStep, IsRecord, IsReply, IsWork, copier_in, failure_step, tick_step};
+ghost use Rattle.dest_steps.specs.Copier.{Codes};
 ghost use Rattle.dest_tasks.specs.declared.workers.TheConstants.{WORKERS};
 ghost use Rattle.dest_view.specs.Steps.{part_by};
 ghost use Rattle.nfs_base.specs.declared.seal.End.TheVariants.{Dest};
@@ -8,8 +9,9 @@ ghost use Rattle.wire_lines.specs.declared.letters.Speaker.{Speaker};
 ghost use Rattle.wire_machine.specs.History.{part_acts};
 ghost use Rattle.wire_model.specs.Wire.{Acts, Executed};
 ghost use Rattle.wire_xdr.specs.Cursor.{IsBytes};
+ghost use Rattle.dest_calls.specs.Fits.{WorkIsFit};
 ghost use Rattle.dest_calls.specs.Settled.{IsSettledAs};
-ghost use Rattle.dest_calls.specs.Steps.{IsSeen, IsSeenPlain, StartsOwn};
+ghost use Rattle.dest_calls.specs.Steps.{AreCalls, IsSeenPlain, IsSeenWhere, StartsOwn};
 
 use crate::following::SeatsAlong;
 use caller_laws::steps_are_lawful;
@@ -25,13 +27,14 @@ use own_laws::own_parts_go_on;
 use reply_laws::servers_send_replies;
 use streams::Draws;
 
-/// In a worker's turn one call goes out to the source, for a job that was accepted, or none does and a client may be called back.
+/// In a worker's turn one call goes out to the source, for a job that was accepted, or none does and a client may be called back. What
+/// goes out keeps to the bounds where the jobs' plans do, and what is drawn.
 pub fn workers_turns_are_seen<M: Mechanism, W: Draws>()
     ensures { (mech : M) (principal : List ℕ) (who : Identity) (started : List ℕ → List ℕ → Option (List ℕ)) (place now : ℕ) (s : DestState M) (before after : W)
         (t : DestStep M) (speaker : Speaker) (executed : Option Executed)
         → IsSettledAs who (copier_in s) → place < WORKERS → StartsOwn who (started (copier_in s).principal) W.gives
         → IsWork W.gives started (record { mic = M.mic_of; derived = M.derived }) place now s before after t
-        → IsSeen who (record { mic = M.mic_of; derived = M.derived; finished = M.finished mech principal }) s t.host
+        → IsSeenWhere (WorkIsFit M.mic_of W.gives started (copier_in s)) who (record { mic = M.mic_of; derived = M.derived; finished = M.finished mech principal }) s t.host
         (part_acts (part_by None speaker t) executed) }
 {
     sends_are_counted();
@@ -52,6 +55,12 @@ pub fn replies_are_seen<M: Mechanism, W: Draws>()
     steps_go_by_deeds::<M, W>();
     entries_grow_by_deeds();
 }
+
+/// Where a worker hears a record of the source, all that goes out are calls: it answers nothing.
+pub fn heard_records_are_not_answered<M: Mechanism>()
+    ensures { (codes : Codes) (finish : List ℕ → List ℕ → Option (List ℕ)) (place : ℕ) (message : List ℕ) (now : ℕ) (s : DestState M) (t : DestStep M)
+        → IsReply codes finish place message now s t → AreCalls t.out.sent }
+{}
 
 /// A destination that does nothing, and to which a record that comes is nothing, is seen so.
 pub fn rests_are_seen<M: Mechanism>()
