@@ -1,5 +1,5 @@
 -- What a small step is to the destination: it acts, or it rests.
-use Rattle.std.proofs.Common.{◌≡◌, ◌∙◌, ◌⊎◌, inl, inr, ℕ, ◌+◌, List, [], Option, Some, None, refl, sym, ap, subst}
+use Rattle.std.proofs.Common.{◌≡◌, ◌∙◌, ◌⊎◌, inl, inr, ℕ, ◌+◌, List, Option, Some, None, refl, sym, ap, subst}
 use Rattle.dest_core.specs.Stepping.{DestState}
 use Rattle.outbox.specs.declared.outgoing.Outbox.{Outbox}
 use Rattle.wire_lines.specs.declared.letters.Speaker.{Speaker}
@@ -9,8 +9,8 @@ use Rattle.wire_machine.specs.declared.port.Port.TheVariants as ports
 use Rattle.wire_machine.specs.Ends.{ClientAct, DestAct, SourceAct, no_outbox}
 use Rattle.wire_machine.specs.Ends as acts
 use Rattle.wire_machine.specs.Steps.{AllRest, AllTick, Arrives, ClientDoes, DestDoes, IsCommanded, IsDelivered, IsSmall, SourceDoes, command_of}
-use Rattle.wire_machine.specs.World.{Part, Parts, Posted, World, marked, posted_at}
-use Rattle.wire_run.specs.Ends.{Words, dest_goes, is_worker, machines}
+use Rattle.wire_machine.specs.World.{Part, Parts, Posted, marked, posted_at}
+use Rattle.wire_run.specs.Ends.{Words, dest_goes, machines}
 use Rattle.wire_run.specs.Handling.{dest_took}
 use Rattle.wire_run.specs.Running.{RunMachines, RunWorld}
 use Rattle.wire_schedule.specs.declared.event.Event.{Event}
@@ -23,7 +23,7 @@ module _ {M : Type 0} (words : Words M ℕ) where
   abbrev m : RunMachines M
   m = machines words
 
-  pub record Acts_ (before : RunWorld M) (parts : Parts) (after : RunWorld M) : Type 0 where
+  pub record DidAct (before : RunWorld M) (parts : Parts) (after : RunWorld M) : Type 0 where
     pub act : DestAct
     pub speaker : Speaker
     pub now : ℕ
@@ -33,13 +33,13 @@ module _ {M : Type 0} (words : Words M ℕ) where
     pub goes : dest_goes words act now before.dest drawn after.dest draws out
     pub part : parts.dest ≡ dest_part speaker (dest_took act) out
 
-  pub record Rests_ (before : RunWorld M) (parts : Parts) (after : RunWorld M) : Type 0 where
+  pub record DidRest (before : RunWorld M) (parts : Parts) (after : RunWorld M) : Type 0 where
     pub dest : after.dest ≡ before.dest
     pub speaker : Speaker
     pub part : parts.dest ≡ dest_part speaker None no_outbox
 
   abbrev pub Did : RunWorld M → Parts → RunWorld M → Type 0
-  Did before parts after = Acts_ before parts after ⊎ Rests_ before parts after
+  Did before parts after = DidAct before parts after ⊎ DidRest before parts after
 
   by_source : (act : SourceAct) (took : Option (List ℕ)) (before : RunWorld M) (parts : Parts) (after : RunWorld M) → SourceDoes m act took before parts after
       → Did before parts after

@@ -1,22 +1,20 @@
 -- In each step of a run the destination is seen as it should be.
-use Rattle.std.proofs.Common.{◌≡◌, ◌∙◌, ◌⊎◌, inl, inr, ℕ, zero, suc, ◌-◌, ◌<◌, ◌≤◌, Bool, true, false, List, [], ◌∷◌, slice_get, Option, Some, None, refl, sym, ap, subst, arith}
+use Rattle.std.proofs.Common.{◌≡◌, ◌∙◌, inl, inr, ℕ, ◌-◌, ◌<◌, ◌≤◌, Bool, true, false, List, [], Option, Some, None, refl, sym, ap, subst, arith}
 use Rattle.std.proofs.lemmas.Bool.{and_parts, leb-true}
-use Rattle.std.specs.Prelude.{max, nat_le}
-use Rattle.std.specs.List.{AllByRecursion}
+use Rattle.std.specs.Prelude.{nat_le}
 use Rattle.wire_xdr.specs.Cursor.{IsBytes}
 use Rattle.caller_laws.specs.Good.{Identity}
+use Rattle.dest_calls.specs.Fits.{WorkIsFit}
 use Rattle.dest_calls.specs.Settled.{IsSettledAs}
-use Rattle.dest_calls.specs.Steps.{IsSeen, IsSeenPlain, StartsOwn}
+use Rattle.dest_calls.specs.Steps.{IsSeenPlain, IsSeenWhere, StartsOwn}
 use Rattle.dest_core.specs.Stepping.{DestState, DestStep, IsRecord, IsReply, IsWork, copier_in, tick_step}
 use Rattle.dest_laws.specs.Deeds.{ByDeeds}
 use Rattle.dest_own.specs.Going.{jobs_in}
 use Rattle.dest_steps.specs.Copier.{Codes}
 use Rattle.dest_tasks.specs.declared.workers.TheConstants.{WORKERS}
 use Rattle.dest_view.specs.Steps.{part_by}
-use Rattle.mount.specs.Taking.{Means}
 use Rattle.nfs_base.specs.declared.seal.End.TheVariants.{Dest}
 use Rattle.outbox.specs.declared.outgoing.Outbox.{Outbox}
-use Rattle.session_server.specs.Host as hosts
 use Rattle.source_core.specs.Core.{nothing}
 use Rattle.wire_lines.specs.declared.letters.Speaker.{Speaker}
 use Rattle.wire_machine.specs.Ends.{DestAct, no_outbox}
@@ -24,22 +22,19 @@ use Rattle.wire_machine.specs.Ends as acts
 use Rattle.wire_machine.specs.History.{part_acts}
 use Rattle.wire_machine.specs.World.{Part, Parts}
 use Rattle.wire_model.specs.Wire.{Acts, Executed}
-use Rattle.wire_run.specs.Ends.{Words, dest_does, dest_goes, hears, is_worker}
+use Rattle.wire_run.specs.Ends.{Words, dest_goes, hears, is_worker}
 use Rattle.wire_run.specs.Handling.{dest_took}
 use Rattle.wire_run.specs.Running.{RunWorld}
 use Rattle.wire_run.specs.Setting.{dest_name}
-use Rattle.run_dest_calls.proofs.DestSteps.{Acts_, Did, Rests_, dest_part}
-use Rattle.run_dest_calls.specs.Kept.{GoesSeen, IsKept}
-
-abbrev pub means_of : {M : Type 0} → Words M ℕ → M → Means
-means_of words mech = record { mic = words.mic; derived = words.derived; finished = words.finished mech dest_name }
+use Rattle.run_dest_calls.proofs.DestSteps.{Did, dest_part}
+use Rattle.run_dest_calls.specs.Kept.{Fits, GoesSeen, IsKept, means_of}
 
 -- the laws of a destination's steps
 pub record AreKnown {M : Type 0} (words : Words M ℕ) (who : Identity) (mech : M) : Type 0 where
   pub work : (started : List ℕ → List ℕ → Option (List ℕ)) (place now : ℕ) (s : DestState M) (before after : ℕ) (t : DestStep M) (speaker : Speaker) (executed : Option Executed)
       → IsSettledAs who (copier_in s) → place < WORKERS → StartsOwn who (started (copier_in s).principal) words.gives
       → IsWork words.gives started (record { mic = words.mic; derived = words.derived }) place now s before after t
-      → IsSeen who (means_of words mech) s t.host (part_acts (part_by None speaker t) executed)
+      → IsSeenWhere (WorkIsFit words.mic words.gives started (copier_in s)) who (means_of words mech) s t.host (part_acts (part_by None speaker t) executed)
   pub reply : (place now : ℕ) (message : List ℕ) (s : DestState M) (t : DestStep M) (speaker : Speaker) (executed : Option Executed)
       → IsSettledAs who (copier_in s) → IsBytes message → IsReply (record { mic = words.mic; derived = words.derived }) (words.finished mech dest_name) place message now s t
       → IsSeenPlain who (means_of words mech) s t.host (part_acts (part_by (Some message) speaker t) executed)
@@ -69,7 +64,11 @@ pub record AreKnown {M : Type 0} (words : Words M ℕ) (who : Identity) (mech : 
 
 module _ {M : Type 0} (words : Words M ℕ) (who : Identity) (mech : M) (known : AreKnown words who mech) (own : StartsOwn who (words.started mech dest_name) words.gives) where
   abbrev Goes : DestState M → DestState M → Acts → Type 0
-  Goes s t shown = GoesSeen who (means_of words mech) mech s t shown
+  Goes s t shown = GoesSeen (Fits words mech s) who (means_of words mech) mech s t shown
+
+  -- where nothing is asked that wasn't before
+  plain : (s t : DestState M) (shown : Acts) → IsSeenPlain who (means_of words mech) s t shown → IsSeenWhere (Fits words mech s) who (means_of words mech) s t shown
+  plain s t shown it = record { seen = it.seen; sends = λ fit. it.sends }
 
   within : (worker : ℕ) → is_worker worker ≡ true → worker - 1 < WORKERS
   within worker is =
@@ -87,15 +86,15 @@ module _ {M : Type 0} (words : Words M ℕ) (who : Identity) (mech : M) (known :
           subst (λ (f : List ℕ → List ℕ → Option (List ℕ)). IsReply (record { mic = words.mic; derived = words.derived }) f (worker - 1) bytes now s u)
           (ap (λ (x : M). words.finished x (copier_in s).principal) kept.mech_is ∙ ap (words.finished mech) kept.principal) is in
       record {
-        seen = (known.reply (worker - 1) now bytes s u speaker executed settled comes so).seen;
+        seen = plain s t _ (known.reply (worker - 1) now bytes s u speaker executed settled comes so);
         kept = known.reply_kept (record { mic = words.mic; derived = words.derived }) (words.finished mech dest_name) (worker - 1) bytes now s u so kept;
         deeds = known.reply_deeds (record { mic = words.mic; derived = words.derived }) (words.finished mech dest_name) (worker - 1) bytes now s u so;
       }
   heard false worker bytes now s t out speaker executed comes is kept settled =
       subst (λ (x : DestState M). Goes s x (part_acts (dest_part speaker (Some bytes) out) executed)) (sym is.0)
       (record {
-        seen = (known.rest s (part_acts (dest_part speaker (Some bytes) out) executed) settled (ap (λ (o : Outbox). o.accepted) is.1)
-            (ap (λ (o : Outbox). (part_acts (dest_part speaker (Some bytes) o) executed).out) is.1)).seen;
+        seen = plain s s _ (known.rest s (part_acts (dest_part speaker (Some bytes) out) executed) settled (ap (λ (o : Outbox). o.accepted) is.1)
+            (ap (λ (o : Outbox). (part_acts (dest_part speaker (Some bytes) o) executed).out) is.1));
         kept = kept;
         deeds = known.none_deeds s;
       })
@@ -107,7 +106,7 @@ module _ {M : Type 0} (words : Words M ℕ) (who : Identity) (mech : M) (known :
       let so =
           subst (λ (x : M). IsRecord (record { mic = words.mic; derived = words.derived }) (words.accepted x) words.gives conn bytes now s before after u) kept.mech_is goes.0 in
       record {
-        seen = (known.record_ conn bytes now s before after u speaker executed settled kept.owner goes.1.taken so).seen;
+        seen = plain s t _ (known.record_ conn bytes now s before after u speaker executed settled kept.owner goes.1.taken so);
         kept = known.record_kept conn bytes now s before after u so kept;
         deeds = known.record_deeds conn bytes now s before after u so;
       }
@@ -128,7 +127,7 @@ module _ {M : Type 0} (words : Words M ℕ) (who : Identity) (mech : M) (known :
       let codes : Codes = record { mic = words.mic; derived = words.derived } in
       subst (λ (u : DestStep M). Goes s u.host (part_acts (part_by None speaker u) executed)) (sym goes.0.0)
       (record {
-        seen = (known.tick now s speaker executed settled).seen;
+        seen = plain s _ _ (known.tick now s speaker executed settled);
         kept = known.tick_kept codes now s kept;
         deeds = known.tick_deeds codes now s;
       })
@@ -143,11 +142,11 @@ module _ {M : Type 0} (words : Words M ℕ) (who : Identity) (mech : M) (known :
       (rests before.dest after.dest r.speaker executed r.dest kept settled)
     where
       rests : (s t : DestState M) (speaker : Speaker) (executed : Option Executed) → t ≡ s → IsKept mech s → IsSettledAs who (copier_in s)
-          → GoesSeen who (means_of words mech) mech s t (part_acts (dest_part speaker None no_outbox) executed)
+          → GoesSeen (Fits words mech s) who (means_of words mech) mech s t (part_acts (dest_part speaker None no_outbox) executed)
       rests s t speaker executed same kept settled =
-          subst (λ (x : DestState M). GoesSeen who (means_of words mech) mech s x (part_acts (dest_part speaker None no_outbox) executed)) (sym same)
+          subst (λ (x : DestState M). GoesSeen (Fits words mech s) who (means_of words mech) mech s x (part_acts (dest_part speaker None no_outbox) executed)) (sym same)
           (record {
-            seen = (known.rest s (part_acts (dest_part speaker None no_outbox) executed) settled refl refl).seen;
+            seen = plain s s _ (known.rest s (part_acts (dest_part speaker None no_outbox) executed) settled refl refl);
             kept = kept;
             deeds = known.none_deeds s;
           })
@@ -156,7 +155,7 @@ module _ {M : Type 0} (words : Words M ℕ) (who : Identity) (mech : M) (known :
   pub rested : (s : DestState M) (speaker : Speaker) (executed : Option Executed) → IsKept mech s → IsSettledAs who (copier_in s)
       → Goes s s (part_acts (dest_part speaker None no_outbox) executed)
   rested s speaker executed kept settled = record {
-    seen = (known.rest s (part_acts (dest_part speaker None no_outbox) executed) settled refl refl).seen;
+    seen = plain s s _ (known.rest s (part_acts (dest_part speaker None no_outbox) executed) settled refl refl);
     kept = kept;
     deeds = known.none_deeds s;
   }

@@ -2,7 +2,7 @@ use Rattle.std.proofs.Common.{◌∙◌}
 use Rattle.caller_laws.specs.Good.{Identity}
 use Rattle.dest_own.specs.Going.{jobs_in}
 use Rattle.nfs_base.specs.declared.seal.End.TheVariants.{Dest}
-use Rattle.wire_run.specs.Ends.{Words, count_gives, words_of}
+use Rattle.wire_run.specs.Ends.{count_gives, words_of}
 use Rattle.wire_run.specs.Setting.{dest_name}
 use Rattle.run_dest_calls.proofs.RunSteps.{AreKnown}
 use Rattle.run_dest_calls.proofs.Runs.{no_deeds, run_seen}
