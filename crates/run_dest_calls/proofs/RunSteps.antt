@@ -15,7 +15,6 @@ use Rattle.dest_tasks.specs.declared.workers.TheConstants.{WORKERS}
 use Rattle.dest_view.specs.Steps.{part_by}
 use Rattle.nfs_base.specs.declared.seal.End.TheVariants.{Dest}
 use Rattle.outbox.specs.declared.outgoing.Outbox.{Outbox}
-use Rattle.source_core.specs.Core.{nothing}
 use Rattle.wire_lines.specs.declared.letters.Speaker.{Speaker}
 use Rattle.wire_machine.specs.Ends.{DestAct, no_outbox}
 use Rattle.wire_machine.specs.Ends as acts

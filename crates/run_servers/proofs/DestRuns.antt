@@ -1,11 +1,13 @@
--- The destination of a run obeys the laws of a server at each moment, where its workers send no replies.
+-- The destination of a run obeys the laws of a server at each moment.
 use Rattle.std.proofs.Common.{◌≡◌, ◌⊎◌, inl, inr, ℕ, zero, suc, ◌+◌, ◌*◌, ◌<◌, ◌≤◌, ◌^◌, Bool, true, false, List, [], ◌∷◌, length, map, slice_get, Option, Some, None, refl, sym, ap, subst, ◌∙◌, arith}
-use Rattle.std.specs.Prelude.{max}
+use Rattle.std.specs.Prelude.{All, max}
+use Rattle.std.proofs.lemmas.List.Elements.{All-cons, All-contains, All-nil}
 use Rattle.std.proofs.lemmas.Option.{same_Some}
 use Rattle.client_laws.specs.WholeTurns.{Purposes}
 use Rattle.context_laws.specs.View.{AreNumbered}
 use Rattle.copy_model.specs.Effect.{after}
 use Rattle.copy_model.specs.Volume.{formatted}
+use Rattle.dest_calls.specs.Steps.{AreCalls}
 use Rattle.dest_core.specs.Core.{dest_rules}
 use Rattle.dest_core.specs.Stepping as dest
 use Rattle.dest_core.specs.Stepping.{DestState, IsRecordBy}
@@ -22,7 +24,7 @@ use Rattle.rpc_calls.specs.Judging.{judged_of}
 use Rattle.rpc_calls.specs.declared.call.Judged.{Judged}
 use Rattle.rpc_calls.specs.declared.call.Judged.TheVariants as judged
 use Rattle.rpc_calls.specs.declared.call.TheConstants.Program as programs
-use Rattle.run_servers.specs.Lawful.{IsLawfulDest, SendsNoReply}
+use Rattle.run_servers.specs.Lawful.{IsLawfulDest}
 use Rattle.run_system.specs.System.{ClientView, system_of, telling, told_in}
 use Rattle.server_laws.specs.Acts.{acts_of, sent_of, tells, told}
 use Rattle.server_laws.specs.ContextLaws.{InEachStep, KeepsGood}
@@ -39,7 +41,7 @@ use Rattle.session_server.specs.Steps.{IsJudgedTurn, ticked}
 use Rattle.slot_laws.specs.Sound.{AreBelow, IsSound}
 use Rattle.wire_lines.specs.declared.letters.Speaker.TheVariants as speakers
 use Rattle.wire_lines.specs.declared.letters.Speaker.{Speaker}
-use Rattle.wire_machine.specs.History.{At, at_moment, called_with, is_call, next, part_acts, takes_call, told_by}
+use Rattle.wire_machine.specs.History.{At, at_moment, called_with, is_call, next, part_acts, sent_of as part_sent, takes_call, told_by}
 use Rattle.wire_machine.specs.History as history
 use Rattle.wire_machine.specs.Runs.{Numbered}
 use Rattle.wire_machine.specs.Steps.{AreSteps}
@@ -53,8 +55,9 @@ use Rattle.wire_model.specs.Wire.{Acts, Executed, Sends, Sent, Server}
 use Rattle.wire_run.specs.Ends.{Words, machines}
 use Rattle.wire_run.specs.Run.{IsFirst, shape_of}
 use Rattle.wire_run.specs.Running.{RunMachines, RunStep, RunWorld}
+use Rattle.wire_spelling.specs.Replies.{is_reply}
 use Rattle.wire_spelling.specs.Spelling.{spelling}
-use Rattle.run_servers.proofs.DestSteps.{Did, LeavesServer, Rests, Takes, small_did}
+use Rattle.run_servers.proofs.DestSteps.{AsksAlone, Did, IsHeardAlone, LeavesServer, Rests, Takes, small_did}
 
 -- ---- a server that takes no call and tells nothing
 
@@ -74,6 +77,11 @@ quiet spell owner v a none answers = record {
   once = λ name root results x ran. absurd (let both = sym none ∙ x.executed in cc);
   last = λ name same. omega arith;
 }
+
+-- calls are seen as such
+calls_all : (sent : List Outgoing) → AreCalls sent → All (λ (one : Sent). is_reply one.bytes ≡ false) (map part_sent sent)
+calls_all [] calls = All-nil (λ (one : Sent). is_reply one.bytes ≡ false)
+calls_all (o ∷ sent) calls = All-cons (λ (one : Sent). is_reply one.bytes ≡ false) (part_sent o) (map part_sent sent) calls.0 (calls_all sent calls.1)
 
 -- ---- what holds of a destination between steps, as a server
 
@@ -99,6 +107,7 @@ pub record AreKnownDest {M : Type 0} (words : Words M ℕ) : Type 0 where
   pub begins : (s : DestState M) → s.contexts.entries ≡ [] → s.state.sessions ≡ no_clients s.state.sessions.boot → ServerStart (view s)
   pub begins_good : (s : DestState M) → s.contexts.boot < 2 ^ 32 → s.contexts.made ≤ s.steps → s.contexts.entries ≡ [] → IsGood s
   pub begins_slots : (s : DestState M) → s.state.sessions ≡ no_clients s.state.sessions.boot → HasSlots s
+  pub alone : AsksAlone M
 
 module _ {M : Type 0} (words : Words M ℕ) (known : AreKnownDest words) (accepts : List ℕ → Option (List ℕ)) (whose : List ℕ → Option End) where
   abbrev m : RunMachines M
@@ -224,27 +233,27 @@ module _ {M : Type 0} (words : Words M ℕ) (known : AreKnownDest words) (accept
   none_heard f None = refl
   none_heard f (Some bytes) = refl
 
-  none_told : (part : Part) (f : List ℕ → Option Executed) → (part.took ≡ None) ⊎ (part.speaker ≡ speakers.Worker)
+  none_told : (part : Part) (f : List ℕ → Option Executed) → (part.took ≡ None) ⊎ IsHeardAlone part
       → told_by f (called_with (is_call part) part.took) ≡ None
   none_told part f (inl none) = none_called f (is_call part) part.took none
-  none_told part f (inr worker) =
-      ap (λ (speaker : Speaker). told_by f (called_with (takes_call speaker part.took) part.took)) worker ∙ none_heard f part.took
+  none_told part f (inr heard) =
+      ap (λ (speaker : Speaker). told_by f (called_with (takes_call speaker part.took) part.took)) heard.0 ∙ none_heard f part.took
 
   -- what one of its workers hears is no call that it answers
-  answers_none : (before after : RunWorld M) (part : Part) → (part.took ≡ None) ⊎ (part.speaker ≡ speakers.Worker)
-      → (part.speaker ≡ speakers.Worker → SendsNoReply spell (acts_by before after part)) → AnswersNone spell (acts_by before after part)
-  answers_none before after part (inl none) workers call bytes seal took sends is_reply = absurd (let both = sym none ∙ took in cc)
-  answers_none before after part (inr worker) workers call bytes seal took sends is_reply = workers worker bytes seal sends is_reply
+  answers_none : (before after : RunWorld M) (part : Part) → (part.took ≡ None) ⊎ IsHeardAlone part → AnswersNone spell (acts_by before after part)
+  answers_none before after part (inl none) call bytes seal took sends is_reply = absurd (let both = sym none ∙ took in cc)
+  answers_none before after part (inr heard) call bytes seal took sends is_reply =
+      let asks = All-contains (λ (one : Sent). spell.is_reply one.bytes ≡ false) (map part_sent part.out.sent) _ (calls_all part.out.sent heard.1) sends in
+      absurd (let both = sym is_reply ∙ asks in cc)
 
   did_right : (before : RunWorld M) (parts : Parts) (after : RunWorld M) → Did words before parts after → IsSoundDest before.dest
-      → (parts.dest.speaker ≡ speakers.Worker → SendsNoReply spell (acts_by before after parts.dest))
       → DestGoesRight spell before.dest after.dest (acts_by before after parts.dest)
-  did_right before parts after (inl d) sound workers =
+  did_right before parts after (inl d) sound =
       subst (λ (p : Part). DestGoesRight spell before.dest after.dest (acts_by before after p)) (sym d.part) (taken before parts after d sound)
-  did_right before parts after (inr d) sound workers =
+  did_right before parts after (inr d) sound =
       own_step before.dest after.dest (acts_by before after parts.dest) d.leaves sound
       (none_told parts.dest (λ bytes. told_in codes bytes before.clock before.dest after.dest parts.dest.out) d.part)
-      (answers_none before after parts.dest d.part workers)
+      (answers_none before after parts.dest d.part)
 
   rests_right : (before : RunWorld M) → IsSoundDest before.dest → DestGoesRight spell before.dest before.dest (acts_by before before all_idle.dest)
   rests_right before sound = record {
@@ -278,43 +287,36 @@ module _ {M : Type 0} (words : Words M ℕ) (known : AreKnownDest words) (accept
     abbrev acts_by_step : RunWorld M → Option (RunStep M) → Acts
     acts_by_step before o = history.acts_of m (telling codes) spell meaning before o Dest
 
-    -- what its workers hear they don't answer
-    abbrev pub WorkersAsk : Type 0
-    WorkersAsk = (k : ℕ) (s : RunStep M) → slice_get steps k ≡ Some s → s.parts.dest.speaker ≡ speakers.Worker
-        → SendsNoReply spell (acts_by_step (moment first steps k).world (slice_get steps k))
+    goes_at : (k : ℕ) (o : Option (RunStep M)) → slice_get steps k ≡ o → IsSoundDest (moment first steps k).world.dest
+        → DestGoesRight spell (moment first steps k).world.dest (next m (telling codes) spell meaning (moment first steps k) o).world.dest
+        (acts_by_step (moment first steps k).world o)
+    goes_at k None is sound = rests_right (moment first steps k).world sound
+    goes_at k (Some s) is sound =
+        let before = (moment first steps k).world in
+        did_right before s.parts s.after (small_did words known.alone s.event before s.parts s.after (step_at first steps k s are is).small) sound
 
-    module _ (workers : WorkersAsk) where
-      goes_at : (k : ℕ) (o : Option (RunStep M)) → slice_get steps k ≡ o → IsSoundDest (moment first steps k).world.dest
-          → DestGoesRight spell (moment first steps k).world.dest (next m (telling codes) spell meaning (moment first steps k) o).world.dest
-          (acts_by_step (moment first steps k).world o)
-      goes_at k None is sound = rests_right (moment first steps k).world sound
-      goes_at k (Some s) is sound =
-          let before = (moment first steps k).world in
-          did_right before s.parts s.after (small_did words s.event before s.parts s.after (step_at first steps k s are is).small) sound
-          (λ worker. subst (λ (o : Option (RunStep M)). SendsNoReply spell (acts_by_step before o)) is (workers k s is worker))
+    sound_at : (k : ℕ) → IsSoundDest (moment first steps k).world.dest
+    sound_at zero = begun
+    sound_at (suc k) = (goes_at k (slice_get steps k) refl (sound_at k)).sound
 
-      sound_at : (k : ℕ) → IsSoundDest (moment first steps k).world.dest
-      sound_at zero = begun
-      sound_at (suc k) = (goes_at k (slice_get steps k) refl (sound_at k)).sound
+    -- the volume had no chunk landed goes on by what was seen of the step
+    bare_next : (a : At m (telling codes) spell meaning) (o : Option (RunStep M))
+        → (next m (telling codes) spell meaning a o).seen.bare ≡ after a.seen.bare (bare_effect (next m (telling codes) spell meaning a o).seen.deed)
+    bare_next a None = refl
+    bare_next a (Some s) = refl
 
-      -- the volume had no chunk landed goes on by what was seen of the step
-      bare_next : (a : At m (telling codes) spell meaning) (o : Option (RunStep M))
-          → (next m (telling codes) spell meaning a o).seen.bare ≡ after a.seen.bare (bare_effect (next m (telling codes) spell meaning a o).seen.deed)
-      bare_next a None = refl
-      bare_next a (Some s) = refl
-
-      pub run_lawful : (files capacity : ℕ) → first.dest.state.machine.store.volume ≡ formatted files capacity → ServerStart (view first.dest)
-          → IsLawfulDest spell (system_of m codes spell meaning seen first steps purposes)
-      unfolding system_of
-      run_lawful files capacity is starts = record {
-        start = starts;
-        server = λ k. (goes_at k (slice_get steps k) refl (sound_at k)).laws;
-        files = files;
-        capacity = capacity;
-        formatted_so = is;
-        bare_start = refl;
-        bare = λ k. bare_next (moment first steps k) (slice_get steps k);
-      }
+    pub run_lawful : (files capacity : ℕ) → first.dest.state.machine.store.volume ≡ formatted files capacity → ServerStart (view first.dest)
+        → IsLawfulDest spell (system_of m codes spell meaning seen first steps purposes)
+    unfolding system_of
+    run_lawful files capacity is starts = record {
+      start = starts;
+      server = λ k. (goes_at k (slice_get steps k) refl (sound_at k)).laws;
+      files = files;
+      capacity = capacity;
+      formatted_so = is;
+      bare_start = refl;
+      bare = λ k. bare_next (moment first steps k) (slice_get steps k);
+    }
 
   -- ---- from the first moment on
 
@@ -334,12 +336,9 @@ module _ {M : Type 0} (words : Words M ℕ) (known : AreKnownDest words) (accept
       }
 
   pub dest_lawful : (mech : M) (events : List Numbered) (first : RunWorld M) (steps : List (RunStep M)) (seen : ClientView M) (purposes : ℕ → Purposes)
-      → IsFirst mech events first → AreSteps m first steps
-      → ((k : ℕ) (s : RunStep M) → slice_get steps k ≡ Some s → s.parts.dest.speaker ≡ speakers.Worker
-      → SendsNoReply spell ((system_of m codes spell meaning seen first steps purposes).acts Dest k))
-      → IsLawfulDest spell (system_of m codes spell meaning seen first steps purposes)
+      → IsFirst mech events first → AreSteps m first steps → IsLawfulDest spell (system_of m codes spell meaning seen first steps purposes)
   unfolding system_of
-  dest_lawful mech events first steps seen purposes is are workers =
+  dest_lawful mech events first steps seen purposes is are =
       let shape = shape_of sides.Dest events in
-      run_lawful seen first steps purposes are (begins mech events first is) workers shape.files (shape.blocks * 4096) is.dest.volume
+      run_lawful seen first steps purposes are (begins mech events first is) shape.files (shape.blocks * 4096) is.dest.volume
       (known.begins first.dest (ap (λ (x : ContextTable Carried). x.entries) is.dest.contexts) (sessions_new first.dest is.dest.sessions))

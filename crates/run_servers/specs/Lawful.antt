@@ -35,10 +35,6 @@ pub record IsLawfulSource (spell : Spelling) (meaning : Meaning) (s : System) : 
   pub seals : (k : ℕ) (bytes : List ℕ) (seal : Seal) → Sends (s.acts Source k) bytes (Some seal) → seal.owner ≡ Source
   pub silent : (k : ℕ) (bytes : List ℕ) (seal : Seal) → Sends (s.acts Source k) bytes (Some seal) → seal.owner ≡ Client → ⊥
 
--- no record that an end sends under a seal in the step is a reply
-abbrev pub SendsNoReply : Spelling → Acts → Type 0
-SendsNoReply spell a = (bytes : List ℕ) (seal : Seal) → Sends a bytes (Some seal) → spell.is_reply bytes ≡ true → ⊥
-
 -- What the destination owes as a server: it obeys the laws of one, its volume starts as it is formatted, and the volume that it would
 -- have had no chunk landed goes on beside it.
 pub record IsLawfulDest (spell : Spelling) (s : System) : Type 0 where

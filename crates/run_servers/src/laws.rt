@@ -1,12 +1,10 @@
-ghost use Rattle.std.specs.Prelude.{◌≡◌, ◌≤◌, ℕ, List, Option, Some, slice_get};
+ghost use Rattle.std.specs.Prelude.{◌≤◌, ℕ, List, Option};
 ghost use Rattle.client_laws.specs.WholeTurns.{Purposes};
 ghost use Rattle.nfs_base.specs.declared.limits.TheConstants.{MOST_BLOCKS};
 ghost use Rattle.nfs_base.specs.declared.seal.End.{End};
-ghost use Rattle.nfs_base.specs.declared.seal.End.TheVariants as ends;
 ghost use Rattle.nfs_base.specs.declared.side.Side.TheVariants as sides;
-ghost use Rattle.run_servers.specs.Lawful.{IsLawfulDest, IsLawfulSource, IsSilentCaller, SendsNoReply};
+ghost use Rattle.run_servers.specs.Lawful.{IsLawfulDest, IsLawfulSource, IsSilentCaller};
 ghost use Rattle.run_system.specs.System.{ClientView, system_of};
-ghost use Rattle.wire_lines.specs.declared.letters.Speaker.TheVariants as speakers;
 ghost use Rattle.wire_machine.specs.Runs.{Numbered};
 ghost use Rattle.wire_machine.specs.Steps.{AreSteps};
 ghost use Rattle.wire_meaning.specs.Meaning.{meaning};
@@ -45,13 +43,11 @@ pub fn sources_call_nobody<M: Mechanism>()
         → IsSilentCaller (spelling accepts whose) (system_of (run_machines M.mic_of M.derived M.started M.accepted M.finished) (record { mic = M.mic_of; derived = M.derived }) (spelling accepts whose) meaning seen first steps purposes) }
 {}
 
-/// The destination of every run obeys the laws of a server in each step, where its workers seal no reply when they hear one.
+/// The destination of every run obeys the laws of a server in each step.
 pub fn destinations_are_lawful_servers<M: Mechanism>()
     ensures { (mech : M) (events : List Numbered) (first : RunWorld M) (steps : List (RunStep M)) (accepts : List ℕ → Option (List ℕ)) (whose : List ℕ → Option End)
         (seen : ClientView M) (purposes : ℕ → Purposes) → IsFirst mech events first
         → AreSteps (run_machines M.mic_of M.derived M.started M.accepted M.finished) first steps
-        → ((k : ℕ) (s : RunStep M) → slice_get steps k ≡ Some s → s.parts.dest.speaker ≡ speakers.Worker
-        → SendsNoReply (spelling accepts whose) ((system_of (run_machines M.mic_of M.derived M.started M.accepted M.finished) (record { mic = M.mic_of; derived = M.derived }) (spelling accepts whose) meaning seen first steps purposes).acts ends.Dest k))
         → IsLawfulDest (spelling accepts whose) (system_of (run_machines M.mic_of M.derived M.started M.accepted M.finished) (record { mic = M.mic_of; derived = M.derived }) (spelling accepts whose) meaning seen first steps purposes) }
 {
     server_laws::steps_are_lawful::<Destination<M>, dest_jobs::Carried, CountDraws>();
@@ -59,5 +55,6 @@ pub fn destinations_are_lawful_servers<M: Mechanism>()
     server_laws::slots_are_kept::<Destination<M>, dest_jobs::Carried, CountDraws>();
     server_laws::slots_rest::<Destination<M>, dest_jobs::Carried>();
     server_laws::contexts_stay::<Destination<M>, dest_jobs::Carried, CountDraws>();
+    dest_calls::heard_records_are_not_answered::<M>();
     server_laws::contexts_rest::<Destination<M>, dest_jobs::Carried>();
 }

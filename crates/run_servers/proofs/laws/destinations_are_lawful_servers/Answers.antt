@@ -3,7 +3,7 @@ use Rattle.run_servers.proofs.DestRuns.{AreKnownDest, dest_lawful}
 use Rattle.run_servers.proofs.laws.destinations_are_lawful_servers.Goals as goal
 
 pub returns : goal.returns
-returns g c mech events first steps accepts whose seen purposes is are workers =
+returns g c mech events first steps accepts whose seen purposes is are =
     let k = g.M.Mechanism in
     let known : AreKnownDest (words_of k.mic_of k.derived k.started k.accepted k.finished count_gives) = record {
       laws = c.steps_are_lawful.ensures.laws;
@@ -15,5 +15,6 @@ returns g c mech events first steps accepts whose seen purposes is are workers =
       begins = c.rests_are_lawful.ensures.start;
       begins_good = c.contexts_rest.ensures.start;
       begins_slots = c.slots_rest.ensures.start;
+      alone = c.heard_records_are_not_answered.ensures;
     } in
-    dest_lawful (words_of k.mic_of k.derived k.started k.accepted k.finished count_gives) known accepts whose mech events first steps seen purposes is are workers
+    dest_lawful (words_of k.mic_of k.derived k.started k.accepted k.finished count_gives) known accepts whose mech events first steps seen purposes is are
