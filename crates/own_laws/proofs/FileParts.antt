@@ -14,7 +14,7 @@ use Rattle.file_server.specs.Machine.{Going, Rules, with_call, with_extra}
 use Rattle.file_server.specs.Names.{file_named, lookup, lookup_told, lookup_unless, root_refusal}
 use Rattle.file_server.specs.Opening.{access_of, file_opened, open_by_name, open_file, open_told, open_unless}
 use Rattle.file_server.specs.Placing.{get, get_current, get_told, is_saved_next, put, put_root, put_tested, put_told, restore, restore_told, save, save_told}
-use Rattle.file_server.specs.Reading.{read, read_from, read_once, read_file, read_refusal, read_told, read_unless}
+use Rattle.file_server.specs.Reading.{read, read_once, read_file, read_refusal, read_told, read_unless}
 use Rattle.file_server.specs.Writing.{commit, commit_file, commit_told, sync_written, taken_bytes, write, write_at, write_file, write_settled, write_synced, write_told, write_unless}
 use Rattle.file_server.specs.declared.extension.Ask.{Ask}
 use Rattle.file_server.specs.declared.extension.Ask.TheVariants as ask
@@ -25,7 +25,7 @@ use Rattle.nfs_base.specs.declared.state_id.StateId.{StateId}
 use Rattle.nfs_base.specs.declared.status.Status.{Status}
 use Rattle.nfs_base.specs.declared.written.Stability.{Stability}
 use Rattle.nfs_base.specs.declared.written.Stability.TheVariants.{Unstable, DataSync, FileSync}
-use Rattle.server_volume.specs.Calls.{commit_call, read_call, write_call}
+use Rattle.server_volume.specs.Calls.{commit_call, write_call}
 use Rattle.server_volume.specs.Choices.{Choice}
 use Rattle.state_ids.specs.Opens.{OpenTable, close_refusal, open_answer, open_table}
 use Rattle.state_ids.specs.declared.access.Access.TheVariants as access

@@ -1,3 +1,4 @@
+mod Grows
 mod FileParts
 mod WalkParts
 mod OutsideParts

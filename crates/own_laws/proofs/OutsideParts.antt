@@ -1,5 +1,5 @@
 -- Operations outside a session go along: what a client's end leaves does.
-use Rattle.std.proofs.Common.{◌≡◌, ℕ, Bool, true, false, List, [], ◌∷◌, Option, Some, None}
+use Rattle.std.proofs.Common.{ℕ, Bool, true, false, List, [], ◌∷◌, Option, Some, None}
 use Rattle.std.specs.Prelude.{◌==◌, option_to_list}
 use Rattle.file_ops.specs.declared.args.FileArg.TheVariants as args
 use Rattle.file_ops.specs.declared.operation.TheConstants.{OP_EXCHANGE_ID, OP_CREATE_SESSION, OP_DESTROY_SESSION, OP_DESTROY_CLIENTID}
@@ -23,29 +23,29 @@ use Rattle.compound_server.specs.Clients.{asks_back, back_handle, by_created, by
 use Rattle.compound_server.specs.Compounds.{alone_refusal, outside_session, unless}
 use Rattle.compound_server.specs.Course.{Service}
 use Rattle.compound_server.specs.State.{Given, Parting, State, with_sessions, without_all, without_one}
-use Rattle.own_laws.specs.Following.{Follows}
+use Rattle.own_laws.proofs.Grows.{Grows}
 
-module _ {X C : Type 0} (goes : X → X → Type 0) (v : Service X C) (parting : Parting X) (silent : X → X) (f : Follows goes v parting silent) where
+module _ {X C : Type 0} (goes : ℕ → X → X → Type 0) (v : Service X C) (parting : Parting X) (silent : X → X) (f : Grows goes v parting silent) where
   -- from what the server had on
   abbrev pub GoesTo : State X → Given X → Type 0
-  GoesTo s g = goes s.machine.extra g.state.machine.extra
+  GoesTo s g = goes 0 s.machine.extra g.state.machine.extra
 
-  left_goes : (why : ClientEnd) (clients : List ℕ) (s : State X) → goes s.machine.extra (without_all parting why clients s).machine.extra
+  left_goes : (why : ClientEnd) (clients : List ℕ) (s : State X) → goes 0 s.machine.extra (without_all parting why clients s).machine.extra
   unfolding without_all
-  left_goes why [] s = f.same s.machine.extra
-  left_goes why (client ∷ clients) s = f.joins _ _ _ (f.leave client why s.machine.extra) (left_goes why clients (without_one parting why client s))
+  left_goes why [] s = f.same 0 s.machine.extra
+  left_goes why (client ∷ clients) s = f.joins 0 0 _ _ _ (f.leave client why s.machine.extra) (left_goes why clients (without_one parting why client s))
 
-  left_one : (b : Bool) (client : ℕ) (s : State X) → goes s.machine.extra (left_if b parting client s).machine.extra
+  left_one : (b : Bool) (client : ℕ) (s : State X) → goes 0 s.machine.extra (left_if b parting client s).machine.extra
   left_one true client s = f.leave client Gone s.machine.extra
-  left_one false client s = f.same s.machine.extra
+  left_one false client s = f.same 0 s.machine.extra
 
   exchanged_goes : (answer : Exchanged) (tag : List ℕ) (s : State X) → GoesTo s (by_exchanged answer parting tag s)
   exchanged_goes (exchanged.Client id sequence confirmed ended) tag s = left_goes Lapsed ended s
-  exchanged_goes (exchanged.Refused status) tag s = f.same s.machine.extra
+  exchanged_goes (exchanged.Refused status) tag s = f.same 0 s.machine.extra
 
   protection_goes : (p : Protection) (who : Who) (principal tag : List ℕ) (a : ExchangeIdArgs) (s : State X)
       → GoesTo s (by_protection p parting who principal tag a s)
-  protection_goes (Protected how) who principal tag a s = f.same s.machine.extra
+  protection_goes (Protected how) who principal tag a s = f.same 0 s.machine.extra
   protection_goes (Unprotected id) who principal tag a s =
       exchanged_goes (tables.exchange_answer s.sessions principal a.owner a.verifier who.second) tag
       (with_sessions (tables.exchange_table s.sessions principal a.owner a.verifier who.second) s)
@@ -56,7 +56,7 @@ module _ {X C : Type 0} (goes : X → X → Type 0) (v : Service X C) (parting :
 
   created_goes : (answer : Created) (tag : List ℕ) (s : State X) → GoesTo s (by_created answer parting tag s)
   created_goes (created.Made session sequence ended asked) tag s = left_goes Gone (option_to_list ended) s
-  created_goes (created.Refused status) tag s = f.same s.machine.extra
+  created_goes (created.Refused status) tag s = f.same 0 s.machine.extra
 
   create_goes : (who : Who) (tag : List ℕ) (a : CreateSessionArgs) (s : State X) → GoesTo s (create_session parting who tag a s)
   unfolding create_session
@@ -68,7 +68,7 @@ module _ {X C : Type 0} (goes : X → X → Type 0) (v : Service X C) (parting :
 
   destroy_goes : (tag session : List ℕ) (s : State X) → GoesTo s (destroy_session tag session s)
   unfolding destroy_session
-  destroy_goes tag session s = f.same s.machine.extra
+  destroy_goes tag session s = f.same 0 s.machine.extra
 
   end_goes : (tag : List ℕ) (client : ℕ) (s : State X) → GoesTo s (destroy_clientid parting tag client s)
   unfolding destroy_clientid
@@ -78,7 +78,7 @@ module _ {X C : Type 0} (goes : X → X → Type 0) (v : Service X C) (parting :
       left_one (status.number == 0) client (with_sessions (tables.destroy_client_table s.sessions client holds) s)
 
   unless_goes : (r : Option Status) (tag : List ℕ) (op : ℕ) (more : State X → Given X) (s : State X) → GoesTo s (more s) → GoesTo s (unless r tag op more s)
-  unless_goes (Some status) tag op more s goes = f.same s.machine.extra
+  unless_goes (Some status) tag op more s goes = f.same 0 s.machine.extra
   unless_goes None tag op more s goes = goes
 
   pub outside_goes : (who : Who) (principal : List ℕ) (carry : Option C) (tag : List ℕ) (count : ℕ) (op : Op) (s : State X)
@@ -96,4 +96,4 @@ module _ {X C : Type 0} (goes : X → X → Type 0) (v : Service X C) (parting :
   outside_goes who principal carry tag count (File (args.DestroyClientId client)) s =
       unless_goes (alone_refusal (count == 1) v who carry OP_DESTROY_CLIENTID s.machine.extra) tag OP_DESTROY_CLIENTID (destroy_clientid parting tag client) s
       (end_goes tag client s)
-  outside_goes who principal carry tag count op s = f.same s.machine.extra
+  outside_goes who principal carry tag count op s = f.same 0 s.machine.extra

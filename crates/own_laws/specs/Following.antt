@@ -1,10 +1,11 @@
 -- What a particular server adds goes along a relation in all that it does (own).
-use Rattle.std.specs.Prelude.{ℕ, List, Option}
+use Rattle.std.specs.Prelude.{ℕ, ◌+◌, ◌≤◌, List, Option}
 use Rattle.copy_ops.specs.declared.arg.CopyArg.{CopyArg}
 use Rattle.file_server.specs.Machine.{Going}
 use Rattle.file_server.specs.declared.extension.Ask.{Ask}
 use Rattle.file_server.specs.declared.extension.Caller.{Caller}
 use Rattle.gss_mech.specs.declared.mechanism.Accepted.{Accepted}
+use Rattle.nfs_base.specs.declared.limits.TheConstants.{MOST_OPERATIONS}
 use Rattle.server_volume.specs.Choices.{Choice}
 use Rattle.streams.specs.declared.draws.Drawn.{Drawn}
 use Rattle.compound_server.specs.Course.{Service}
@@ -41,3 +42,18 @@ InTurns {X} {C} {W} goes rules codes accepted gives =
 -- and in a second that comes by itself
 abbrev pub InSeconds : {X C : Type 0} → (X → X → Type 0) → Rules X C → Type 0
 InSeconds {X} {C} goes rules = (now : ℕ) (s : HostState X C) → goes (own_of s) (own_of (ticked rules now s))
+
+-- ---- what a server gives out of something, as of numbers
+
+-- An operation of its own gives out one at most, and no other of its own rules gives any.
+pub record GivesOne {X C : Type 0} (given : X → ℕ) (rules : Rules X C) : Type 0 where
+  pub gate : (x : X) (caller : Caller) (carry : Option C) (ask : Ask) → given (rules.service.gate x caller carry ask).0 ≤ given x
+  pub serve : (choice : Choice) (caller : Caller) (carry : Option C) (op : CopyArg) (g : Going X)
+      → given (rules.service.serve choice caller carry op g).going.machine.extra ≤ given g.machine.extra + 1
+  pub leave : (client : ℕ) (why : ClientEnd) (x : X) → given (rules.parting.leave client why x) ≤ given x
+  pub lapse : (second : ℕ) (x : X) → given (rules.parting.lapse second x) ≤ given x
+  pub silent : (x : X) → given (rules.silent x) ≤ given x
+
+-- as many as a COMPOUND has operations
+abbrev pub GivesFew : {X : Type 0} → (X → ℕ) → X → X → Type 0
+GivesFew given x y = given y ≤ given x + MOST_OPERATIONS

@@ -1,11 +1,12 @@
 //! How what a particular server adds goes on, in every step of the server.
 //!
 //! There is no code here. `specs/Following.antt` says what it is to go along a relation; one along which a server's extension goes
-//! in each of its own rules is [`Following`], and then it does in every step ([`own_parts_go_on`]), whatever the record is.
+//! in each of its own rules is [`Following`], and then it does in every step ([`own_parts_go_on`]), whatever the record is. What its
+//! own operations give out one by one it gives out few of in a step ([`own_parts_give_few`]).
 #![tactic(auto)]
 
 mod following;
 mod laws;
 
 pub use following::Following;
-pub use laws::own_parts_go_on;
+pub use laws::{own_parts_give_few, own_parts_go_on};

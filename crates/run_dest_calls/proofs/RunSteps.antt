@@ -39,7 +39,7 @@ pub record AreKnown {M : Type 0} (words : Words M ℕ) (who : Identity) (mech : 
       → IsSeenPlain who (means_of words mech) s t.host (part_acts (part_by (Some message) speaker t) executed)
   pub tick : (now : ℕ) (s : DestState M) (speaker : Speaker) (executed : Option Executed) → IsSettledAs who (copier_in s)
       → IsSeenPlain who (means_of words mech) s (tick_step (record { mic = words.mic; derived = words.derived }) now s).host
-          (part_acts (part_by None speaker (tick_step (record { mic = words.mic; derived = words.derived }) now s)) executed)
+      (part_acts (part_by None speaker (tick_step (record { mic = words.mic; derived = words.derived }) now s)) executed)
   pub record_ : (conn : ℕ) (message : List ℕ) (now : ℕ) (s : DestState M) (before after : ℕ) (t : DestStep M) (speaker : Speaker) (executed : Option Executed)
       → IsSettledAs who (copier_in s) → s.contexts.owner ≡ Dest → IsBytes message
       → IsRecord (record { mic = words.mic; derived = words.derived }) (words.accepted mech) words.gives conn message now s before after t
@@ -82,8 +82,8 @@ module _ {M : Type 0} (words : Words M ℕ) (who : Identity) (mech : M) (known :
   heard true worker bytes now s t out speaker executed comes is kept settled =
       let u : DestStep M = record { host = t; out = out } in
       let so =
-          subst (λ (f : List ℕ → List ℕ → Option (List ℕ)). IsReply (record { mic = words.mic; derived = words.derived }) f (worker - 1) bytes now s u)
-          (ap (λ (x : M). words.finished x (copier_in s).principal) kept.mech_is ∙ ap (words.finished mech) kept.principal) is in
+      subst (λ (f : List ℕ → List ℕ → Option (List ℕ)). IsReply (record { mic = words.mic; derived = words.derived }) f (worker - 1) bytes now s u)
+      (ap (λ (x : M). words.finished x (copier_in s).principal) kept.mech_is ∙ ap (words.finished mech) kept.principal) is in
       record {
         seen = plain s t _ (known.reply (worker - 1) now bytes s u speaker executed settled comes so);
         kept = known.reply_kept (record { mic = words.mic; derived = words.derived }) (words.finished mech dest_name) (worker - 1) bytes now s u so kept;
@@ -103,7 +103,7 @@ module _ {M : Type 0} (words : Words M ℕ) (who : Identity) (mech : M) (known :
   acted (acts.DestTakes conn bytes) now s t before after out speaker executed goes kept settled =
       let u : DestStep M = record { host = t; out = out } in
       let so =
-          subst (λ (x : M). IsRecord (record { mic = words.mic; derived = words.derived }) (words.accepted x) words.gives conn bytes now s before after u) kept.mech_is goes.0 in
+      subst (λ (x : M). IsRecord (record { mic = words.mic; derived = words.derived }) (words.accepted x) words.gives conn bytes now s before after u) kept.mech_is goes.0 in
       record {
         seen = plain s t _ (known.record_ conn bytes now s before after u speaker executed settled kept.owner goes.1.taken so);
         kept = known.record_kept conn bytes now s before after u so kept;
@@ -112,7 +112,7 @@ module _ {M : Type 0} (words : Words M ℕ) (who : Identity) (mech : M) (known :
   acted (acts.Works worker) now s t before after out speaker executed goes kept settled =
       let u : DestStep M = record { host = t; out = out } in
       let so =
-          subst (λ (x : M). IsWork words.gives (words.started x) (record { mic = words.mic; derived = words.derived }) (worker - 1) now s before after u) kept.mech_is goes.0.1 in
+      subst (λ (x : M). IsWork words.gives (words.started x) (record { mic = words.mic; derived = words.derived }) (worker - 1) now s before after u) kept.mech_is goes.0.1 in
       record {
         seen =
             known.work (words.started mech) (worker - 1) now s before after u speaker executed settled (within worker goes.0.0)

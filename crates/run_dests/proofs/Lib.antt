@@ -4,5 +4,6 @@ mod Records
 mod Servers
 mod Volumes
 mod Names
+mod Numbers
 mod Runs
 mod Whole

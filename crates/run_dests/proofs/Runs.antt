@@ -10,6 +10,7 @@ use Rattle.job_book.specs.Book.{IsSound}
 use Rattle.nfs_base.specs.declared.seal.End.{End}
 use Rattle.nfs_base.specs.declared.seal.End.TheVariants.{Dest}
 use Rattle.run_dests.proofs.Names.{IsNamed, StaysRight, Steps, named_by}
+use Rattle.run_dests.proofs.Numbers.{AreCounted, HasNumbers, numbers_on}
 use Rattle.run_dests.proofs.Records.{AreServed, codes_of}
 use Rattle.run_dests.proofs.Servers.{IsServer, server_on}
 use Rattle.run_dests.proofs.Volumes.{AreDue, AreOrderly, GoOn, HasVolume, VolumeGoes, volume_goes}
@@ -47,6 +48,23 @@ opening_on {M} words keep d t took speaker executed (inr (inr (inr (inl r)))) = 
 opening_on {M} words keep d t took speaker executed (inr (inr (inr (inr r)))) = ap (λ (x : DestState M). (volume_of x).boot) r.same
 
 -- a destination at its moments: what it took in each step, who tells of it, and what it executed
+module _ {M : Type 0} (words : Words M ℕ) (host : ℕ → DestState M) (step : ℕ → DestStep M) (took : ℕ → Option (List ℕ)) (speaker : ℕ → Speaker) (executed : ℕ → Option Executed)
+    (goes_on : (k : ℕ) → (step k).host ≡ host (suc k)) (kinds : (k : ℕ) → Kind words (host k) (step k) (took k) (speaker k) (executed k)) (served : AreServed words)
+    (begun : IsServer (host 0)) where
+  pub server_then : (k : ℕ) → IsServer (host k) → IsServer (step k).host
+  server_then k is = server_on words served (host k) (step k) (took k) (speaker k) (executed k) (kinds k) is
+
+  pub server_at : (k : ℕ) → IsServer (host k)
+  server_at zero = begun
+  server_at (suc k) = subst (λ (d : DestState M). IsServer d) (goes_on k) (server_then k (server_at k))
+
+  pub numbers_at : AreCounted words → HasNumbers (host 0) → (k : ℕ) → HasNumbers (host k)
+  numbers_at counted none zero = none
+  numbers_at counted none (suc k) =
+      subst (λ (d : DestState M). HasNumbers d) (goes_on k)
+      (numbers_on words counted (host k) (step k) (took k) (speaker k) (executed k) (kinds k) (server_at k).good (numbers_at counted none k))
+
+-- and a system shows it
 module _ {M : Type 0} (words : Words M ℕ) (accepts : List ℕ → Option (List ℕ)) (whose : List ℕ → Option End) (s : System) (host : ℕ → DestState M) (step : ℕ → DestStep M)
     (took : ℕ → Option (List ℕ)) (speaker : ℕ → Speaker) (executed : ℕ → Option Executed) (goes_on : (k : ℕ) → (step k).host ≡ host (suc k))
     (shows : (k : ℕ) → ShowsStep (spelling accepts whose) meaning s k (took k) (speaker k) (executed k) (host k) (step k))
@@ -54,18 +72,17 @@ module _ {M : Type 0} (words : Words M ℕ) (accepts : List ℕ → Option (List
   abbrev spell : Spelling
   spell = spelling accepts whose
 
-  server_then : (k : ℕ) → IsServer (host k) → IsServer (step k).host
-  server_then k is = server_on words served (host k) (step k) (took k) (speaker k) (executed k) (kinds k) is
+  at_server : (k : ℕ) → IsServer (host k)
+  at_server k = server_at words host step took speaker executed goes_on kinds served begun k
 
-  pub server_at : (k : ℕ) → IsServer (host k)
-  server_at zero = begun
-  server_at (suc k) = subst (λ (d : DestState M). IsServer d) (goes_on k) (server_then k (server_at k))
+  then_server : (k : ℕ) → IsServer (step k).host
+  then_server k = server_then words host step took speaker executed goes_on kinds served begun k (at_server k)
 
   module _ (orderly : AreOrderly words) (due : AreDue words accepts whose s) (go_on : GoOn words accepts whose s) (sound : (k : ℕ) → IsSound (table_in (host k)))
       (spelled : (k : ℕ) → AreSpelled (copier_in (host k)).work.mount) (has : HasVolume words (host 0)) where
     goes : (k : ℕ) → HasVolume words (host k) → VolumeGoes words (spelling accepts whose) s k (step k)
     goes k now =
-        volume_goes words accepts whose s served orderly due go_on k (host k) (step k) (took k) (speaker k) (executed k) (shows k) (server_at k) now (kinds k)
+        volume_goes words accepts whose s served orderly due go_on k (host k) (step k) (took k) (speaker k) (executed k) (shows k) (at_server k) now (kinds k)
         (sound k) (spelled k)
 
     has_at : (k : ℕ) → HasVolume words (host k)
@@ -95,7 +112,7 @@ module _ {M : Type 0} (words : Words M ℕ) (accepts : List ℕ → Option (List
 
     by_steps : (Goes : (k : ℕ) → DestState M → Type 0) → Steps words accepts whose s Goes → (k : ℕ) → IsToldRight s k (host k) → Goes k (step k).host
     by_steps Goes known k now =
-        named_by words accepts whose s Goes known k (host k) (step k) (took k) (speaker k) (executed k) (shows k) (server_at k) (server_then k (server_at k))
+        named_by words accepts whose s Goes known k (host k) (step k) (took k) (speaker k) (executed k) (shows k) (at_server k) (then_server k)
         (boots k) (boot_then k) (few k) (few_then k) (own k) now (kinds k)
 
     pub right_at : (k : ℕ) → IsToldRight s k (host k)

@@ -4,10 +4,12 @@ use Rattle.copy_model.specs.Volume.{Volume}
 use Rattle.copy_privs.specs.declared.peer.Peer.{Peer}
 use Rattle.dest_core.specs.Core.{no_copies, no_sessions}
 use Rattle.dest_core.specs.Stepping.{DestState}
+use Rattle.dest_core.specs.declared.destination.Destination.{Destination}
 use Rattle.dest_jobs.specs.declared.carried.Carried.{Carried}
 use Rattle.dest_lands.specs.Orderly.{IsOrderly}
 use Rattle.dest_names.specs.Holding.{IsToldRight}
 use Rattle.dest_view.specs.Steps.{Shows, ShowsStep, table_in}
+use Rattle.dest_view.specs.View.{made_in}
 use Rattle.gss_ctx.specs.Table.{ContextTable}
 use Rattle.job_book.specs.Book.{IsSound}
 use Rattle.nfs_base.specs.declared.net_loc.NetLoc.{NetLoc}
@@ -37,8 +39,9 @@ use Rattle.run_dests.specs.Kinds.{Kind}
 use Rattle.run_dests.specs.Mounts.{AreFewJobs, AreNotClients, AreSpelled}
 use Rattle.run_dests.proofs.Moments.{kind_at}
 use Rattle.run_dests.proofs.Names.{IsNamed, StaysRight, Steps}
+use Rattle.run_dests.proofs.Numbers.{AreCounted, HasNumbers, few_jobs}
 use Rattle.run_dests.proofs.Records.{AreServed}
-use Rattle.run_dests.proofs.Runs.{KeepOpening, named_at, right_at, volume_at}
+use Rattle.run_dests.proofs.Runs.{KeepOpening, named_at, numbers_at, right_at, volume_at}
 use Rattle.run_dests.proofs.Servers.{IsServer}
 use Rattle.run_dests.proofs.Volumes.{AreDue, AreOrderly, GoOn, HasVolume}
 
@@ -65,8 +68,7 @@ module _ {M : Type 0} (words : Words M ℕ) (accepts : List ℕ → Option (List
       (k : ℕ) (x : RunStep M) → slice_get steps k ≡ Some x
       → DestDid words (at_moment m (telling codes) spell meaning first steps k).world x.parts x.after
 
-  module _ (s : System) (mech : M) (events : List Numbered) (is : IsFirst mech events first) (served : AreServed words)
-      (shows : ShowsAll s) (did : DidAll)
+  module _ (mech : M) (events : List Numbered) (is : IsFirst mech events first) (served : AreServed words) (did : DidAll)
       (starts : (d : DestState M) → d.contexts.boot < 2 ^ 32 → d.contexts.made ≤ d.steps → d.contexts.entries ≡ [] → IsGood d) where
     begun : IsServer (host 0)
     begun =
@@ -86,44 +88,59 @@ module _ {M : Type 0} (words : Words M ℕ) (accepts : List ℕ → Option (List
         (acts_at m (telling codes) spell meaning first steps Dest k).executed
     kinds k = kind_at words spell meaning first steps did k
 
-    has : ((boot capacity : ℕ) (mech : M) (source : Peer) (principal : List ℕ) (own : NetLoc) (d : DestState M)
-        → d.state.machine.extra ≡ no_copies boot capacity mech source principal own → IsOrderly d) → HasVolume words (host 0)
-    has opened =
-        let none : (volume_of (host 0)).writes ≡ 0 = ap (λ (v : Volume). v.writes) is.dest.volume in
-        record {
-          writes = omega (arith, none);
-          orderly = opened 1 capacity mech dest_source dest_name dest_place (host 0) is.dest.extra;
-        }
+    none_yet : HasNumbers (host 0)
+    none_yet =
+        let none : made_in (host 0) ≡ 0 = ap (λ (x : Destination M). x.copier.copies.book.table.made) is.dest.extra in
+        let steps : (host 0).steps ≡ 0 = is.dest.steps in
+        record { counted = omega (arith, none); few = omega (arith, steps) }
 
-    module _ (orderly : AreOrderly words) (due : AreDue words accepts whose s) (go_on : GoOn words accepts whose s) (sound : (k : ℕ) → IsSound (table_in (host k)))
-        (spelled : AreSpelled m codes spell meaning first steps)
-        (opened : (boot capacity : ℕ) (mech : M) (source : Peer) (principal : List ℕ) (own : NetLoc) (d : DestState M)
-        → d.state.machine.extra ≡ no_copies boot capacity mech source principal own → IsOrderly d) where
-      pub volumes : (k : ℕ) → TakesSimple spell Dest (s.acts Dest k) → VolumeLaws (s.dest k) (s.dest (suc k)) (dest_effect s k)
-      volumes k simple =
-          volume_at words accepts whose s host (λ k. step_at m codes spell meaning first steps k) (λ k. (part_at m codes spell meaning first steps k).took)
-          (λ k. (part_at m codes spell meaning first steps k).speaker) (λ k. (acts_at m (telling codes) spell meaning first steps Dest k).executed) (λ k. refl) shows kinds served begun
-          orderly due go_on sound spelled (has opened) k simple
+    -- numbers of jobs have four bytes
+    pub few_at : AreCounted words → AreFewJobs m codes spell meaning first steps
+    few_at counted k =
+        few_jobs (host k)
+        (numbers_at words host (λ k. step_at m codes spell meaning first steps k) (λ k. (part_at m codes spell meaning first steps k).took)
+        (λ k. (part_at m codes spell meaning first steps k).speaker) (λ k. (acts_at m (telling codes) spell meaning first steps Dest k).executed) (λ k. refl) kinds served begun
+        counted none_yet k)
 
-    module _ (keep : KeepOpening words) (opening : (k : ℕ) → (table_in (host k)).boot ≡ (volume_of (host k)).boot)
-        (few : AreFewJobs m codes spell meaning first steps) (own : AreNotClients m codes spell meaning first steps)
-        (tells : (s : System) (k boot capacity : ℕ) (mech : M) (source : Peer) (principal : List ℕ) (own : NetLoc) (d : DestState M)
-        → d.state.machine.extra ≡ no_copies boot capacity mech source principal own → d.state.sessions ≡ no_sessions boot → Shows s k d → IsToldRight s k d)
-        (stays : Steps words accepts whose s (StaysRight words accepts whose s)) where
-      low : (volume_of (host 0)).boot < 2 ^ 32
-      low = let one : (volume_of (host 0)).boot ≡ 1 = ap (λ (v : Volume). v.boot) is.dest.volume in omega (arith, one)
+    module _ (s : System) (shows : ShowsAll s) where
+      has : ((boot capacity : ℕ) (mech : M) (source : Peer) (principal : List ℕ) (own : NetLoc) (d : DestState M)
+          → d.state.machine.extra ≡ no_copies boot capacity mech source principal own → IsOrderly d) → HasVolume words (host 0)
+      has opened =
+          let none : (volume_of (host 0)).writes ≡ 0 = ap (λ (v : Volume). v.writes) is.dest.volume in
+          record {
+            writes = omega (arith, none);
+            orderly = opened 1 capacity mech dest_source dest_name dest_place (host 0) is.dest.extra;
+          }
 
-      told : IsToldRight s 0 (host 0)
-      told = tells s 0 1 capacity mech dest_source dest_name dest_place (host 0) is.dest.extra is.dest.sessions (shows 0).before
+      module _ (orderly : AreOrderly words) (due : AreDue words accepts whose s) (go_on : GoOn words accepts whose s) (sound : (k : ℕ) → IsSound (table_in (host k)))
+          (spelled : AreSpelled m codes spell meaning first steps)
+          (opened : (boot capacity : ℕ) (mech : M) (source : Peer) (principal : List ℕ) (own : NetLoc) (d : DestState M)
+          → d.state.machine.extra ≡ no_copies boot capacity mech source principal own → IsOrderly d) where
+        pub volumes : (k : ℕ) → TakesSimple spell Dest (s.acts Dest k) → VolumeLaws (s.dest k) (s.dest (suc k)) (dest_effect s k)
+        volumes k simple =
+            volume_at words accepts whose s host (λ k. step_at m codes spell meaning first steps k) (λ k. (part_at m codes spell meaning first steps k).took)
+            (λ k. (part_at m codes spell meaning first steps k).speaker) (λ k. (acts_at m (telling codes) spell meaning first steps Dest k).executed) (λ k. refl) shows kinds served begun
+            orderly due go_on sound spelled (has opened) k simple
 
-      pub rights : (k : ℕ) → IsToldRight s k (host k)
-      rights k =
-          right_at words accepts whose s host (λ k. step_at m codes spell meaning first steps k) (λ k. (part_at m codes spell meaning first steps k).took)
-          (λ k. (part_at m codes spell meaning first steps k).speaker) (λ k. (acts_at m (telling codes) spell meaning first steps Dest k).executed) (λ k. refl) shows kinds served begun
-          keep low opening few own told stays k
+      module _ (keep : KeepOpening words) (opening : (k : ℕ) → (table_in (host k)).boot ≡ (volume_of (host k)).boot)
+          (few : AreFewJobs m codes spell meaning first steps) (own : AreNotClients m codes spell meaning first steps)
+          (tells : (s : System) (k boot capacity : ℕ) (mech : M) (source : Peer) (principal : List ℕ) (own : NetLoc) (d : DestState M)
+          → d.state.machine.extra ≡ no_copies boot capacity mech source principal own → d.state.sessions ≡ no_sessions boot → Shows s k d → IsToldRight s k d)
+          (stays : Steps words accepts whose s (StaysRight words accepts whose s)) where
+        low : (volume_of (host 0)).boot < 2 ^ 32
+        low = let one : (volume_of (host 0)).boot ≡ 1 = ap (λ (v : Volume). v.boot) is.dest.volume in omega (arith, one)
 
-      pub names : Steps words accepts whose s (IsNamed words accepts whose s) → (k : ℕ) → NameLaws spell meaning s k
-      names named k =
-          named_at words accepts whose s host (λ k. step_at m codes spell meaning first steps k) (λ k. (part_at m codes spell meaning first steps k).took)
-          (λ k. (part_at m codes spell meaning first steps k).speaker) (λ k. (acts_at m (telling codes) spell meaning first steps Dest k).executed) (λ k. refl) shows kinds served begun
-          keep low opening few own told stays named k
+        told : IsToldRight s 0 (host 0)
+        told = tells s 0 1 capacity mech dest_source dest_name dest_place (host 0) is.dest.extra is.dest.sessions (shows 0).before
+
+        pub rights : (k : ℕ) → IsToldRight s k (host k)
+        rights k =
+            right_at words accepts whose s host (λ k. step_at m codes spell meaning first steps k) (λ k. (part_at m codes spell meaning first steps k).took)
+            (λ k. (part_at m codes spell meaning first steps k).speaker) (λ k. (acts_at m (telling codes) spell meaning first steps Dest k).executed) (λ k. refl) shows kinds served begun
+            keep low opening few own told stays k
+
+        pub names : Steps words accepts whose s (IsNamed words accepts whose s) → (k : ℕ) → NameLaws spell meaning s k
+        names named k =
+            named_at words accepts whose s host (λ k. step_at m codes spell meaning first steps k) (λ k. (part_at m codes spell meaning first steps k).took)
+            (λ k. (part_at m codes spell meaning first steps k).speaker) (λ k. (acts_at m (telling codes) spell meaning first steps Dest k).executed) (λ k. refl) shows kinds served begun
+            keep low opening few own told stays named k

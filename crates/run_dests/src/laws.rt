@@ -45,23 +45,40 @@ pub fn volumes_are_lawful<M: Mechanism>()
     dest_lands::volumes_go_on::<M, CountDraws>();
 }
 
+/// Along a run the numbers of the destination's jobs have four bytes: a step gives out no more than a COMPOUND may have operations, and
+/// few steps are made.
+pub fn jobs_are_few<M: Mechanism>()
+    ensures { (mech : M) (events : List Numbered) (first : RunWorld M) (steps : List (RunStep M)) (accepts : List ℕ → Option (List ℕ)) (whose : List ℕ → Option End)
+        → IsFirst mech events first
+        → AreSteps (run_machines M.mic_of M.derived M.started M.accepted M.finished) first steps
+        → AreFewJobs (run_machines M.mic_of M.derived M.started M.accepted M.finished) (record { mic = M.mic_of; derived = M.derived }) (spelling accepts whose) meaning first steps }
+{
+    run_copies::destinations_are_shown::<M>();
+    server_laws::steps_are_lawful::<Destination<M>, Carried, CountDraws>();
+    server_laws::contexts_stay::<Destination<M>, Carried, CountDraws>();
+    server_laws::contexts_rest::<Destination<M>, Carried>();
+    server_laws::steps_carry_compounds_out::<Destination<M>, Carried, CountDraws>();
+    tell_laws::servers_change_volumes_lawfully::<Destination<M>, Carried, CountDraws>();
+    own_laws::own_parts_give_few::<Destination<M>, Carried, CountDraws>();
+    dest_own::steps_give_one_entry::<M, CountDraws>();
+}
+
 /// In each step of a run the destination obeys the laws of names and reports, and at each moment what is reported as stable is safe.
 pub fn names_are_lawful<M: Mechanism>()
     ensures laws { (mech : M) (events : List Numbered) (first : RunWorld M) (steps : List (RunStep M)) (accepts : List ℕ → Option (List ℕ)) (whose : List ℕ → Option End)
         (seen : ClientView M) (purposes : ℕ → Purposes) → IsFirst mech events first
         → AreSteps (run_machines M.mic_of M.derived M.started M.accepted M.finished) first steps
         → AreNotClients (run_machines M.mic_of M.derived M.started M.accepted M.finished) (record { mic = M.mic_of; derived = M.derived }) (spelling accepts whose) meaning first steps
-        → AreFewJobs (run_machines M.mic_of M.derived M.started M.accepted M.finished) (record { mic = M.mic_of; derived = M.derived }) (spelling accepts whose) meaning first steps
         → (k : ℕ)
         → NameLaws (spelling accepts whose) meaning (system_of (run_machines M.mic_of M.derived M.started M.accepted M.finished) (record { mic = M.mic_of; derived = M.derived }) (spelling accepts whose) meaning seen first steps purposes) k }
     ensures safe { (mech : M) (events : List Numbered) (first : RunWorld M) (steps : List (RunStep M)) (accepts : List ℕ → Option (List ℕ)) (whose : List ℕ → Option End)
         (seen : ClientView M) (purposes : ℕ → Purposes) → IsFirst mech events first
         → AreSteps (run_machines M.mic_of M.derived M.started M.accepted M.finished) first steps
         → AreNotClients (run_machines M.mic_of M.derived M.started M.accepted M.finished) (record { mic = M.mic_of; derived = M.derived }) (spelling accepts whose) meaning first steps
-        → AreFewJobs (run_machines M.mic_of M.derived M.started M.accepted M.finished) (record { mic = M.mic_of; derived = M.derived }) (spelling accepts whose) meaning first steps
         → (k : ℕ)
         → AreSafe (system_of (run_machines M.mic_of M.derived M.started M.accepted M.finished) (record { mic = M.mic_of; derived = M.derived }) (spelling accepts whose) meaning seen first steps purposes) k }
 {
+    jobs_are_few::<M>();
     run_copies::destinations_are_shown::<M>();
     run_copies::openings_stay::<M, CountDraws>();
     server_laws::steps_are_lawful::<Destination<M>, Carried, CountDraws>();

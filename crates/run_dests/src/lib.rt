@@ -7,4 +7,4 @@
 
 mod laws;
 
-pub use laws::{names_are_lawful, volumes_are_lawful};
+pub use laws::{jobs_are_few, names_are_lawful, volumes_are_lawful};

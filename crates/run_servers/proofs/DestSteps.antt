@@ -131,9 +131,11 @@ module _ {M : Type 0} (words : Words M ℕ) where
   by_hears alone worker bytes before parts after d =
       leaving before parts after d.dest (ap (λ (w : RunWorld M). w.dest) d.after_is)
       (hears_leaves (is_worker worker) worker bytes before.clock before.dest d.dest d.out d.acts.0.0)
-      (inr (ap (λ (p : Parts). p.dest.speaker) d.parts_are,
-      subst AreCalls (sym (ap (λ (p : Parts). p.dest.out.sent) d.parts_are))
-      (hears_calls alone (is_worker worker) worker bytes before.clock before.dest d.dest d.out d.acts.0.0)))
+      (inr (
+        ap (λ (p : Parts). p.dest.speaker) d.parts_are,
+        subst AreCalls (sym (ap (λ (p : Parts). p.dest.out.sent) d.parts_are))
+            (hears_calls alone (is_worker worker) worker bytes before.clock before.dest d.dest d.out d.acts.0.0),
+      ))
 
   by_source : (act : SourceAct) (took : Option (List ℕ)) (before : RunWorld M) (parts : Parts) (after : RunWorld M)
       → SourceDoes m act took before parts after → Did before parts after

@@ -36,7 +36,7 @@ returns g c =
       rest = λ k took speaker d t shows same sent right. (reports.rest accepts whose s k took speaker d t shows same sent right).0;
     } in
     record {
-      laws = λ mech events first steps accepts whose seen purposes is are own few at.
+      laws = λ mech events first steps accepts whose seen purposes is are own at.
           let s : System =
           system_of (run_machines k.mic_of k.derived k.started k.accepted k.finished) (record { mic = k.mic_of; derived = k.derived }) (spelling accepts whose) meaning seen first steps purposes in
           let named : Steps words accepts whose s (IsNamed words accepts whose s) = record {
@@ -46,14 +46,16 @@ returns g c =
             tick = called.tick accepts whose s;
             rest = called.rest accepts whose s;
           } in
-          names words accepts whose first steps s mech events is served (shown.step mech events first steps (spelling accepts whose) meaning seen purposes is are)
-          (shown.did mech events first steps (spelling accepts whose) meaning is are) c.contexts_rest.ensures.start keep
-          (shown.opening mech events first steps (spelling accepts whose) meaning is are) few own c.reports_begin_right.ensures (stays accepts whose s) named at;
-      safe = λ mech events first steps accepts whose seen purposes is are own few at.
+          names words accepts whose first steps mech events is served (shown.did mech events first steps (spelling accepts whose) meaning is are)
+          c.contexts_rest.ensures.start s (shown.step mech events first steps (spelling accepts whose) meaning seen purposes is are) keep
+          (shown.opening mech events first steps (spelling accepts whose) meaning is are)
+          (c.jobs_are_few.ensures mech events first steps accepts whose is are) own c.reports_begin_right.ensures (stays accepts whose s) named at;
+      safe = λ mech events first steps accepts whose seen purposes is are own at.
           let s : System =
           system_of (run_machines k.mic_of k.derived k.started k.accepted k.finished) (record { mic = k.mic_of; derived = k.derived }) (spelling accepts whose) meaning seen first steps purposes in
           called.stable s at (host words accepts whose first steps at)
-          (rights words accepts whose first steps s mech events is served (shown.step mech events first steps (spelling accepts whose) meaning seen purposes is are)
-          (shown.did mech events first steps (spelling accepts whose) meaning is are) c.contexts_rest.ensures.start keep
-          (shown.opening mech events first steps (spelling accepts whose) meaning is are) few own c.reports_begin_right.ensures (stays accepts whose s) at);
+          (rights words accepts whose first steps mech events is served (shown.did mech events first steps (spelling accepts whose) meaning is are)
+          c.contexts_rest.ensures.start s (shown.step mech events first steps (spelling accepts whose) meaning seen purposes is are) keep
+          (shown.opening mech events first steps (spelling accepts whose) meaning is are)
+          (c.jobs_are_few.ensures mech events first steps accepts whose is are) own c.reports_begin_right.ensures (stays accepts whose s) at);
     }

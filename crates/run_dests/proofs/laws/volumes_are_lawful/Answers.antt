@@ -37,6 +37,6 @@ returns g c mech events first steps accepts whose seen purposes is are spelled a
       tick = going.tick (spelling accepts whose) meaning s;
       rest = going.rest s;
     } in
-    volumes words accepts whose first steps s mech events is served (shown.step mech events first steps (spelling accepts whose) meaning seen purposes is are)
-    (shown.did mech events first steps (spelling accepts whose) meaning is are) c.contexts_rest.ensures.start orderly due go_on
+    volumes words accepts whose first steps mech events is served (shown.did mech events first steps (spelling accepts whose) meaning is are)
+    c.contexts_rest.ensures.start s (shown.step mech events first steps (spelling accepts whose) meaning seen purposes is are) orderly due go_on
     (λ at. (shown.kept mech events first steps (spelling accepts whose) meaning is are at).sound) spelled asks.begin at simple
