@@ -1,5 +1,5 @@
 -- How each command ends. The clause of the top call cites `Ends` and nothing else.
-use Rattle.std.specs.Prelude.{◌≡◌, ℕ, ◌≤◌, true, Option, None, Some, is_some, List}
+use Rattle.std.specs.Prelude.{◌≡◌, ℕ, ◌≤◌, true, Option, None, Some, is_some, List, option_map}
 use Rattle.std.specs.Io.KnownBytes.{Appends}
 use Rattle.outcome.specs.Causes.{Rose}
 use Rattle.streams.specs.Sink.{AppendsFront}
@@ -9,9 +9,10 @@ use Rattle.nfscopy.specs.declared.exit_status.ExitStatus.{ExitStatus}
 use Rattle.nfscopy.specs.declared.ends.UsageEnd.{UsageEnd}
 use Rattle.nfscopy.specs.declared.ends.UsageEnd.TheVariants.{Put, WriteFault}
 use Rattle.nfscopy.specs.ExitStatus.{code_of, usage_status, run_status, show_status}
+use Rattle.nfscopy.specs.Input.{asked}
 use Rattle.nfscopy.specs.Notice.{usage_text}
 use Rattle.nfscopy.specs.Outside.{Outside, DiskWords, SameDisks}
-use Rattle.nfscopy.specs.RunEnds.{RunEnds, RunWords}
+use Rattle.nfscopy.specs.RunEnds.{KeepsIf, RunEnds, RunWords}
 use Rattle.nfscopy.specs.ShowEnds.{ShowEnds}
 
 -- words of no command: the one line `usage` is put, or a front of it; no memory is taken
@@ -29,7 +30,7 @@ pub record EndsAs {E : Type 0} (status_of : E → ExitStatus) (Says : E → Type
 abbrev pub EndsBy : {D M : Type 0} → DiskWords D → RunWords M → Option Command → Outside D → Outside D → ℕ → Type 0
 EndsBy w r None before now code =
     EndsAs usage_status (UsageEnds before.taken now.taken before.writes now.writes) code × SameDisks before now
-EndsBy w r (Some Run) before now code = EndsAs run_status (RunEnds w r before now) code
+EndsBy w r (Some Run) before now code = EndsAs run_status (RunEnds w r before now) code × KeepsIf r (option_map asked before.left)
 EndsBy w r (Some Show) before now code = EndsAs show_status (ShowEnds before now) code × SameDisks before now
 
 -- the same, and the counts of faults never fell

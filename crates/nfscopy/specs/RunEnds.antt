@@ -1,5 +1,5 @@
 -- How `run` ends: for each end why it came, what was put, and what became of the disks.
-use Rattle.std.specs.Prelude.{◌≡◌, ◌≢◌, ◌⊎◌, ◌≤◌, ◌+◌, ℕ, true, Option, None, Some, is_some, Ok, Err, List, ◌++◌, option_map}
+use Rattle.std.specs.Prelude.{◌≡◌, ◌≢◌, ◌⊎◌, ◌≤◌, ◌+◌, ℕ, true, Option, None, Some, is_some, Ok, Err, List, ◌++◌, take, option_map}
 use Rattle.std.specs.Io.KnownBytes.{Keeps, Appends, IsAtEnd}
 use Rattle.outcome.specs.Causes.{Rose}
 use Rattle.streams.specs.Sink.{AppendsFront}
@@ -10,20 +10,24 @@ use Rattle.wire_machine.specs.declared.mistake.Mistake.{Mistake}
 use Rattle.gss_ctx.specs.Seals.{Mic}
 use Rattle.gss_mech.specs.declared.mechanism.Accepted.{Accepted}
 use Rattle.wire_log.specs.Keeping.{reading}
-use Rattle.wire_run.specs.Ends.{run_machines}
+use Rattle.run_dest_calls.specs.Kept.{PlansStayFit}
+use Rattle.run_promise.specs.Promise.{KeepsPromise, run_spelling}
+use Rattle.wire_meaning.specs.Meaning.{meaning}
+use Rattle.wire_run.specs.Ends.{Words, count_gives, run_machines, words_of}
 use Rattle.wire_run.specs.Fresh.{Small}
 use Rattle.wire_run.specs.Run.{Did, RunsFront, ScheduleRuns, Volumes, asks_for, first_small}
 use Rattle.wire_run.specs.System.{DiskHolds}
 use Rattle.wire_run.specs.declared.setting.TheConstants.{SOURCE_TAG, DEST_TAG}
-use Rattle.wire_run.specs.Running.{Later, RunMachines, failed_steps, size_in}
+use Rattle.wire_run.specs.Running.{Later, RunMachines, RunStep, RunWorld, failed_steps, size_in}
 use Rattle.nfscopy.specs.declared.ends.RunEnd.{RunEnd}
 use Rattle.nfscopy.specs.declared.ends.RunEnd.TheVariants as ends
 use Rattle.nfscopy.specs.Input.{Input, asked, IfSchedule, IfRefused}
 use Rattle.nfscopy.specs.Notice.{not_volume_text, small_text}
 use Rattle.nfscopy.specs.Outside.{Outside, DiskWords, SameDisks, DiskRose, disk_at}
 
--- The machines of a run, by what the mechanism tells of itself.
+-- The machines of a run, by what the mechanism tells of itself, which are its words.
 pub record RunWords (M : Type 0) : Type 1 where
+  pub words : Words M ℕ
   pub machines : RunMachines M
   pub read : Reading
   pub mech : M
@@ -31,7 +35,35 @@ pub record RunWords (M : Type 0) : Type 1 where
 abbrev pub run_words : {M : Type 0} → M → Mic → (List ℕ → ℕ → List ℕ → List ℕ) → (M → List ℕ → List ℕ → Option (List ℕ)) → (M → List ℕ → List ℕ → Option Accepted)
     → (M → List ℕ → List ℕ → List ℕ → Option (List ℕ)) → RunWords M
 run_words mech mic derived started accepted finished =
-    record { machines = run_machines mic derived started accepted finished; read = reading; mech = mech }
+    record {
+      words = words_of mic derived started accepted finished count_gives;
+      machines = run_machines mic derived started accepted finished;
+      read = reading;
+      mech = mech;
+    }
+
+-- ---- what is promised
+
+abbrev pub HasFitPlans : {M : Type 0} → RunWords M → RunWorld M → List (RunStep M) → Type 0
+HasFitPlans r first steps = PlansStayFit r.words r.mech (run_spelling r.words r.mech) meaning first steps
+
+-- Each run of these events, of all of them or of the first so many, keeps the promise, where the plans of its destination's jobs have
+-- numbers and bytes within the bounds of their types.
+pub record RunsKeep {M : Type 0} (r : RunWords M) (events : List Numbered) : Type 0 where
+  pub whole : (did : Did) (end : End) (lines : List ℕ) (records : ℕ) (last : Volumes)
+      (run : ScheduleRuns r.machines r.read r.mech events did end lines records last)
+      → HasFitPlans r run.first run.steps → KeepsPromise r.words r.mech run.first run.steps
+  pub front : (done : ℕ) (did : Did) (end : End) (lines : List ℕ) (records : ℕ) (last : Volumes)
+      (run : ScheduleRuns r.machines r.read r.mech (take done events) did end lines records last)
+      → HasFitPlans r run.first run.steps → KeepsPromise r.words r.mech run.first run.steps
+
+-- and so does each run of what an input asks for, where it is told and a schedule
+abbrev pub KeepsIf : {M : Type 0} → RunWords M → Option Input → Type 0
+KeepsIf r None = Unit {0}
+KeepsIf r (Some (Ok events)) = RunsKeep r events
+KeepsIf r (Some (Err line)) = Unit {0}
+
+-- ---- how it ends
 
 module _ {D M : Type 0} (w : DiskWords D) (r : RunWords M) where
   -- the run of a schedule ends so, and all that is due was put

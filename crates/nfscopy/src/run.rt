@@ -1,11 +1,11 @@
 ghost use Rattle.std.specs.Io.KnownBytes.{IsAtEnd};
-ghost use Rattle.std.specs.Prelude.{◌≡◌, ◌≤◌, ℕ, List, Option, Some, Ok, true, is_some};
+ghost use Rattle.std.specs.Prelude.{◌≡◌, ◌≤◌, ℕ, List, Option, Some, Ok, option_map, true, is_some};
 ghost use Rattle.nfscopy.specs.Ends.{UsageEnds};
-ghost use Rattle.nfscopy.specs.Input.{parsed};
+ghost use Rattle.nfscopy.specs.Input.{asked, parsed};
 ghost use Rattle.nfscopy.specs.Notice.{bad_line_text};
 ghost use Rattle.nfscopy.specs.Outside.{outside, disk_words};
 ghost use Rattle.nfscopy.specs.Puts.{EndPut, LastPut, LinePut, UnmadePut};
-ghost use Rattle.nfscopy.specs.RunEnds.{run_words, CarriesOut, RunEnds};
+ghost use Rattle.nfscopy.specs.RunEnds.{run_words, CarriesOut, KeepsIf, RunEnds};
 ghost use Rattle.wire_machine.specs.Runs.{events_in};
 ghost use Rattle.wire_schedule.specs.ScheduleText.{schedule_of};
 
@@ -17,6 +17,8 @@ use disk_model::Disk;
 use gss_mech::Mechanism;
 use nfs_base::INPUT_LIMIT;
 use outcome::NoMemory;
+use run_bounds::schedules_are_accepted;
+use run_promise::runs_keep_the_promise;
 use std::alloc::Global;
 use streams::{Sink, Source, Whole, put_all, read_whole};
 use wire_run::{Disks, Ran, System, Unmade};
@@ -47,9 +49,12 @@ pub fn run<S: Source, K: Sink, D: Disk + Drop, M: Mechanism>(
         (outside (S.gives input.old).left (K.takes output.old).taken (S.gives input.old).faults (K.takes output.old).faults disks.old.source disks.old.dest)
         (outside (S.gives input.new).left (K.takes output.new).taken (S.gives input.new).faults (K.takes output.new).faults disks.new.source disks.new.dest)
         result }
+    ensures kept { KeepsIf (run_words mech.entry M.mic_of M.derived (λ m. M.started m.now) (λ m. M.accepted m.now) (λ m. M.finished m.now)) (option_map asked (S.gives input.old).left) }
     ensures reads_later { (S.gives input.old).faults ≤ (S.gives input.new).faults }
     ensures writes_later { (K.takes output.old).faults ≤ (K.takes output.new).faults }
 {
+    runs_keep_the_promise::<&M>();
+    schedules_are_accepted();
     match read_whole(alloc, input, INPUT_LIMIT as usize) {
         Ok(Whole::Text(text)) => run_text(alloc, &text, output, disks, mech),
         Ok(Whole::TooMuch) => put_last(output, too_much_line(), RunEnd::Refused),

@@ -1,6 +1,7 @@
 use Rattle.std.proofs.Common.{refl}
 use Rattle.std.proofs.KnownBytes.{Keeps-refl}
 use Rattle.nfscopy.proofs.Ending.{text_ends, large_ends, failed_ends, starved_ends}
+use Rattle.nfscopy.proofs.Keeping.{inputs_keep}
 use Rattle.nfscopy.proofs.run.run.Goals as goal
 
 pub returns-in-Ok-Text-clause-ends : goal.returns-in-Ok-Text-clause-ends
@@ -22,3 +23,23 @@ returns-in-Ok-Failed-clause-ends g c =
 
 pub returns-in-Err-clause-ends : goal.returns-in-Err-clause-ends
 returns-in-Err-clause-ends g c = starved_ends _ _ _ _ (Keeps-refl (g.K.Stream.takes c.args.output.now).taken) refl refl
+
+pub returns-in-Ok-Text-clause-kept : goal.returns-in-Ok-Text-clause-kept
+returns-in-Ok-Text-clause-kept g c =
+    inputs_keep _ (c.runs_keep_the_promise.ensures c.args.mech) c.schedules_are_accepted.ensures.whole c.schedules_are_accepted.ensures.fronts
+    (g.S.Stream.gives c.args.input.now).left
+
+pub returns-in-Ok-TooMuch-clause-kept : goal.returns-in-Ok-TooMuch-clause-kept
+returns-in-Ok-TooMuch-clause-kept g c =
+    inputs_keep _ (c.runs_keep_the_promise.ensures c.args.mech) c.schedules_are_accepted.ensures.whole c.schedules_are_accepted.ensures.fronts
+    (g.S.Stream.gives c.args.input.now).left
+
+pub returns-in-Ok-Failed-clause-kept : goal.returns-in-Ok-Failed-clause-kept
+returns-in-Ok-Failed-clause-kept g c =
+    inputs_keep _ (c.runs_keep_the_promise.ensures c.args.mech) c.schedules_are_accepted.ensures.whole c.schedules_are_accepted.ensures.fronts
+    (g.S.Stream.gives c.args.input.now).left
+
+pub returns-in-Err-clause-kept : goal.returns-in-Err-clause-kept
+returns-in-Err-clause-kept g c =
+    inputs_keep _ (c.runs_keep_the_promise.ensures c.args.mech) c.schedules_are_accepted.ensures.whole c.schedules_are_accepted.ensures.fronts
+    (g.S.Stream.gives c.args.input.now).left

@@ -1,0 +1,4 @@
+pub mod Accepted
+pub mod Assembled
+pub mod Promise
+pub mod Setting

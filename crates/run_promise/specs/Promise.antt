@@ -1,0 +1,52 @@
+-- What is promised of a run of the three machines. Own definitions.
+use Rattle.std.specs.Prelude.{ℕ, List, Option, None, Some, bytes_eq, if◌then◌else◌, replicate}
+use Rattle.caller_laws.specs.Tokens.{principal_in}
+use Rattle.client_laws.specs.WholeTurns.{Purposes}
+use Rattle.copy_model.specs.Moment.{History}
+use Rattle.copy_model.specs.Promise.{IsKept, IsStopped}
+use Rattle.nfs_base.specs.declared.seal.End.{End}
+use Rattle.nfs_base.specs.declared.seal.End.TheVariants.{Client, Dest}
+use Rattle.run_system.specs.System.{system_of, telling}
+use Rattle.run_words.specs.View.{client_view}
+use Rattle.session_server.specs.Host.{Codes}
+use Rattle.wire_machine.specs.History.{history}
+use Rattle.wire_meaning.specs.Meaning.{meaning}
+use Rattle.wire_model.specs.Spelling.{Spelling}
+use Rattle.wire_model.specs.System.{System}
+use Rattle.wire_model.specs.WordKept.{IsWordKept}
+use Rattle.wire_run.specs.Ends.{Words, machines}
+use Rattle.wire_run.specs.Running.{RunStep, RunWorld}
+use Rattle.wire_run.specs.Setting.{dest_name, user}
+use Rattle.wire_spelling.specs.Spelling.{spelling}
+
+-- the end that a principal is
+abbrev pub whose : List ℕ → Option End
+whose name = if bytes_eq name user then Some Client else (if bytes_eq name dest_name then Some Dest else None)
+
+-- a nonce of an acceptor; whose a token is doesn't depend on it
+abbrev pub any_nonce : List ℕ
+any_nonce = replicate 32 0
+
+module _ {M : Type 0} (words : Words M ℕ) (mech : M) where
+  abbrev pub codes_of : Codes
+  codes_of = record { mic = words.mic; derived = words.derived }
+
+  -- how records are read: a token is its principal's
+  abbrev pub run_spelling : Spelling
+  run_spelling = spelling (principal_in (words.accepted mech) any_nonce) whose
+
+  module _ (first : RunWorld M) (steps : List (RunStep M)) where
+    -- what the run shows of its copies, computed from what its steps did
+    abbrev pub run_shows : History
+    run_shows = history (machines words) (telling codes_of) run_spelling meaning first steps
+
+    -- and all that is seen of its machines, where the client's calls are for these purposes
+    abbrev pub seen_by : (ℕ → Purposes) → System
+    seen_by purposes = system_of (machines words) codes_of run_spelling meaning client_view first steps purposes
+
+    -- Its copies are kept and stopped, and the client keeps its word.
+    pub record KeepsPromise : Type 0 where
+      pub kept : IsKept run_shows
+      pub stopped : IsStopped run_shows
+      pub purposes : ℕ → Purposes
+      pub word : IsWordKept meaning (seen_by purposes)

@@ -1,0 +1,60 @@
+ghost use Rattle.std.specs.Prelude.{List};
+ghost use Rattle.run_bounds.specs.Accepted.{AreAccepted};
+ghost use Rattle.run_dest_calls.specs.Kept.{PlansStayFit};
+ghost use Rattle.run_promise.specs.Promise.{KeepsPromise, run_spelling};
+ghost use Rattle.wire_log.specs.Keeping.{reading};
+ghost use Rattle.wire_machine.specs.Runs.{End, Numbered, Runs};
+ghost use Rattle.wire_meaning.specs.Meaning.{meaning};
+ghost use Rattle.wire_run.specs.Ends.{count_gives, run_machines, words_of};
+ghost use Rattle.wire_run.specs.Run.{IsFirst};
+ghost use Rattle.wire_run.specs.Running.{RunStep, RunWorld};
+ghost use Rattle.wire_schedule.specs.Admission.{at_start};
+
+use caller_laws::tokens_are_their_senders;
+use client_fits::clients_have_fit_ways;
+use dest_lands::what_is_awaited_is_spelled;
+use gss_mech::{Mechanism, tokens_agree};
+use mount_fits::counted_draws_are_nonces;
+use run_bounds::clients_may_go;
+use run_clients::{clients_are_lawful, clients_go_by_turns, wires_are_unmistaken};
+use run_dest_calls::{destinations_are_lawful_callers, destinations_go_as_callers};
+use run_servers::{destinations_are_lawful_servers, sources_are_lawful, sources_call_nobody};
+use run_system::systems_show_histories;
+use run_words::runs_keep_the_word;
+use streams::CountDraws;
+use wire_model::lawful_systems;
+
+/// The run of an accepted schedule, from servers on volumes that were just formatted, keeps and stops its copies up to each of its
+/// steps, and its client keeps its word, whatever is lost, repeated or reordered on the wire, whichever calls of a disk fail. A step in
+/// which a record is taken by mistake is none of its steps. It rests on plans of jobs whose numbers and bytes are within the bounds of
+/// their types.
+pub fn runs_keep_the_promise<M: Mechanism>()
+    ensures { (mech : M) (events : List Numbered) (first : RunWorld M) (steps : List (RunStep M)) (end : End) → AreAccepted at_start events → IsFirst mech events first
+        → Runs (run_machines M.mic_of M.derived M.started M.accepted M.finished) reading first events steps end
+        → PlansStayFit (words_of M.mic_of M.derived M.started M.accepted M.finished count_gives) mech
+        (run_spelling (words_of M.mic_of M.derived M.started M.accepted M.finished count_gives) mech) meaning first steps
+        → KeepsPromise (words_of M.mic_of M.derived M.started M.accepted M.finished count_gives) mech first steps }
+{
+    tokens_agree::<M>();
+    tokens_are_their_senders::<M>();
+    counted_draws_are_nonces();
+    clients_have_fit_ways::<M, CountDraws>();
+    clients_may_go::<M>();
+    clients_go_by_turns::<M>();
+    clients_are_lawful::<M>();
+    wires_are_unmistaken::<M>();
+    runs_keep_the_word::<M>();
+    sources_are_lawful::<M>();
+    sources_call_nobody::<M>();
+    destinations_are_lawful_servers::<M>();
+    destinations_go_as_callers::<M>();
+    destinations_are_lawful_callers::<M>();
+    run_dests::volumes_are_lawful::<M>();
+    run_dests::names_are_lawful::<M>();
+    what_is_awaited_is_spelled();
+    dest_names::names_are_lawful::<M, CountDraws>();
+    run_copies::destinations_are_shown::<M>();
+    run_goes::copies_are_lawful::<M>();
+    systems_show_histories::<M>();
+    lawful_systems();
+}
