@@ -1,2 +1,3 @@
 mod Saying
+mod Spoken
 mod Turning
