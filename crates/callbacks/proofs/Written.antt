@@ -1,5 +1,5 @@
 -- The reply to a CB_COMPOUND that was read can be written.
-use Rattle.std.proofs.Common.{◌≡◌, ℕ, zero, suc, ◌+◌, ◌*◌, ◌<◌, ◌≤◌, ◌^◌, Bool, true, false, cond, List, [], ◌∷◌, ◌++◌, length, Option, Some, None, Result, Ok, Err, refl, ap, sym, subst, arith, lit<, lit≤}
+use Rattle.std.proofs.Common.{◌≡◌, ℕ, zero, suc, ◌+◌, ◌*◌, ◌<◌, ◌≤◌, ◌^◌, Bool, true, false, cond, List, [], ◌∷◌, ◌++◌, length, Option, Result, Ok, Err, refl, ap, sym, subst, arith, lit<, lit≤}
 use Rattle.std.specs.Prelude.{◌==◌, ◌||◌, nat_lt, sum_by, if◌then◌else◌}
 use Rattle.std.specs.List.{AllByRecursion}
 use Rattle.std.proofs.lemmas.List.{length-append}
@@ -33,10 +33,9 @@ use Rattle.nfs_compound.specs.declared.operation.Class.TheVariants as class
 use Rattle.nfs_compound.specs.declared.tail.Tail.{Tail}
 use Rattle.nfs_compound.specs.declared.tail.Tail.TheVariants as tails
 use Rattle.wire_xdr.specs.Cursor.{Cursor, IsBytes}
-use Rattle.wire_xdr.specs.Form.{Form}
 use Rattle.wire_xdr.specs.WordLaws.{word_is}
 use Rattle.wire_xdr.specs.WordReads.{word_read}
-use Rattle.callbacks.specs.Callbacks.{Outcome, answered, behind, counted, done, evaluated, evaluated_by, first_number, if_ok, is_session, named_outcome, named_status, offload_by, op_outcome, refused_res, sequence_by, sequenced, tail_number, tail_outcome, walked}
+use Rattle.callbacks.specs.Callbacks.{Outcome, answered, behind, counted, evaluated, evaluated_by, first_number, if_ok, is_session, named_outcome, op_outcome, refused_res, sequence_by, sequenced, tail_number, tail_outcome, walked}
 use Rattle.callbacks.specs.Writing.{CanBeWritten, reply_to}
 
 -- ---- what was read: the tail's operation has a number of four bytes, and there are no more operations than are counted

@@ -32,7 +32,8 @@ use Rattle.wire_xdr.specs.Words.{opaque_bytes}
 use Rattle.write_queue.specs.declared.work.Work.{Work}
 use Rattle.write_queue.specs.declared.work.Work.TheVariants.{Write, Commit}
 use Rattle.mount_fits.specs.Asking.{SlotCallIsFit}
-use Rattle.mount_fits.specs.Bounds.{StateIdFits, TextFits}
+use Rattle.mount_fits.specs.Bounds.{TextFits}
+use Rattle.nfs_base.specs.Bounds.{StateIdFits}
 use Rattle.mount_fits.specs.BytesLaws.{all_below, below_are, list_are}
 use Rattle.mount_fits.specs.Fitting.{SetupIsFit, StandingIsFit}
 use Rattle.mount_fits.specs.ListLaws.{found_holds}

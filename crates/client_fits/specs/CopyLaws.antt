@@ -48,7 +48,7 @@ use Rattle.write_queue.specs.declared.work.QueueEvent.{QueueEvent}
 use Rattle.write_queue.specs.declared.work.QueueEvent.TheVariants as told
 use Rattle.write_queue.specs.declared.work.Work.{Work}
 use Rattle.write_queue.specs.declared.work.Work.TheVariants.{Write, Commit}
-use Rattle.mount_fits.specs.Bounds.{StateIdFits}
+use Rattle.nfs_base.specs.Bounds.{StateIdFits}
 use Rattle.mount_fits.specs.ListLaws.{append_holds, same_holds, set_holds}
 use Rattle.client_fits.specs.Known.{CopiesAreFit, CopyIsFit, EventIsFit, FirstIsFit, QueueIsFit, SpecIsFit, WorkIsFit}
 

@@ -61,7 +61,8 @@ use Rattle.write_queue.specs.declared.queue.Head.TheVariants as heads
 use Rattle.write_queue.specs.declared.work.QueueEvent.TheVariants as works
 use Rattle.write_queue.specs.declared.work.Work.{Work}
 use Rattle.mount_fits.specs.Answers.{ResIsFit, ToldIsFit}
-use Rattle.mount_fits.specs.Bounds.{HandleFits, StateIdFits, TextFits}
+use Rattle.mount_fits.specs.Bounds.{TextFits}
+use Rattle.nfs_base.specs.Bounds.{HandleFits, StateIdFits}
 use Rattle.mount_fits.specs.Fitting.{MountIsFit}
 use Rattle.mount_fits.specs.ListLaws.{append_holds}
 use Rattle.mount_fits.specs.Moving.{GivesBytes}

@@ -21,7 +21,8 @@ use Rattle.wire_xdr.specs.Cursor.{IsBytes}
 use Rattle.write_queue.specs.Queue.{Queued}
 use Rattle.write_queue.specs.declared.work.Work.{Work}
 use Rattle.write_queue.specs.declared.work.Work.TheVariants as works
-use Rattle.mount_fits.specs.Bounds.{HandleFits, NetLocFits, StateIdFits, TextFits}
+use Rattle.mount_fits.specs.Bounds.{NetLocFits, TextFits}
+use Rattle.nfs_base.specs.Bounds.{HandleFits, StateIdFits}
 use Rattle.mount_fits.specs.Fitting.{MountIsFit}
 
 -- ---- what it is told from outside

@@ -4,7 +4,7 @@ use Rattle.std.specs.Prelude.{not}
 use Rattle.caller_laws.specs.Good.{Identity}
 use Rattle.client_steps.specs.Acting.{Acting}
 use Rattle.client_steps.specs.Commands as commands
-use Rattle.client_steps.specs.Commands.{copies_again, ticked}
+use Rattle.client_steps.specs.Commands.{copies_again}
 use Rattle.client_steps.specs.CopySteps.{all_copies}
 use Rattle.client_steps.specs.declared.desk.Desk.{Desk}
 use Rattle.mount.specs.State.{is_setting_up}

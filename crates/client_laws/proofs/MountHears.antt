@@ -33,7 +33,7 @@ use Rattle.outbox.specs.declared.note.Note.TheVariants as notes
 use Rattle.client_laws.proofs.Changed.{said_copies}
 use Rattle.client_laws.proofs.Fitting.{IsQuiet, fits_accepted, fits_told, is_quiet, quiet_deed}
 use Rattle.client_laws.proofs.RunKinds as kinds
-use Rattle.client_laws.proofs.RunKinds.{Anew, Both, IsOf, Kind, MayRest, OnceMore, SetsUp, Silent, Whole, both_of, hears_anew, hears_both, setup_anew, silent_anew, silent_both, silent_silent, whole_of}
+use Rattle.client_laws.proofs.RunKinds.{Kind, MayRest, SetsUp, Silent, silent_silent}
 use Rattle.client_fits.specs.DeedLaws.{taken_fits}
 use Rattle.client_fits.specs.Known.{DeskIsFit}
 use Rattle.mount_fits.specs.Bounds.{TextFits}

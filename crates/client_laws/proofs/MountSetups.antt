@@ -4,10 +4,10 @@ use Rattle.std.specs.Prelude.{◌==◌}
 use Rattle.caller_laws.specs.Good.{Identity}
 use Rattle.client_copies.specs.declared.event.Event.TheVariants as events
 use Rattle.client_site.specs.Sending as sites
-use Rattle.client_site.specs.Sending.{is_down, may_begin, may_go}
+use Rattle.client_site.specs.Sending.{is_down}
 use Rattle.client_site.specs.declared.site.OpenFile.{OpenFile}
 use Rattle.client_steps.specs.Acting as acts
-use Rattle.client_steps.specs.Acting.{Acting, GoesOn as GoesOnBy, GoesOnAt, IsDrawnOn, downs_told, queue_at, with_desk}
+use Rattle.client_steps.specs.Acting.{Acting, GoesOn as GoesOnBy}
 use Rattle.client_steps.specs.Calling as calling
 use Rattle.client_steps.specs.Desks.{site_at}
 use Rattle.client_steps.specs.Replies as replies

@@ -68,7 +68,7 @@ use Rattle.client_laws.proofs.Asking.{stays_same}
 use Rattle.client_laws.proofs.Changed.{said_copies}
 use Rattle.client_laws.proofs.Fitting.{fits_begun, fits_evaluated}
 use Rattle.client_laws.proofs.RunKinds as kinds
-use Rattle.client_laws.proofs.RunKinds.{Anew, Both, IsOf, Kind, MayRest, OnceMore, SetsUp, Silent, GoesInOrder, Whole, again_ordered, anew_ordered, hears_anew, hears_both, setup_anew, silent_anew, silent_both, silent_silent, whole_of, whole_ordered}
+use Rattle.client_laws.proofs.RunKinds.{Anew, Both, IsOf, Kind, OnceMore, SetsUp, Silent, GoesInOrder, Whole, again_ordered, anew_ordered, hears_anew, hears_both, setup_anew, silent_anew, silent_both, silent_silent, whole_of, whole_ordered}
 use Rattle.client_laws.proofs.MountAgain.{retried}
 use Rattle.client_fits.specs.CopyLaws.{begun_fits, evaluated_fits, queued_fits}
 use Rattle.client_fits.specs.DeedLaws.{replied_fits}

@@ -1,7 +1,6 @@
 -- What holds of a client between turns stays, turn by turn.
-use Rattle.std.proofs.Common.{◌≡◌, ◌∙◌, ℕ, ◌≤◌, Bool, true, false, List, [], ◌∷◌, ◌++◌, length, Some, None, refl, ap, subst, arith}
+use Rattle.std.proofs.Common.{◌≡◌, ◌∙◌, ℕ, ◌≤◌, Bool, true, false, [], ◌∷◌, ◌++◌, length, Some, None, refl, arith}
 use Rattle.std.specs.Prelude.{◌==◌}
-use Rattle.std.proofs.lemmas.List.{append_assoc}
 use Rattle.caller_laws.specs.Good.{Identity}
 use Rattle.client_copies.specs.Table.{Copies, copy_at}
 use Rattle.client_copies.specs.declared.copy.ClientCopy.{ClientCopy}
@@ -17,13 +16,11 @@ use Rattle.mount.specs.declared.state.Pending.TheVariants.{Under}
 use Rattle.nfs_base.specs.declared.side.Side.{Side}
 use Rattle.nfs_base.specs.declared.side.Side.TheVariants.{Source, Dest}
 use Rattle.nfs_base.specs.declared.state_id.StateId.{StateId}
-use Rattle.outbox.specs.declared.note.Note.{Note}
 use Rattle.outbox.specs.declared.outgoing.Outbox.{Outbox}
 use Rattle.session_calls.specs.declared.slot_call.FileCall.TheVariants as asks
 use Rattle.session_calls.specs.declared.slot_call.SlotCall.{SlotCall}
 use Rattle.session_calls.specs.declared.slot_call.SlotCall.TheVariants as calls
 use Rattle.session_client.specs.Pending.{Asking}
-use Rattle.streams.specs.declared.draws.Drawn.{Drawn}
 use Rattle.wire_model.specs.CallerLaws.{CallerStart}
 use Rattle.wire_model.specs.Wire.{Slotted}
 use Rattle.client_laws.specs.CallerLaws.{PurposesFit, above_at}

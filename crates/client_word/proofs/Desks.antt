@@ -1,5 +1,5 @@
 -- What is done over a desk leaves what is awaited at each place: what happens to a copy, and what goes out.
-use Rattle.std.proofs.Common.{◌≡◌, ◌≢◌, ◌∙◌, ℕ, ◌<◌, Bool, true, false, List, length, set, Option, Some, None, refl, sym, ap, subst, inl, inr, ◌⊎◌, lit<}
+use Rattle.std.proofs.Common.{◌≡◌, ◌≢◌, ◌∙◌, ℕ, ◌<◌, Bool, true, false, List, length, Option, Some, None, refl, sym, ap, subst, inl, inr, ◌⊎◌, lit<}
 use Rattle.std.specs.Prelude.{is_some, nat_lt, not, ◌&&◌}
 use Rattle.std.proofs.lemmas.Bool.{cases_eq}
 use Rattle.caller_laws.specs.Moves.{InSlot, Make, Reclaim, SetUp}

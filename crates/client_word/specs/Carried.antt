@@ -5,16 +5,13 @@ use Rattle.caller_laws.specs.View.{caller_of}
 use Rattle.client_copies.specs.Table.{Copies, copy_at}
 use Rattle.client_copies.specs.declared.copy.ClientCopy.{ClientCopy}
 use Rattle.client_copies.specs.declared.copy.First.{First}
-use Rattle.client_core.specs.Endings.{Ways}
-use Rattle.client_core.specs.State.{ClientState, new_client}
+use Rattle.client_core.specs.State.{ClientState}
 use Rattle.client_core.specs.Telling.{mount_at}
-use Rattle.client_steps.specs.declared.setting.Setting.{Setting}
 use Rattle.mount.specs.State.{Mounted, pending_at}
 use Rattle.mount.specs.declared.state.Aim.TheVariants as aims
 use Rattle.mount.specs.declared.state.Pending.TheVariants.{Under}
 use Rattle.nfs_base.specs.declared.seal.Seal.{Seal}
 use Rattle.nfs_base.specs.declared.side.Side.{Side}
-use Rattle.outbox.specs.declared.note.Note.{Note}
 use Rattle.session_calls.specs.Calls.{slot_compound}
 use Rattle.session_calls.specs.declared.slot_call.FileCall.TheVariants as asks
 use Rattle.session_calls.specs.declared.slot_call.SlotCall.{SlotCall}
@@ -23,7 +20,6 @@ use Rattle.session_calls.specs.declared.slot_call.SlotUse.{SlotUse}
 use Rattle.session_client.specs.Pending.{Asking}
 use Rattle.session_client.specs.declared.asked.Asked.{Asked}
 use Rattle.session_client.specs.declared.asked.Asked.TheVariants.{Compound}
-use Rattle.streams.specs.declared.draws.Drawn.{Drawn}
 use Rattle.wire_model.specs.Wire.{Acts, Call, Caller, Purpose, Sends, Slotted}
 use Rattle.wire_xdr.specs.Cursor.{IsBytes}
 use Rattle.client_laws.specs.CallerLaws.{PurposesFit, above_at, purpose_for}

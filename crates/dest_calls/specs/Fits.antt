@@ -9,7 +9,8 @@ use Rattle.job_table.specs.declared.job.Job.{Job}
 use Rattle.job_table.specs.declared.job.Plan.{Plan}
 use Rattle.mount.specs.State.{Mounted}
 use Rattle.mount.specs.Taking.{Means}
-use Rattle.mount_fits.specs.Bounds.{FixedFits, HandleFits, StateIdFits}
+use Rattle.mount_fits.specs.Bounds.{FixedFits}
+use Rattle.nfs_base.specs.Bounds.{HandleFits, StateIdFits}
 use Rattle.mount_fits.specs.Moving.{GivesBytes, MoveIsFit, SendIsFit}
 use Rattle.mount_runs.specs.Runs.{MountStep}
 use Rattle.streams.specs.declared.draws.Drawn.{Drawn}

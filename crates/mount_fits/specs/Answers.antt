@@ -13,7 +13,8 @@ use Rattle.nfs_compound.specs.declared.reply.Reply.{Reply}
 use Rattle.nfs_compound.specs.declared.res.Res.{Res}
 use Rattle.nfs_compound.specs.declared.res.Res.TheVariants.{Copy, File}
 use Rattle.wire_xdr.specs.Cursor.{IsBytes}
-use Rattle.mount_fits.specs.Bounds.{FixedFits, HandleFits, NetLocFits, StateIdFits}
+use Rattle.mount_fits.specs.Bounds.{FixedFits, NetLocFits}
+use Rattle.nfs_base.specs.Bounds.{HandleFits, StateIdFits}
 
 abbrev pub FileResIsFit : FileRes → Type 0
 FileResIsFit (files.Open (Done told)) = StateIdFits told.state_id

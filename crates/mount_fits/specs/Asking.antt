@@ -12,7 +12,8 @@ use Rattle.session_calls.specs.declared.sole_call.SoleCall.TheVariants as soles
 use Rattle.session_client.specs.Asked.{AskedFits, args_of}
 use Rattle.session_client.specs.declared.asked.Asked.{Asked}
 use Rattle.wire_xdr.specs.Cursor.{IsBytes}
-use Rattle.mount_fits.specs.Bounds.{FixedFits, HandleFits, NetLocFits, RangeFits, StateIdFits, TextFits}
+use Rattle.mount_fits.specs.Bounds.{FixedFits, NetLocFits, RangeFits, TextFits}
+use Rattle.nfs_base.specs.Bounds.{HandleFits, StateIdFits}
 
 abbrev pub FileCallIsFit : FileCall → Type 0
 FileCallIsFit (asks.Close id) = StateIdFits id

@@ -1,9 +1,8 @@
 -- Numbers below the bounds of their types, and bytes within their limits: what has a spelling, and is spelled in bytes.
 use Rattle.std.specs.Prelude.{◌≡◌, ℕ, ◌<◌, ◌≤◌, ◌^◌, List, length}
-use Rattle.nfs_base.specs.declared.limits.TheConstants.{HANDLE_LIMIT, TEXT_LIMIT}
+use Rattle.nfs_base.specs.declared.limits.TheConstants.{TEXT_LIMIT}
 use Rattle.nfs_base.specs.declared.net_loc.NetLoc.{NetLoc}
 use Rattle.nfs_base.specs.declared.net_loc.NetLoc.TheVariants.{Name, Url, Addr}
-use Rattle.nfs_base.specs.declared.state_id.StateId.{StateId}
 use Rattle.session_calls.specs.declared.slot_call.CopyRange.{CopyRange}
 use Rattle.session_calls.specs.declared.slot_call.SlotUse.{SlotUse}
 use Rattle.wire_xdr.specs.Cursor.{IsBytes}
@@ -17,18 +16,6 @@ pub record FixedFits (size : ℕ) (fixed : List ℕ) : Type 0 where
 pub record TextFits (limit : ℕ) (text : List ℕ) : Type 0 where
   pub short : length text ≤ limit
   pub are_bytes : IsBytes text
-
--- a file's handle (nfs_fh4)
-pub record HandleFits (handle : List ℕ) : Type 0 where
-  pub least : 1 ≤ length handle
-  pub short : length handle ≤ HANDLE_LIMIT
-  pub are_bytes : IsBytes handle
-
-pub record StateIdFits (id : StateId) : Type 0 where
-  pub seqid : id.seqid < 2 ^ 32
-  pub kind : id.kind < 2 ^ 32
-  pub boot : id.boot < 2 ^ 32
-  pub number : id.number < 2 ^ 32
 
 abbrev pub NetLocFits : NetLoc → Type 0
 NetLocFits (Name name) = TextFits TEXT_LIMIT name

@@ -39,7 +39,8 @@ use Rattle.wire_xdr.specs.Parts.{option_spell}
 use Rattle.wire_xdr.specs.Words.{flag_bytes, hyper_bytes, opaque_bytes, word_bytes}
 use Rattle.mount_fits.specs.BytesLaws.{flag_are, hyper_are, list_are, state_id_are}
 use Rattle.mount_fits.specs.Asking.{AskedIsFit, BackChannelFits, FileCallIsFit, SlotCallIsFit, SoleCallIsFit}
-use Rattle.mount_fits.specs.Bounds.{FixedFits, HandleFits, NetLocFits, RangeFits, SlotUseFits, StateIdFits, TextFits}
+use Rattle.mount_fits.specs.Bounds.{FixedFits, NetLocFits, RangeFits, SlotUseFits, TextFits}
+use Rattle.nfs_base.specs.Bounds.{HandleFits, StateIdFits}
 
 -- the operation has a spelling, of bytes and so long
 record IsSpelled (size : ℕ) (op : Op) : Type 0 where

@@ -28,7 +28,8 @@ use Rattle.wire_xdr.specs.Parts.{list_spell}
 use Rattle.wire_xdr.specs.Words.{fixed_bytes, flag_bytes, opaque_bytes, word_bytes}
 use Rattle.mount_fits.specs.BytesLaws.{first_part, fixed_part, opaque_part, second_part}
 use Rattle.mount_fits.specs.Answers.{CopyResIsFit, FileResIsFit, ReplyIsFit, ResIsFit}
-use Rattle.mount_fits.specs.Bounds.{NetLocFits, StateIdFits}
+use Rattle.mount_fits.specs.Bounds.{NetLocFits}
+use Rattle.nfs_base.specs.Bounds.{StateIdFits}
 
 id_is : (id : StateId) → state_id.Fits id → StateIdFits id
 unfolding state_id

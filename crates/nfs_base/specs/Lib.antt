@@ -1,4 +1,5 @@
 pub mod Answers
+pub mod Bounds
 pub mod Changed
 pub mod ChangedLaws
 pub mod Forms

@@ -1,5 +1,5 @@
 -- How far a disk's count of faults rises in some calls.
-use Rattle.std.proofs.Common.{◌≡◌, ℕ, ◌+◌, ◌≤◌, Bool, true, List, [], ◌∷◌, ◌++◌, refl, sym, ap, subst, ◌∙◌, arith}
+use Rattle.std.proofs.Common.{◌≡◌, ℕ, ◌+◌, ◌≤◌, Bool, true, List, [], ◌∷◌, ◌++◌, sym, subst, arith}
 use Rattle.std.specs.Prelude.{◌||◌}
 use Rattle.outcome.specs.Causes.{Rose, RoseBy}
 use Rattle.server_volume.specs.Moments.{Counted, failed_in, failures_in}

@@ -1,7 +1,7 @@
 -- Small steps one after the other: one event, or a flow.
 use Rattle.std.proofs.Common.{◌≡◌, ℕ, zero, suc, ◌+◌, ◌<◌, ◌≤◌, Bool, true, false, List, [], ◌∷◌, ◌++◌, length, Option, Some, None, refl, sym, ap, ◌∙◌, subst, arith, append_assoc, add-zero}
 use Rattle.std.proofs.Math.Numerals.{add-one, one-add}
-use Rattle.std.specs.Prelude.{◌-◌, IfOk, Result, Ok, Err, cond, if◌then◌else◌, map, not, slice_get}
+use Rattle.std.specs.Prelude.{◌-◌, IfOk, Result, Ok, Err, if◌then◌else◌, map, not, slice_get}
 use Rattle.std.specs.Option.{option_map_or}
 use Rattle.std.proofs.lemmas.Grind.{flat_map-append}
 use Rattle.std.proofs.lemmas.List.{append-nil, map-append}
