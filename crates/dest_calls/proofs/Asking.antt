@@ -52,7 +52,8 @@ use Rattle.session_client.specs.declared.setup.Setup.TheVariants as setups
 use Rattle.wire_xdr.specs.Cursor.{IsBytes}
 use Rattle.dest_calls.proofs.GivenOut.{claimed_given, found_given}
 use Rattle.dest_calls.proofs.Plans.{ReadsShort, after_fit, confirm_are, confirm_named, found_fit, task_short}
-use Rattle.dest_calls.specs.Fits.{PlanIsFit, PlansAreFit}
+use Rattle.dest_calls.specs.Fits.{EachPlanIsFit}
+use Rattle.job_table.specs.Fits.{PlanIsFit}
 use Rattle.dest_calls.specs.Settled.{AreGivenOut}
 
 -- a task is for a job whose call, once it goes out, is ready
@@ -141,7 +142,7 @@ module _ (fit : Type 0) (who : Identity) (mic : Mic) (at : SendAt) (me : List �
 
     -- ---- what is asked for a job that has a seat and a plan
 
-    module _ (b : BookView) (given : AreGivenOut b.table) (counted : b.table.made ≡ made) (plans : fit → PlansAreFit b.table) where
+    module _ (b : BookView) (given : AreGivenOut b.table) (counted : b.table.made ≡ made) (plans : fit → EachPlanIsFit b.table) where
       planned : (job : JobName) (go : ℕ → Plan → Due × Work)
           → ((seat : ℕ) (plan : Plan) → (fit → PlanIsFit plan) → (0 < job.number) × (job.number ≤ made) → Does made (go seat plan))
           → Does made (works.for_job job go b w)
@@ -242,7 +243,7 @@ module _ (fit : Type 0) (who : Identity) (mic : Mic) (at : SendAt) (me : List �
   asks_nothing (Some a) e = absurd cc
 
   pub turn_does : ((send : Send) → Went at w.mount (sent_by mic at send w.mount)) → (sessions : SessionTable) (b : BookView) → AreGivenOut b.table
-      → (fit → GivesBytes mic) → (fit → TextFits NAME_LIMIT me) → (fit → PlansAreFit b.table)
+      → (fit → GivesBytes mic) → (fit → TextFits NAME_LIMIT me) → (fit → EachPlanIsFit b.table)
       → IsTurned b.table.made (works.turn mic at me sessions w b).told
   turn_does went sessions b given spells me_fits plans =
       by (is_some (awaited_at w.mount at.place)) (holds (post_at w.workers at.place)) (has_numbers w.mount.standing at.place) refl

@@ -24,7 +24,8 @@ use Rattle.nfs_base.specs.declared.limits.TheConstants.{NAME_LIMIT}
 use Rattle.wire_xdr.specs.Cursor.{IsBytes}
 use Rattle.wire_xdr.specs.Words.{opaque_bytes}
 use Rattle.dest_calls.proofs.GivenOut.{changed_all, chosen}
-use Rattle.dest_calls.specs.Fits.{JobIsFit, PlanIsFit, PlansAreFit}
+use Rattle.dest_calls.specs.Fits.{EachPlanIsFit, JobIsFit}
+use Rattle.job_table.specs.Fits.{PlanIsFit}
 
 -- ---- plans
 
@@ -36,11 +37,11 @@ found_fit boot id (first ∷ jobs) job all is =
       | inr later ↦ found_fit boot id jobs job all.1 later
     ]
 
-claimed_fit : (chunk : Chunk) (name : JobName) (b : BookView) → PlansAreFit b.table → PlansAreFit (claimed (Some chunk) name b).table
+claimed_fit : (chunk : Chunk) (name : JobName) (b : BookView) → EachPlanIsFit b.table → EachPlanIsFit (claimed (Some chunk) name b).table
 claimed_fit chunk name b all =
     changed_all JobIsFit (is_job b.table.boot (id_of name)) (λ job. record job { log = with_claim job.log chunk true }) (λ job it. it) b.table.jobs all
 
-pub after_fit : (task : Option Task) (b : BookView) → PlansAreFit b.table → PlansAreFit (after_task task b).table
+pub after_fit : (task : Option Task) (b : BookView) → EachPlanIsFit b.table → EachPlanIsFit (after_task task b).table
 after_fit None b all = all
 after_fit (Some (tasks.Setup job)) b all = all
 after_fit (Some (tasks.Confirm job)) b all = all

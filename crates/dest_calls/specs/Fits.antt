@@ -4,13 +4,12 @@ use Rattle.std.specs.List.{AllByRecursion}
 use Rattle.caller_laws.specs.Moves.{Move, Sends, done}
 use Rattle.dest_steps.specs.declared.copier.Copier.{Copier}
 use Rattle.gss_ctx.specs.Seals.{Mic}
+use Rattle.job_table.specs.Fits.{PlanIsFit}
 use Rattle.job_table.specs.Table.{JobTable}
 use Rattle.job_table.specs.declared.job.Job.{Job}
-use Rattle.job_table.specs.declared.job.Plan.{Plan}
 use Rattle.mount.specs.State.{Mounted}
 use Rattle.mount.specs.Taking.{Means}
 use Rattle.mount_fits.specs.Bounds.{FixedFits}
-use Rattle.nfs_base.specs.Bounds.{HandleFits, StateIdFits}
 use Rattle.mount_fits.specs.Moving.{GivesBytes, MoveIsFit, SendIsFit}
 use Rattle.mount_runs.specs.Runs.{MountStep}
 use Rattle.streams.specs.declared.draws.Drawn.{Drawn}
@@ -32,17 +31,11 @@ MovesAreFit means (step ∷ more) m = MoveIsFit m step.move × MovesAreFit means
 
 -- ---- what a destination's calls are made of
 
--- of a job's plan: the file at the source, the stateid there, and the user
-pub record PlanIsFit (plan : Plan) : Type 0 where
-  pub source : HandleFits plan.source
-  pub src_id : StateIdFits plan.src_id
-  pub user : IsBytes plan.user
-
 abbrev pub JobIsFit : Job → Type 0
 JobIsFit job = PlanIsFit job.plan
 
-abbrev pub PlansAreFit : JobTable → Type 0
-PlansAreFit t = AllByRecursion JobIsFit t.jobs
+abbrev pub EachPlanIsFit : JobTable → Type 0
+EachPlanIsFit t = AllByRecursion JobIsFit t.jobs
 
 -- a nonce has 32 bytes, and the token that is started with one is bytes
 pub record DrawsAreFit {W : Type 0} (gives : W → Drawn → W → Type 0) (started : List ℕ → Option (List ℕ)) : Type 0 where
@@ -52,6 +45,6 @@ pub record DrawsAreFit {W : Type 0} (gives : W → Drawn → W → Type 0) (star
 -- all that a worker's turn may ask by
 pub record WorkIsFit {W : Type 0} (mic : Mic) (gives : W → Drawn → W → Type 0) (started : List ℕ → List ℕ → Option (List ℕ)) (x : Copier) : Type 0 where
   pub codes : GivesBytes mic
-  pub plans : PlansAreFit x.copies.book.table
+  pub plans : EachPlanIsFit x.copies.book.table
   pub principal : IsBytes x.principal
   pub drawn : DrawsAreFit gives (started x.principal)

@@ -1,7 +1,7 @@
 //! The whole server.
 
 ghost use Rattle.std.specs.Prelude.{true, ◌≡◌, ◌↔◌, ◌≤◌, ◌<◌, ◌+◌, ◌-◌, [], length, None, IfOk, IsOk, IsTrue, OnErr, Err, MatchResult};
-ghost use Rattle.block_file.specs.Opened.{homes_by, CanBeOpened, MayBeLeft, RefusedFor};
+ghost use Rattle.block_file.specs.Opened.{homes_by, CanBeOpened, MayBeLeft, RefusedFor, StandsFor};
 ghost use Rattle.block_file.specs.Stored.{flaw_of, reopened, tag_of};
 ghost use Rattle.block_file.specs.declared.faults.OpenFault.{OpenFault};
 ghost use Rattle.block_file.specs.declared.faults.ReadFault.{ReadFault};
@@ -12,6 +12,7 @@ ghost use Rattle.dest_tasks.specs.declared.workers.TheConstants.{WORKERS};
 ghost use Rattle.disk_model.specs.Disk.{Image, MayLeave};
 ghost use Rattle.disk_model.specs.Elapsed.{contents, present, set_to, IsOut};
 ghost use Rattle.job_book.specs.Book.{book_bytes, IsSound};
+ghost use Rattle.job_table.specs.Fits.{PlansAreFit};
 ghost use Rattle.outcome.specs.Causes.{Rose};
 ghost use Rattle.server_volume.specs.Moments.{Counted};
 ghost use Rattle.server_volume.specs.Store.{seat_of};
@@ -266,12 +267,17 @@ impl<D: Disk, M> DestCore<D, M> {
         self.host.server.files.volume.boot()
     }
 
-    /// How many bytes the jobs landed, those that aren't there any more included. Whatever was done before, each job's
-    /// entries are lawful, each claim is of a chunk that hasn't landed, and the ranges of those that run are apart.
+    /// How many bytes the jobs landed, those that aren't there any more included. Of every destination, whatever was done
+    /// before, each job's entries are lawful, each claim is of a chunk that hasn't landed, and the ranges of those that run
+    /// are apart; the numbers of their plans are below the bounds of their types; and the disk holds the files so that a
+    /// crash leaves of each what it may.
     pub fn landed(&self) -> u128
         ensures value { result ≡ book_bytes self.now.server.files.extra.copier.copies.book }
         ensures sound { IsSound self.now.server.files.extra.copier.copies.book.table }
+        ensures plans { PlansAreFit self.now.server.files.extra.copier.copies.book.table }
+        ensures stands { D.Told → StandsFor D.timeline D.size self.now.server.files.volume }
     {
+        let _broken = self.host.server.files.volume.is_broken();
         self.host.server.files.extra.copier.copies.book.landed()
     }
 

@@ -1,4 +1,5 @@
 ghost use Rattle.std.specs.Prelude.{◌≡◌, ◌-◌, ◌^◌, ◌<◌, ◌≤◌, [], All, AllPairs, length, IfOk, IsSome};
+ghost use Rattle.job_table.specs.Fits.{PlansAreFit};
 ghost use Rattle.job_table.specs.Table.{is_running, new_log};
 ghost use Rattle.job_book.specs.Book.{accept_answer, after_accept, book_bytes, client_of, id_of, job_status, landed_at, named, next_name, retired, IsSound};
 
@@ -127,10 +128,12 @@ impl Book {
         }
     }
 
-    /// How many bytes all jobs landed, those that aren't there any more included.
+    /// How many bytes all jobs landed, those that aren't there any more included. Whatever was done before, the table is
+    /// sound, and the numbers of each plan are below the bounds of their types.
     pub fn landed(&self) -> u128
         ensures value { result ≡ book_bytes self.now }
         ensures sound { IsSound self.now.table }
+        ensures plans { PlansAreFit self.now.table }
     {
         let _made = self.jobs.made();
         let landed = self.jobs.landed();

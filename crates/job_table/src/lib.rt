@@ -7,6 +7,7 @@
 #![tactic(auto)]
 
 mod calls;
+mod fits;
 mod job;
 mod jobs;
 mod key_row;

@@ -3,23 +3,28 @@ ghost use Rattle.std.specs.Bool.{OnTrue, OnFalse};
 ghost use Rattle.copy_model.specs.Job.{size_of, landed_bytes, AllowsCommit, IsLawful};
 ghost use Rattle.job_log.specs.Log.{ClaimsAreNew};
 ghost use Rattle.slab.specs.Slab.{ContainsKey};
+ghost use Rattle.job_table.specs.Fits.{PlansAreFit};
 ghost use Rattle.job_table.specs.Stored.{jobs_at};
 ghost use Rattle.job_table.specs.Table.{job_of, complete_of, is_running, is_ended, is_told, CanSize};
 
+use crate::fits::plans_are_fit;
 use crate::job::{Job, JobId, JobStatus};
 use crate::jobs::Jobs;
 use slab::Slab;
 
 impl Jobs {
-    /// How many bytes the jobs have landed together. The entries of each are lawful, and each of its claims names a
-    /// chunk that hasn't landed.
+    /// How many bytes the jobs have landed together. The entries of each are lawful, each of its claims names a
+    /// chunk that hasn't landed, and the numbers of its plan are below the bounds of their types.
     pub fn landed(&self) -> u128
         ensures value { result ≡ sum_by (λ job. landed_bytes job.log.entries) self.now.jobs }
         ensures lawful { All (λ job. IsLawful job.plan.consecutive job.log.entries) self.now.jobs }
         ensures claims { All (λ job. ClaimsAreNew job.log) self.now.jobs }
+        ensures plans { PlansAreFit self.now }
         ensures bound { result ≤ length self.now.jobs * 2 ^ 64 }
     {
-        landed_by(&self.slots, self.keys.as_slice())
+        let keys = self.keys.as_slice();
+        plans_are_fit(&self.slots, keys);
+        landed_by(&self.slots, keys)
     }
 
     /// How far a job is: None where it is retired.

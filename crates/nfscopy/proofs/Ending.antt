@@ -31,7 +31,7 @@ use Rattle.nfscopy.specs.Input.{Input, most_bytes, parsed, asked}
 use Rattle.nfscopy.specs.Notice.{bad_line_text, mistaken_text, not_volume_text, small_text, too_much_text}
 use Rattle.nfscopy.specs.Outside.{Outside, DiskWords, SameDisks, DiskRose, disk_at}
 use Rattle.nfscopy.specs.Puts.{LastPut, LinePut, UnmadePut, EndPut}
-use Rattle.nfscopy.specs.RunEnds.{RunWords, Blamed, PutsRun, PutsFront, FrontOfSmall, small_of, RunEndIs, CarriesOut, RunEnds}
+use Rattle.nfscopy.specs.RunEnds.{RunWords, Blamed, PutsRun, PutsFront, FrontOfSmall, small_of, RunEndIs, CarriesOut}
 
 -- ---- bytes that are put in parts
 
@@ -240,7 +240,7 @@ module _ {D M : Type 0} (w : DiskWords D) (r : RunWords M) (before now : Outside
         read = ended;
         room = small_same ∙ ran_puts.0;
         ran = λ told.
-            let t = ran_puts.1 told in
+            let t = (ran_puts.1 told).0 in
             record {
               run = record {
                 lines = t.lines;
@@ -426,7 +426,7 @@ if_some (Some all) P Q f p = f all p
 
 -- how a run ends whose input is told so
 ends_of : {D M : Type 0} (w : DiskWords D) (r : RunWords M) (before now : Outside D) (input : Input) (end : RunEnd)
-    → IfSome before.left (λ text. asked text ≡ input) → CarriesOut w r before now (Some input) end → RunEnds w r before now end
+    → IfSome before.left (λ text. asked text ≡ input) → CarriesOut w r before now (Some input) end → CarriesOut w r before now (option_map asked before.left) end
 ends_of w r before now input end told carried =
     record {
       did = carried.did;
@@ -437,7 +437,7 @@ ends_of w r before now input end told carried =
 -- the input was read, and its schedule was carried out or refused
 pub text_ends : {D M : Type 0} (w : DiskWords D) (r : RunWords M) (before now : Outside D) (end : RunEnd) (text lent : List ℕ) → lent ≡ text
     → TakesAll before.left now.left text × (length text ≤ most_bytes)
-    → CarriesOut w r before now (Some (parsed (schedule_of lent))) end → RunEnds w r before now end
+    → CarriesOut w r before now (Some (parsed (schedule_of lent))) end → CarriesOut w r before now (option_map asked before.left) end
 text_ends w r before now end text lent same takes carried =
     let took = takes.0 in
     ends_of w r before now (parsed (schedule_of lent)) end
@@ -477,7 +477,7 @@ bad_carried w r before now end line source dest (inr none) =
 pub large_ends : {D M : Type 0} (w : DiskWords D) (r : RunWords M) (before now : Outside D) (end : RunEnd) (line : List ℕ) → line ≡ too_much_text
     → now.source ≡ before.source → now.dest ≡ before.dest
     → IfSome before.left (λ all. most_bytes < length all)
-    → LastPut before.taken now.taken before.writes now.writes line ends.Refused end → RunEnds w r before now end
+    → LastPut before.taken now.taken before.writes now.writes line ends.Refused end → CarriesOut w r before now (option_map asked before.left) end
 large_ends w r before now end line same source dest large put =
     ends_of w r before now (Err too_much_text) end
     (if_some before.left (λ all. most_bytes < length all) (λ all. asked all ≡ Err too_much_text) asked_large large)
@@ -485,7 +485,7 @@ large_ends w r before now end line same source dest large put =
 
 -- the source failed
 pub failed_ends : {D M : Type 0} (w : DiskWords D) (r : RunWords M) (before now : Outside D) → Rose before.reads now.reads → Keeps before.taken now.taken
-    → now.source ≡ before.source → now.dest ≡ before.dest → RunEnds w r before now ends.ReadFault
+    → now.source ≡ before.source → now.dest ≡ before.dest → CarriesOut w r before now (option_map asked before.left) ends.ReadFault
 failed_ends w r before now rose keeps source dest =
     record {
       did = no_did;
@@ -495,5 +495,5 @@ failed_ends w r before now rose keeps source dest =
 
 -- memory ran out while the input was read
 pub starved_ends : {D M : Type 0} (w : DiskWords D) (r : RunWords M) (before now : Outside D) → Keeps before.taken now.taken
-    → now.source ≡ before.source → now.dest ≡ before.dest → RunEnds w r before now ends.NoMemory
+    → now.source ≡ before.source → now.dest ≡ before.dest → CarriesOut w r before now (option_map asked before.left) ends.NoMemory
 starved_ends w r before now keeps source dest = starved w r before now (option_map asked before.left) keeps source dest

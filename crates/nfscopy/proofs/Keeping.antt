@@ -3,7 +3,7 @@ use Rattle.std.proofs.Common.{◌≡◌, ℕ, Bool, true, false, List, Option, S
 use Rattle.std.specs.Prelude.{length, nat_lt, option_map, take, if◌then◌else◌}
 use Rattle.nfscopy.specs.Input.{asked, most_bytes, parsed}
 use Rattle.nfscopy.specs.Notice.{too_much_text}
-use Rattle.nfscopy.specs.RunEnds.{HasFitPlans, KeepsIf, RunWords, RunsKeep}
+use Rattle.nfscopy.specs.RunEnds.{KeepsIf, RunWords, RunsKeep}
 use Rattle.run_bounds.specs.Accepted.{AreAccepted}
 use Rattle.run_promise.specs.Promise.{KeepsPromise}
 use Rattle.wire_machine.specs.Runs.{End, Numbered, Runs, events_in}
@@ -17,16 +17,16 @@ use Rattle.wire_schedule.specs.declared.directive.Entry.{Entry}
 abbrev Law : {M : Type 0} → RunWords M → Type 0
 Law {M} r =
     (events : List Numbered) (first : RunWorld M) (steps : List (RunStep M)) (end : End) → AreAccepted at_start events → IsFirst r.mech events first
-    → Runs r.machines r.read first events steps end → HasFitPlans r first steps → KeepsPromise r.words r.mech first steps
+    → Runs r.machines r.read first events steps end → KeepsPromise r.words r.mech first steps
 
 module _ {M : Type 0} (r : RunWords M) (law : Law r)
     (whole : (text : List ℕ) (entries : List Entry) → schedule_of text ≡ Ok entries → AreAccepted at_start (events_in entries))
     (fronts : (context : Context) (events : List Numbered) (n : ℕ) → AreAccepted context events → AreAccepted context (take n events)) where
   events_keep : (events : List Numbered) → AreAccepted at_start events → RunsKeep r events
   events_keep events accepted = record {
-    whole = λ did end lines records last run plans. law events run.first run.steps end accepted run.is_first run.runs plans;
-    front = λ done did end lines records last run plans.
-        law (take done events) run.first run.steps end (fronts at_start events done accepted) run.is_first run.runs plans;
+    whole = λ did end lines records last run. law events run.first run.steps end accepted run.is_first run.runs;
+    front = λ done did end lines records last run.
+        law (take done events) run.first run.steps end (fronts at_start events done accepted) run.is_first run.runs;
   }
 
   parsed_keep : (text : List ℕ) (read : Result (List Entry) ℕ) → schedule_of text ≡ read → KeepsIf r (Some (parsed read))

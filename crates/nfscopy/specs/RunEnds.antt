@@ -10,9 +10,7 @@ use Rattle.wire_machine.specs.declared.mistake.Mistake.{Mistake}
 use Rattle.gss_ctx.specs.Seals.{Mic}
 use Rattle.gss_mech.specs.declared.mechanism.Accepted.{Accepted}
 use Rattle.wire_log.specs.Keeping.{reading}
-use Rattle.run_dest_calls.specs.Kept.{PlansStayFit}
-use Rattle.run_promise.specs.Promise.{KeepsPromise, run_spelling}
-use Rattle.wire_meaning.specs.Meaning.{meaning}
+use Rattle.run_promise.specs.Promise.{KeepsPromise}
 use Rattle.wire_run.specs.Ends.{Words, count_gives, run_machines, words_of}
 use Rattle.wire_run.specs.Fresh.{Small}
 use Rattle.wire_run.specs.Run.{Did, RunsFront, ScheduleRuns, Volumes, asks_for, first_small}
@@ -44,18 +42,12 @@ run_words mech mic derived started accepted finished =
 
 -- ---- what is promised
 
-abbrev pub HasFitPlans : {M : Type 0} → RunWords M → RunWorld M → List (RunStep M) → Type 0
-HasFitPlans r first steps = PlansStayFit r.words r.mech (run_spelling r.words r.mech) meaning first steps
-
--- Each run of these events, of all of them or of the first so many, keeps the promise, where the plans of its destination's jobs have
--- numbers and bytes within the bounds of their types.
+-- Each run of these events, of all of them or of the first so many, keeps the promise.
 pub record RunsKeep {M : Type 0} (r : RunWords M) (events : List Numbered) : Type 0 where
   pub whole : (did : Did) (end : End) (lines : List ℕ) (records : ℕ) (last : Volumes)
-      (run : ScheduleRuns r.machines r.read r.mech events did end lines records last)
-      → HasFitPlans r run.first run.steps → KeepsPromise r.words r.mech run.first run.steps
+      (run : ScheduleRuns r.machines r.read r.mech events did end lines records last) → KeepsPromise r.words r.mech run.first run.steps
   pub front : (done : ℕ) (did : Did) (end : End) (lines : List ℕ) (records : ℕ) (last : Volumes)
-      (run : ScheduleRuns r.machines r.read r.mech (take done events) did end lines records last)
-      → HasFitPlans r run.first run.steps → KeepsPromise r.words r.mech run.first run.steps
+      (run : ScheduleRuns r.machines r.read r.mech (take done events) did end lines records last) → KeepsPromise r.words r.mech run.first run.steps
 
 -- and so does each run of what an input asks for, where it is told and a schedule
 abbrev pub KeepsIf : {M : Type 0} → RunWords M → Option Input → Type 0
@@ -154,6 +146,23 @@ module _ {D M : Type 0} (w : DiskWords D) (r : RunWords M) where
     pub blamed : end ≢ ends.NoMemory → Blamed before now did
     pub is : RunEndIs before now input did end
 
+  -- Nothing hinders the run of a schedule: its disks tell what they hold and have room for their volumes, no count of faults rises,
+  -- and no run of it in which no call of a disk fails has too many bytes of records or takes a record by mistake.
+  pub record IsUnhindered (before now : Outside D) (events : List Numbered) : Type 0 where
+    pub told : w.told
+    pub room : small_of before events ≡ None
+    pub reads : Rose before.reads now.reads → ⊥
+    pub writes : Rose before.writes now.writes → ⊥
+    pub disks : DiskRose w before now → ⊥
+    pub whole : (did : Did) (end : End) (lines : List ℕ) (records : ℕ) (last : Volumes)
+        → ScheduleRuns r.machines r.read r.mech events did end lines records last → did.failed Source ≡ 0 → did.failed Dest ≡ 0 → end ≡ Whole
+
+  -- Then it is carried out, and all its lines are put, but for want of memory.
+  abbrev pub Completes : Outside D → Outside D → Option Input → RunEnd → Type 0
+  Completes before now None end = Unit {0}
+  Completes before now (Some (Ok events)) end = IsUnhindered before now events → (end ≡ ends.Done) ⊎ (end ≡ ends.NoMemory)
+  Completes before now (Some (Err line)) end = Unit {0}
+
   -- How `run` ends: what became of the input, where its source tells it.
   abbrev pub RunEnds : Outside D → Outside D → RunEnd → Type 0
-  RunEnds before now end = CarriesOut before now (option_map asked before.left) end
+  RunEnds before now end = CarriesOut before now (option_map asked before.left) end × Completes before now (option_map asked before.left) end

@@ -1,3 +1,4 @@
 mod DestSteps
+mod Plans
 mod RunSteps
 mod Runs

@@ -4,7 +4,7 @@ use Rattle.std.specs.Prelude.{codes as text}
 use Rattle.caller_laws.specs.Good.{Identity}
 use Rattle.caller_laws.specs.View.{Above, caller_of}
 use Rattle.client_laws.specs.WholeTurns.{Purposes}
-use Rattle.dest_calls.specs.Fits.{DrawsAreFit, SendsAreFit}
+use Rattle.dest_calls.specs.Fits.{DrawsAreFit, EachPlanIsFit, SendsAreFit}
 use Rattle.dest_calls.specs.Settled.{IsSettledAs}
 use Rattle.dest_calls.specs.Steps.{IsSeen, StartsOwn, mount_of}
 use Rattle.dest_core.specs.Core.{no_copier}
@@ -171,6 +171,9 @@ begins_kept {M} mech shape d is = record {
 pub begins_settled : {M : Type 0} (who : Identity) (mech : M) (shape : Shape) (d : DestState M) → IsFreshDest mech shape d
     → IsSettledAs who (no_copier 1 (shape.blocks * 4096) dest_source dest_name) → IsSettledAs who (copier_in d)
 begins_settled who mech shape d is settled = subst (IsSettledAs who) (sym (copier_is mech shape d is)) settled
+
+pub begins_planned : {M : Type 0} (mech : M) (shape : Shape) (d : DestState M) → IsFreshDest mech shape d → EachPlanIsFit (copier_in d).copies.book.table
+begins_planned mech shape d is = subst (λ (x : Copier). EachPlanIsFit x.copies.book.table) (sym (copier_is mech shape d is)) tt
 
 pub begins_fit : {M : Type 0} (mech : M) (shape : Shape) (d : DestState M) → IsFreshDest mech shape d → MountIsFit (fresh Source false) → MountIsFit (mount_of d)
 begins_fit mech shape d is fit = subst MountIsFit (sym (ap (λ (x : Copier). x.work.mount) (copier_is mech shape d is))) fit

@@ -1,7 +1,7 @@
 -- A destination along a run, as a caller of its source.
 use Rattle.std.specs.Prelude.{◌≡◌, ℕ, suc, List, Option, Some}
 use Rattle.caller_laws.specs.Good.{Identity}
-use Rattle.dest_calls.specs.Fits.{PlansAreFit, WorkIsFit}
+use Rattle.dest_calls.specs.Fits.{EachPlanIsFit, WorkIsFit}
 use Rattle.dest_calls.specs.Settled.{IsSettledAs}
 use Rattle.dest_calls.specs.Steps.{IsSeen, IsSeenWhere, mount_of}
 use Rattle.dest_core.specs.Stepping.{DestState, copier_in}
@@ -73,7 +73,7 @@ module _ {M : Type 0} (words : Words M ℕ) (mech : M) where
 
     -- the plans of its jobs are within bounds at each moment
     abbrev pub PlansStayFit : Type 0
-    PlansStayFit = (k : ℕ) → PlansAreFit (copier_in (dest_at k)).copies.book.table
+    PlansStayFit = (k : ℕ) → EachPlanIsFit (copier_in (dest_at k)).copies.book.table
 
     abbrev pub GoesAsCaller : Identity → Type 0
     GoesAsCaller who = (k : ℕ) → IsCallerAt who (dest_at k) (dest_at (suc k)) (shown_at k)

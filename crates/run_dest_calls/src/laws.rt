@@ -13,7 +13,7 @@ ghost use Rattle.wire_run.specs.Run.{IsFirst};
 ghost use Rattle.wire_run.specs.Running.{RunStep, RunWorld};
 ghost use Rattle.wire_run.specs.Setting.{dest_name};
 ghost use Rattle.wire_spelling.specs.Spelling.{spelling};
-ghost use Rattle.run_dest_calls.specs.Kept.{GoesAsCaller, IsLawfulCaller, PlansStayFit, RunIsSeen, TokensAreBytes};
+ghost use Rattle.run_dest_calls.specs.Kept.{GoesAsCaller, IsLawfulCaller, RunIsSeen, TokensAreBytes};
 
 use caller_laws::mounts_begin_lawful;
 use dest_calls::{
@@ -47,13 +47,12 @@ pub fn runs_are_seen<M: Mechanism>()
 }
 
 /// From its beginning the destination is as it should be at each moment of a run, and what it asks can be spelled. It rests on tokens
-/// that are its own and bytes, on codes that are bytes, and on plans of jobs that are within their bounds.
+/// that are its own and bytes, and on codes that are bytes.
 pub fn destinations_go_as_callers<M: Mechanism>()
     ensures { (mech : M) (events : List Numbered) (first : RunWorld M) (steps : List (RunStep M)) (accepts : List ℕ → Option (List ℕ)) (whose : List ℕ → Option End)
         → IsFirst mech events first → AreSteps (run_machines M.mic_of M.derived M.started M.accepted M.finished) first steps
         → StartsOwn (record { accepts = accepts; whose = whose; own = Dest }) (M.started mech dest_name) count_gives
         → GivesBytes M.mic_of → TokensAreBytes (M.started mech dest_name)
-        → PlansStayFit (words_of M.mic_of M.derived M.started M.accepted M.finished count_gives) mech (spelling accepts whose) meaning first steps
         → GoesAsCaller (words_of M.mic_of M.derived M.started M.accepted M.finished count_gives) mech (spelling accepts whose) meaning first steps
         (record { accepts = accepts; whose = whose; own = Dest }) }
 {

@@ -1,15 +1,22 @@
 -- What is promised of a run of the three machines. Own definitions.
-use Rattle.std.specs.Prelude.{ℕ, List, Option, None, Some, bytes_eq, if◌then◌else◌, replicate}
+use Rattle.std.specs.Prelude.{◌≡◌, ◌≤◌, ◌++◌, ◌∷◌, ℕ, suc, true, false, List, Option, None, Some, bytes_eq, count_by, if◌then◌else◌, replicate}
+use Rattle.std.specs.List.{list_any}
 use Rattle.caller_laws.specs.Tokens.{principal_in}
+use Rattle.client_laws.specs.Telling.{tells_stable}
 use Rattle.client_laws.specs.WholeTurns.{Purposes}
 use Rattle.copy_model.specs.Moment.{History}
 use Rattle.copy_model.specs.Promise.{IsKept, IsStopped}
 use Rattle.nfs_base.specs.declared.seal.End.{End}
 use Rattle.nfs_base.specs.declared.seal.End.TheVariants.{Client, Dest}
+use Rattle.outbox.specs.declared.note.Note.{Note}
+use Rattle.outbox.specs.declared.note.Note.TheVariants as notes
 use Rattle.run_system.specs.System.{system_of, telling}
+use Rattle.run_tells.specs.Lines.{told_in_lines}
+use Rattle.run_tells.specs.Told.{notes_along, notes_at, tells_exact}
 use Rattle.run_words.specs.View.{client_view}
 use Rattle.session_server.specs.Host.{Codes}
 use Rattle.wire_machine.specs.History.{history}
+use Rattle.wire_machine.specs.Lines.{lines_of}
 use Rattle.wire_meaning.specs.Meaning.{meaning}
 use Rattle.wire_model.specs.Spelling.{Spelling}
 use Rattle.wire_model.specs.System.{System}
@@ -44,9 +51,23 @@ module _ {M : Type 0} (words : Words M ℕ) (mech : M) where
     abbrev pub seen_by : (ℕ → Purposes) → System
     seen_by purposes = system_of (machines words) codes_of run_spelling meaning client_view first steps purposes
 
-    -- Its copies are kept and stopped, and the client keeps its word.
+    -- what its lines say that the client tells
+    abbrev pub lines_tell : List Note
+    lines_tell = told_in_lines (lines_of (machines words) first steps)
+
+    -- The lines say `stable` at most once of each copy, and not behind `cancelled`. Where the client tells it in a step, or that a
+    -- copy is exact, it is so by the client's word behind that step.
+    pub record TellsItsWord (purposes : ℕ → Purposes) : Type 0 where
+      pub once : (n : ℕ) → count_by (tells_stable n) lines_tell ≤ 1
+      pub none_behind : (n : ℕ) (before after : List Note) → lines_tell ≡ before ++ notes.Cancelled n ∷ after → list_any (tells_stable n) after ≡ false
+      pub says_all : lines_tell ≡ notes_along steps
+      pub stable : (k n : ℕ) → list_any (tells_stable n) (notes_at steps k) ≡ true → ((seen_by purposes).word (suc k) n).stable ≡ true
+      pub exact : (k n : ℕ) → list_any (tells_exact n) (notes_at steps k) ≡ true → ((seen_by purposes).word (suc k) n).exact ≡ true
+
+    -- Its copies are kept and stopped, the client keeps its word, and tells no more than that.
     pub record KeepsPromise : Type 0 where
       pub kept : IsKept run_shows
       pub stopped : IsStopped run_shows
       pub purposes : ℕ → Purposes
       pub word : IsWordKept meaning (seen_by purposes)
+      pub tells : TellsItsWord purposes

@@ -1,6 +1,5 @@
 ghost use Rattle.std.specs.Prelude.{List};
 ghost use Rattle.run_bounds.specs.Accepted.{AreAccepted};
-ghost use Rattle.run_dest_calls.specs.Kept.{PlansStayFit};
 ghost use Rattle.run_promise.specs.Promise.{KeepsPromise, run_spelling};
 ghost use Rattle.wire_log.specs.Keeping.{reading};
 ghost use Rattle.wire_machine.specs.Runs.{End, Numbered, Runs};
@@ -20,19 +19,17 @@ use run_clients::{clients_are_lawful, clients_go_by_turns, wires_are_unmistaken}
 use run_dest_calls::{destinations_are_lawful_callers, destinations_go_as_callers};
 use run_servers::{destinations_are_lawful_servers, sources_are_lawful, sources_call_nobody};
 use run_system::systems_show_histories;
+use run_tells::{lines_say_stable_once, lines_tell_what_is_told, what_is_told_is_the_word};
 use run_words::runs_keep_the_word;
 use streams::CountDraws;
 use wire_model::lawful_systems;
 
 /// The run of an accepted schedule, from servers on volumes that were just formatted, keeps and stops its copies up to each of its
-/// steps, and its client keeps its word, whatever is lost, repeated or reordered on the wire, whichever calls of a disk fail. A step in
-/// which a record is taken by mistake is none of its steps. It rests on plans of jobs whose numbers and bytes are within the bounds of
-/// their types.
+/// steps, and its client keeps its word and tells no more than that, whatever is lost, repeated or reordered on the wire, whichever calls of a disk fail. A step in
+/// which a record is taken by mistake is none of its steps.
 pub fn runs_keep_the_promise<M: Mechanism>()
     ensures { (mech : M) (events : List Numbered) (first : RunWorld M) (steps : List (RunStep M)) (end : End) → AreAccepted at_start events → IsFirst mech events first
         → Runs (run_machines M.mic_of M.derived M.started M.accepted M.finished) reading first events steps end
-        → PlansStayFit (words_of M.mic_of M.derived M.started M.accepted M.finished count_gives) mech
-        (run_spelling (words_of M.mic_of M.derived M.started M.accepted M.finished count_gives) mech) meaning first steps
         → KeepsPromise (words_of M.mic_of M.derived M.started M.accepted M.finished count_gives) mech first steps }
 {
     tokens_agree::<M>();
@@ -56,5 +53,8 @@ pub fn runs_keep_the_promise<M: Mechanism>()
     run_copies::destinations_are_shown::<M>();
     run_goes::copies_are_lawful::<M>();
     systems_show_histories::<M>();
+    lines_tell_what_is_told::<M>();
+    lines_say_stable_once::<M>();
+    what_is_told_is_the_word::<M>();
     lawful_systems();
 }

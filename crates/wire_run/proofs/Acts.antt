@@ -12,6 +12,7 @@ use Rattle.wire_run.specs.declared.system.Peeked.TheVariants as peeks
 use Rattle.block_file.specs.Opened.{Opened}
 use Rattle.disk_model.specs.Elapsed.{Timeline}
 use Rattle.disk_model.specs.declared.fuse.Fuse.{Fuse}
+use Rattle.job_table.specs.Fits.{PlansAreFit}
 use Rattle.outbox.specs.declared.outgoing.Outbox.{Outbox}
 use Rattle.outbox.specs.declared.outgoing.Outgoing.{Outgoing}
 use Rattle.outcome.specs.Causes.{Rose, RoseBy}
@@ -226,6 +227,11 @@ pub served : {E : Type 0} (r : Result Outbox E) (P Q S : Outbox → Type 0) → 
 served (Ok out) P Q S q s p = (p, q, s)
 served (Err e) P Q S q s p = tt
 
+pub dest_served : {E : Type 0} (r : Result Outbox E) (P Q S : Outbox → Type 0) (T : Type 0) → IfOk r Q → IfOk r S → IfOk r P → T
+    → IfOk r (λ out. P out × Q out × S out × T)
+dest_served (Ok out) P Q S T q s p t = (p, q, s, t)
+dest_served (Err e) P Q S T q s p t = tt
+
 pub nothing_fails : {E : Type 0} (r : Result Outbox E) → IfOk r (λ out. out ≡ nothing) → IfOk r (λ out. steps.any_failed out.used ≡ false)
 nothing_fails (Ok out) none = ap (λ (o : Outbox). steps.any_failed o.used) none
 nothing_fails (Err e) none = tt
@@ -242,9 +248,10 @@ heard_at words there worker bytes now s t d (Ok out) is h = (subst (λ (b : Bool
 heard_at words there worker bytes now s t d (Err e) is h = tt
 
 pub unheard : {D M E : Type 0} (told : Type 0) (words : Words M ℕ) (faults size : D → ℕ) (worker : ℕ) (bytes : List ℕ) (now : ℕ) (end : DestEnd D M) (core : DestHost D M) (r : Result Outbox E)
-    → end ≡ dest_end.Open core → core.steps < server.MOST_STEPS → IsBytes bytes → is_worker worker ≡ false → IfOk r (λ out. out ≡ nothing)
+    → end ≡ dest_end.Open core → core.steps < server.MOST_STEPS → IsBytes bytes → is_worker worker ≡ false → PlansAreFit core.server.files.extra.copier.copies.book.table
+    → IfOk r (λ out. out ≡ nothing)
     → IfOk r (λ out. (d : ℕ) → DestActs told (machines words) faults size (acts.Hears worker bytes) now end d end d out)
-unheard told words faults size worker bytes now end core (Ok out) is few taken none quiet = λ d. record {
+unheard told words faults size worker bytes now end core (Ok out) is few taken none plans quiet = λ d. record {
   was = core;
   next = core;
   was_is = is;
@@ -254,11 +261,12 @@ unheard told words faults size worker bytes now end core (Ok out) is few taken n
     (subst (λ (b : Bool). hears words b worker bytes now (host_of size core) (host_of size core) out) (sym none) (refl, quiet), refl),
     record { few = few; taken = taken; sent = none_sent out AreBytes quiet no_bytes },
     none_sent out AreShort quiet no_short,
+    plans,
   );
   counted = omega arith;
   later = still_later faults size core.server.files.volume core.server.files.volume (steps.any_failed out.used) refl (ap (λ (o : Outbox). steps.any_failed o.used) quiet);
 }
-unheard told words faults size worker bytes now end core (Err e) is few taken none quiet = tt
+unheard told words faults size worker bytes now end core (Err e) is few taken none plans quiet = tt
 
 -- ---- peeks
 

@@ -211,14 +211,17 @@ module _ {D M : Type 0} (told : Type 0) (m : RunMachines M) (read : Reading) (fa
         dest = was.dest;
         puts = (
           was.room,
-          λ t. record {
-            lines = [];
-            records = 0;
-            runs = subst (λ (xs : List (RunStep M)). ScheduleRuns m read (mech_of start) done (did_of xs) Whole [] 0 (volumes_of m first)) (sym waits.none)
-                (schedule_of m read (mech_of start) done first [] Whole (idle_first (mech_of start) done) (waits.idle first));
-            puts = subst (λ (log : List Posted). Appends taken out (last_line (length log) Whole)) rest.log
-                (Appends-trans taken now_taken out [] (last_line (length now.log) Whole) waits.quiet put);
-          },
+          λ t. (
+            record {
+              lines = [];
+              records = 0;
+              runs = subst (λ (xs : List (RunStep M)). ScheduleRuns m read (mech_of start) done (did_of xs) Whole [] 0 (volumes_of m first)) (sym waits.none)
+                  (schedule_of m read (mech_of start) done first [] Whole (idle_first (mech_of start) done) (waits.idle first));
+              puts = subst (λ (log : List Posted). Appends taken out (last_line (length log) Whole)) rest.log
+                  (Appends-trans taken now_taken out [] (last_line (length now.log) Whole) waits.quiet put);
+            },
+            sym (ap (λ (log : List Posted). length log) rest.log),
+          ),
         );
       }
     where
@@ -247,14 +250,17 @@ module _ {D M : Type 0} (told : Type 0) (m : RunMachines M) (read : Reading) (fa
         dest = was.dest;
         puts = (
           was.room,
-          λ t. record {
-            lines = lines;
-            records = length (after_steps first was.steps).log;
-            runs = schedule_of m read (mech_of start) done first was.steps Whole
-                (subst (λ (events : List Numbered). IsFirst (mech_of start) events first) (append-nil done) (moves.is_first t [])) (moves.runs t);
-            puts = Appends-trans taken now_taken out lines (last_line (length (after_steps first was.steps).log) Whole) (moves.puts t)
-                (subst (λ (n : ℕ). Appends now_taken out (last_line n Whole)) (records_in done was.steps start now taken now_taken moves) put);
-          },
+          λ t. (
+            record {
+              lines = lines;
+              records = length (after_steps first was.steps).log;
+              runs = schedule_of m read (mech_of start) done first was.steps Whole
+                  (subst (λ (events : List Numbered). IsFirst (mech_of start) events first) (append-nil done) (moves.is_first t [])) (moves.runs t);
+              puts = Appends-trans taken now_taken out lines (last_line (length (after_steps first was.steps).log) Whole) (moves.puts t)
+                  (subst (λ (n : ℕ). Appends now_taken out (last_line n Whole)) (records_in done was.steps start now taken now_taken moves) put);
+            },
+            sym (records_in done was.steps start now taken now_taken moves),
+          ),
         );
       }
 

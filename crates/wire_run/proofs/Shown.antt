@@ -10,10 +10,12 @@ use Rattle.outcome.specs.Causes.{Rose, RoseBy}
 use Rattle.dest_core.specs.Stepping.{DestState}
 use Rattle.wire_run.specs.Ends.{SourceState}
 use Rattle.wire_run.specs.Running.{HasDisks, Later, Running, disk_of, faults_in}
-use Rattle.wire_run.specs.Stage.{DestPeeks, HasFileAt, IsOpenAt, PeekIs, Peeks, SourcePeeks, bit, dest_disk, dest_files, has_failed, is_shown, source_disk, source_files}
-use Rattle.wire_run.specs.System.{HasFile, IsShown, IsSound, IsUnread, dest_state, is_broken, running_of, shown_at, source_state, with_disk}
+use Rattle.wire_run.specs.Stage.{DestPeeks, DestSized, HasFileAt, IsOpenAt, IsSizedAt, PeekIs, Peeks, SourcePeeks, SourceSized, bit, dest_disk, dest_files, has_failed, is_shown, source_disk, source_files}
+use Rattle.wire_run.specs.System.{HasFile, IsShown, IsSized, IsSound, IsUnread, dest_state, is_broken, running_of, shown_at, source_state, with_disk}
 use Rattle.wire_run.specs.declared.ends.DestEnd.{DestEnd}
+use Rattle.wire_run.specs.declared.ends.DestEnd.TheVariants as dest_end
 use Rattle.wire_run.specs.declared.ends.SourceEnd.{SourceEnd}
+use Rattle.wire_run.specs.declared.ends.SourceEnd.TheVariants as source_end
 use Rattle.wire_run.specs.declared.stage.Stage.{Stage}
 use Rattle.wire_run.specs.declared.system.Peeked.{Peeked}
 use Rattle.wire_run.specs.declared.system.Peeked.TheVariants as peeks
@@ -141,6 +143,20 @@ module _ {D M : Type 0} (told : Type 0) (faults size : D → ℕ) (file off : �
         disks = λ there. record { source_there = ap (λ (x : Stage D M). is_some (source_disk x.source)) q.rest ∙ there.source_there; dest_there = ap (λ (o : Option D). is_some o) now };
       }
 
+-- ---- a file's size at either server
+
+source_sized : {D M : Type 0} (size : D → ℕ) (file n : ℕ) (end : SourceEnd D M) (dest : Option (DestState M)) → file < source_files end → SourceSized file end n
+    → IfSome (shown_at (source_state size end) dest Source) (λ (v : Volume). n ≡ length (file_at v file).now)
+source_sized size file n (source_end.Open core) dest there is = is there
+source_sized size file n source_end.Away dest there is = tt
+source_sized size file n (source_end.Disk disk) dest there is = tt
+
+dest_sized : {D M : Type 0} (size : D → ℕ) (file n : ℕ) (source : Option (SourceState M)) (end : DestEnd D M) → file < dest_files end → DestSized file end n
+    → IfSome (shown_at source (dest_state size end) Dest) (λ (v : Volume). n ≡ length (file_at v file).now)
+dest_sized size file n source (dest_end.Open core) there is = is there
+dest_sized size file n source dest_end.Away there is = tt
+dest_sized size file n source (dest_end.Disk disk) there is = tt
+
 -- ---- of a system as contracts see it
 
 module _ {D M : Type 0} (told : Type 0) (size : D → ℕ) (file : ℕ) (context : Context) (mech : M) (s : Stage D M) (r : Running D M)
@@ -152,6 +168,13 @@ module _ {D M : Type 0} (told : Type 0) (size : D → ℕ) (file : ℕ) (context
   has_at : (side : Side) → HasFile r.context side file → HasDisks r → HasFileAt told side file s
   has_at side has disks =
       has_there told size context mech s sound side file (is_open side has disks) (subst (λ (x : Running D M). HasFile x.context side file) (sym seen) has)
+
+  sized_in : (side : Side) (n : ℕ) → HasFileAt told side file s → IsSizedAt side file s n → told → IsSized (running_of size context s) side file n
+  sized_in Source n has is t = source_sized size file n s.source (dest_state size s.dest) (has.there t) is
+  sized_in Dest n has is t = dest_sized size file n (source_state size s.source) s.dest (has.there t) is
+
+  pub sized : (side : Side) (n : ℕ) → HasFile r.context side file → HasDisks r → IsSizedAt side file s n → told → IsSized r side file n
+  sized side n has disks is t = subst (λ (x : Running D M). IsSized x side file n) seen (sized_in side n (has_at side has disks) is t)
 
 module _ {D M : Type 0} (told : Type 0) (faults size : D → ℕ) (file off : ℕ) (bytes_old bytes_new : List ℕ) (answer : Peeked) where
   says_by : (side : Side) (context : Context) (s new : Stage D M) → HasFileAt told side file s → Peeks told faults size side file off s new bytes_old bytes_new answer

@@ -6,7 +6,7 @@ use Rattle.wire_machine.specs.Check.{Reading}
 use Rattle.wire_machine.specs.Runs.{Numbered, events_in, numbered}
 use Rattle.wire_run.specs.Run.{RanOut}
 use Rattle.wire_run.specs.Running.{HasDisks, RunMachines, Running, context_after, mech_of}
-use Rattle.wire_run.specs.Trace.{GoesOn, Happen, Happens, IsCut, PutsLines}
+use Rattle.wire_run.specs.Trace.{GoesOn, Happen, Happens, IsCut, PutsLines, events_at}
 use Rattle.wire_run.specs.declared.run.Ran.{Ran}
 use Rattle.wire_run.specs.declared.run.Ran.TheVariants as ran
 use Rattle.wire_run.specs.declared.system.Stepped.{Stepped}
@@ -22,9 +22,6 @@ use Rattle.wire_schedule.specs.declared.directive.Entry.{Entry}
 use Rattle.wire_schedule.specs.declared.event.Event.{Event}
 
 -- ---- the events of numbered ones
-
-abbrev pub events_at : List Numbered → List Event
-events_at events = map (λ (e : Numbered). e.event) events
 
 pub numbered_join : (line : ℕ) (xs ys : List Event) → numbered line (xs ++ ys) ≡ numbered line xs ++ numbered line ys
 numbered_join line [] ys = refl

@@ -6,14 +6,14 @@ use Rattle.wire_machine.specs.Check.{Reading}
 use Rattle.wire_machine.specs.Runs.{Numbered, events_in}
 use Rattle.wire_run.specs.Running.{RunMachines, Running, at_rest, mech_of, world_in}
 use Rattle.wire_run.specs.Run.{RanOut}
-use Rattle.wire_run.specs.Trace.{EndPuts, Happen, IsCut}
+use Rattle.wire_run.specs.Trace.{EndPuts, Happen, IsCut, events_at}
 use Rattle.wire_run.specs.declared.run.Ran.{Ran}
 use Rattle.wire_run.specs.declared.run.Ran.TheVariants as ran
 use Rattle.wire_run.proofs.Ending.{ReadsVolumes, failed_last, whole}
 use Rattle.wire_run.proofs.Final.{Ended, rose_later}
 use Rattle.wire_run.proofs.Later.{blamed_none, later_same}
 use Rattle.wire_run.proofs.Middle.{InRun}
-use Rattle.wire_run.proofs.Tracing.{cut_in, ends_in, events_at, events_of_entries, faults_along, through}
+use Rattle.wire_run.proofs.Tracing.{cut_in, ends_in, events_of_entries, faults_along, through}
 use Rattle.wire_schedule.specs.Admission.{at_start, is_ready}
 use Rattle.wire_schedule.specs.Expansion.{are_admitted, events_of_all}
 use Rattle.wire_schedule.specs.declared.directive.Entry.{Entry}

@@ -11,6 +11,7 @@ use Rattle.dest_core.specs.Stepping.{DestState}
 use Rattle.dest_tasks.specs.declared.workers.TheConstants.{WORKERS}
 use Rattle.gss_ctx.specs.Seals.{Mic}
 use Rattle.gss_mech.specs.declared.mechanism.Accepted.{Accepted}
+use Rattle.job_table.specs.Fits.{PlansAreFit}
 use Rattle.outbox.specs.declared.outgoing.Outbox.{Outbox}
 use Rattle.session_server.specs.Host.{HostState}
 use Rattle.session_server.specs.Lengths.{AreShort}
@@ -88,7 +89,8 @@ module _ {M W : Type 0} (words : Words M W) where
   client_does (acts.ClientTakes from bytes) now c before t after out = client.IsRecord (ways c) words.gives from bytes now c before after (t, out)
   client_does acts.ClientTicks now c before t after out = ((t, out) ≡ tick_step words.mic now c) × (after ≡ before)
 
-  -- ---- all three, with what is known of each act besides; no record that a server sends is longer than one may be
+  -- ---- all three, with what is known of each act besides; no record that a server sends is longer than one may be, and the
+  -- plans of the jobs that a destination has then are within the bounds of their types
 
   abbrev pub source_goes : SourceAct → (now : ℕ) → SourceState M → W → SourceState M → W → Outbox → Type 0
   source_goes act now s before t after out =
@@ -97,6 +99,7 @@ module _ {M W : Type 0} (words : Words M W) where
   abbrev pub dest_goes : DestAct → (now : ℕ) → DestState M → W → DestState M → W → Outbox → Type 0
   dest_goes act now s before t after out =
       dest_does act now s before t after out × IsHandled s.steps server.MOST_STEPS (dest_took act) out × AreShort out.sent
+      × PlansAreFit t.state.machine.extra.copier.copies.book.table
 
   abbrev pub client_goes : ClientAct → (now : ℕ) → ClientState M → W → ClientState M → W → Outbox → Type 0
   client_goes act now c before t after out = client_does act now c before t after out × IsHandled c.steps caller.MOST_STEPS (client_took act) out

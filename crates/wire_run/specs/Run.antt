@@ -112,7 +112,7 @@ pub record RunsTo {M : Type 0} (m : RunMachines M) (read : Reading) (mech : M) (
   pub runs : ScheduleRuns m read mech events did end lines records last
   pub puts : Appends old new (put_by end lines records)
 
--- ---- how a run ended, by its answer
+-- ---- how a run ended, by its answer; a whole one has as many records as there are then
 
 -- a disk is too small: it is as it was handed in, and nothing was put
 pub record RanShort {D M : Type 0} (small : Option Small) (old new : Running D M) (taken now_taken : Option (List ℕ)) (need have : ℕ) : Type 0 where
@@ -123,7 +123,8 @@ pub record RanShort {D M : Type 0} (small : Option Small) (old new : Running D M
 
 abbrev pub RanPuts : {D M : Type 0} → (told : Type 0) → RunMachines M → Reading → M → Option Small → List Numbered → Did → Volumes → Running D M → Running D M
     → Option (List ℕ) → Option (List ℕ) → Ran → Type 0
-RanPuts told m read mech small events did last old new taken now_taken ran.Whole = (small ≡ None) × (told → RunsTo m read mech events did Whole last taken now_taken)
+RanPuts told m read mech small events did last old new taken now_taken ran.Whole =
+    (small ≡ None) × (told → (all : RunsTo m read mech events did Whole last taken now_taken) × (all.records ≡ length new.log))
 RanPuts told m read mech small events did last old new taken now_taken (ran.OverLimit line) = told → RunsTo m read mech events did (TooLargeAt line) last taken now_taken
 RanPuts told m read mech small events did last old new taken now_taken (ran.Mistaken mistake) = told → RunsTo m read mech events did (MistakenBy mistake) last taken now_taken
 RanPuts told m read mech small events did last old new taken now_taken ran.WriteFault = told → RunsFront m read mech events did taken now_taken

@@ -9,6 +9,7 @@ use Rattle.client_core.specs.Telling.{copy_of}
 use Rattle.copy_model.specs.Volume.{Volume, bytes_at, file_at}
 use Rattle.dest_core.specs.declared.destination.Destination.{Destination}
 use Rattle.dest_jobs.specs.declared.carried.Carried.{Carried as DestCarried}
+use Rattle.job_table.specs.Fits.{PlansAreFit}
 use Rattle.nfs_base.specs.declared.seal.End.{End}
 use Rattle.nfs_base.specs.declared.seal.End.TheVariants as ends
 use Rattle.nfs_base.specs.declared.limits.TheConstants.{DATA_LIMIT}
@@ -90,6 +91,11 @@ source_boot end = 0
 abbrev pub dest_boot : {D M : Type 0} → DestEnd D M → ℕ
 dest_boot (dest_end.Open core) = core.server.files.volume.volume.boot
 dest_boot end = 0
+
+-- the plans of its jobs are within the bounds of their types
+abbrev pub HasFitPlans : {D M : Type 0} → DestEnd D M → Type 0
+HasFitPlans (dest_end.Open core) = PlansAreFit core.server.files.extra.copier.copies.book.table
+HasFitPlans end = Unit {0}
 
 -- it is there
 abbrev pub IsSourceOpen : {D M : Type 0} → SourceEnd D M → Type 0
@@ -475,6 +481,21 @@ later_clock seconds s = record s { clock = s.clock + seconds }
 abbrev pub IsOpenAt : {D M : Type 0} → Side → Stage D M → Type 0
 IsOpenAt Source s = IsSourceOpen s.source
 IsOpenAt Dest s = IsDestOpen s.dest
+
+-- how many bytes a file has that is there
+abbrev pub SourceSized : {D M : Type 0} → (file : ℕ) → SourceEnd D M → ℕ → Type 0
+SourceSized file (source_end.Open core) size =
+    file < length core.server.files.volume.volume.files → size ≡ length (file_at core.server.files.volume.volume file).now
+SourceSized file end size = Unit {0}
+
+abbrev pub DestSized : {D M : Type 0} → (file : ℕ) → DestEnd D M → ℕ → Type 0
+DestSized file (dest_end.Open core) size =
+    file < length core.server.files.volume.volume.files → size ≡ length (file_at core.server.files.volume.volume file).now
+DestSized file end size = Unit {0}
+
+abbrev pub IsSizedAt : {D M : Type 0} → Side → (file : ℕ) → Stage D M → ℕ → Type 0
+IsSizedAt Source file s size = SourceSized file s.source size
+IsSizedAt Dest file s size = DestSized file s.dest size
 
 abbrev pub PeeksBy : {D M : Type 0} → (told : Type 0) → (faults size : D → ℕ) → Side → (file off : ℕ) → (old new : Stage D M) → (out_old out_new : List ℕ) → Peeked → Type 0
 PeeksBy told faults size Source file off old new out_old out_new answer = SourcePeeks told faults size file off old.source new.source out_old out_new answer

@@ -107,6 +107,10 @@ shown_at source dest Dest = option_map (λ s. s.state.machine.store.volume) dest
 abbrev pub IsShown : {D M : Type 0} → Running D M → Side → (file off : ℕ) → List ℕ → (len : ℕ) → Type 0
 IsShown r side file off bytes len = IfSome (shown_at r.source_state r.dest_state side) (λ v. bytes ≡ bytes_at (file_at v file).now off len)
 
+-- how many bytes a file has
+abbrev pub IsSized : {D M : Type 0} → Running D M → Side → (file : ℕ) → ℕ → Type 0
+IsSized r side file size = IfSome (shown_at r.source_state r.dest_state side) (λ v. size ≡ length (file_at v file).now)
+
 -- a server's volume is broken
 abbrev pub is_broken : {D M : Type 0} → Running D M → Side → Bool
 is_broken r side = option_map_or (λ v. v.broken) (shown_at r.source_state r.dest_state side) false

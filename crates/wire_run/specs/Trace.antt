@@ -1,5 +1,5 @@
 -- What a run does event by event: what became of each, and what was put of its lines. Own definitions.
-use Rattle.std.specs.Prelude.{◌≡◌, ◌⊎◌, ◌≤◌, ℕ, Bool, true, false, List, [], ◌∷◌, ◌++◌, Option, Some, None}
+use Rattle.std.specs.Prelude.{◌≡◌, ◌⊎◌, ◌≤◌, ℕ, Bool, true, false, List, [], ◌∷◌, ◌++◌, map, Option, Some, None}
 use Rattle.std.specs.Io.KnownBytes.{Appends}
 use Rattle.outcome.specs.Causes.{Rose}
 use Rattle.streams.specs.Sink.{AppendsFront}
@@ -19,6 +19,10 @@ use Rattle.wire_schedule.specs.declared.event.Event.TheVariants as kinds
 abbrev pub turn_of : (works : Bool) → List Event
 turn_of true = one_round
 turn_of false = kinds.Flow ∷ []
+
+-- the events of numbered ones
+abbrev pub events_at : List Numbered → List Event
+events_at events = map (λ (e : Numbered). e.event) events
 
 -- ---- bytes are put: all of them, and this follows, or a front, where the sink fails
 

@@ -6,7 +6,7 @@ ghost use Rattle.source_core.specs.Core.{nothing};
 ghost use Rattle.wire_machine.specs.Ends as acts;
 ghost use Rattle.wire_machine.specs.Steps.{command_of};
 ghost use Rattle.wire_run.specs.Ends.{is_worker, run_machines};
-ghost use Rattle.wire_run.specs.Stage.{dest_boot, dest_steps, peeked_of, source_boot, source_steps, ClientActs, DestActs, DestPeeks, IsCommand, IsDestOpen, IsSourceOpen, SourceActs, SourcePeeks};
+ghost use Rattle.wire_run.specs.Stage.{dest_boot, dest_steps, peeked_of, source_boot, source_steps, ClientActs, DestActs, DestPeeks, DestSized, HasFitPlans, IsCommand, IsDestOpen, IsSourceOpen, SourceActs, SourcePeeks, SourceSized};
 
 use crate::bytes::{are_bytes, of_bytes};
 use crate::client_turn::command;
@@ -75,6 +75,21 @@ impl<D: Disk, M: Mechanism> SourceEnd<D, M> {
         core.boot()
     }
 
+    /// How many bytes a file has now; 0 where it isn't there.
+    pub(crate) fn size(&self, file: u32) -> u64
+        requires open { IsSourceOpen self.now }
+        requires no_root { 1 ≤ file }
+        ensures { SourceSized file self.now result }
+    {
+        let SourceEnd::Open(core) = self else {
+            unreachable!()
+        };
+        if core.files() < file {
+            return 0;
+        }
+        core.file(file).size
+    }
+
     /// Fills `out` with bytes of a file as they are now.
     pub(crate) fn peek(&mut self, file: u32, off: u64, out: &mut [u8]) -> Peeked
         requires open { IsSourceOpen self.old }
@@ -111,7 +126,9 @@ impl<D: Disk, M: Mechanism> DestEnd<D, M> {
             unreachable!()
         };
         are_bytes(bytes);
-        of_bytes(core.on_record(alloc, 0, bytes, now, draws))
+        let out = of_bytes(core.on_record(alloc, 0, bytes, now, draws));
+        core.landed();
+        out
     }
 
     /// A worker makes its next step.
@@ -133,7 +150,9 @@ impl<D: Disk, M: Mechanism> DestEnd<D, M> {
         let DestEnd::Open(core) = self else {
             unreachable!()
         };
-        of_bytes(core.work(alloc, worker, now, draws))
+        let out = of_bytes(core.work(alloc, worker, now, draws));
+        core.landed();
+        out
     }
 
     /// A worker hears a record of the source. One that isn't there hears nothing.
@@ -148,6 +167,7 @@ impl<D: Disk, M: Mechanism> DestEnd<D, M> {
             self.hear_at(alloc, worker as u8, bytes, now)
         } else {
             are_bytes(bytes);
+            self.has_fit_plans();
             no_outbox(alloc)
         }
     }
@@ -165,7 +185,9 @@ impl<D: Disk, M: Mechanism> DestEnd<D, M> {
             unreachable!()
         };
         are_bytes(bytes);
-        of_bytes(core.on_source_reply(alloc, worker, bytes, now))
+        let out = of_bytes(core.on_source_reply(alloc, worker, bytes, now));
+        core.landed();
+        out
     }
 
     /// A second comes.
@@ -178,7 +200,20 @@ impl<D: Disk, M: Mechanism> DestEnd<D, M> {
         let DestEnd::Open(core) = self else {
             unreachable!()
         };
-        of_bytes(core.tick(alloc, now))
+        let out = of_bytes(core.tick(alloc, now));
+        core.landed();
+        out
+    }
+
+    /// The plans of its jobs are within the bounds of their types.
+    fn has_fit_plans(&self)
+        requires { IsDestOpen self.now }
+        ensures { HasFitPlans self.now }
+    {
+        let DestEnd::Open(core) = self else {
+            unreachable!()
+        };
+        core.landed();
     }
 
     /// The number of its volume's opening.
@@ -190,6 +225,21 @@ impl<D: Disk, M: Mechanism> DestEnd<D, M> {
             unreachable!()
         };
         core.boot()
+    }
+
+    /// How many bytes a file has now; 0 where it isn't there.
+    pub(crate) fn size(&self, file: u32) -> u64
+        requires open { IsDestOpen self.now }
+        requires no_root { 1 ≤ file }
+        ensures { DestSized file self.now result }
+    {
+        let DestEnd::Open(core) = self else {
+            unreachable!()
+        };
+        if core.files() < file {
+            return 0;
+        }
+        core.file(file).size
     }
 
     /// Fills `out` with bytes of a file as they are now.

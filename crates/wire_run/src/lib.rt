@@ -11,6 +11,7 @@ mod client_turn;
 mod ends;
 mod flowing;
 mod fresh;
+mod laws;
 mod lines;
 mod run;
 mod setting;
@@ -21,6 +22,7 @@ mod system;
 
 pub use ends::Disks;
 pub use fresh::Unmade;
+pub use laws::{events_follow_events, events_make_runs};
 pub use run::Ran;
 pub use setting::{DEST_TAG, SOURCE_TAG};
 pub use system::{Stepped, System};

@@ -9,7 +9,7 @@ ghost use Rattle.wire_machine.specs.Steps.{command_of, AllTick, ClientDoes, Dest
 ghost use Rattle.wire_machine.specs.Runs.{most_bytes};
 ghost use Rattle.wire_machine.specs.World.{bytes_of, marked, posted_at};
 ghost use Rattle.wire_run.specs.Ends.{is_worker, run_machines};
-ghost use Rattle.wire_run.specs.Stage.{begun_in, bytes_lines, faults_named, has_failed, AllLook, BeginsNone, BeginsOnly, Comes, Grows, HandsOver, HasFileAt, IsBelow, IsCommand, IsFair, IsFit, IsOpenAt, IsReady, LooksOnly, Peeks, SmallIs, SmallKeeps, TakesAt};
+ghost use Rattle.wire_run.specs.Stage.{begun_in, bytes_lines, faults_named, has_failed, AllLook, BeginsNone, BeginsOnly, Comes, Grows, HandsOver, HasFileAt, IsBelow, IsCommand, IsFair, IsFit, IsOpenAt, IsReady, IsSizedAt, LooksOnly, Peeks, SmallIs, SmallKeeps, TakesAt};
 
 use crate::acting::{client_commanded, client_takes, client_ticks};
 use crate::settling::choice_by;
@@ -349,6 +349,18 @@ impl<D: Disk, M: Mechanism> Stage<D, M> {
         put_bytes(text, read, side, file, off, shown)?;
         self.count(choice_by(is_failure(read)))?;
         Ok(None)
+    }
+
+    /// How many bytes a file has now; 0 where it isn't there.
+    pub(crate) fn size(&self, side: Side, file: u32) -> u64
+        requires open { IsOpenAt side self.now }
+        requires no_root { 1 ≤ file }
+        ensures { IsSizedAt side file self.now result }
+    {
+        match side {
+            Side::Source => self.source.size(file),
+            Side::Dest => self.dest.size(file),
+        }
     }
 
     /// Fills `out` with bytes of a file as they are now.

@@ -85,7 +85,7 @@ impl<D: Disk + Drop, M: Mechanism + Copy> System<D, M> {
     ghost use Rattle.wire_machine.specs.World.{posted_at};
     ghost use Rattle.wire_run.specs.Ends.{run_machines};
     ghost use Rattle.wire_run.specs.Running.{at_rest, context_after, disk_of, mech_of, HasDisks, Later, StepIs};
-    ghost use Rattle.wire_run.specs.System.{is_broken, shown_at, with_disk, HasFile, Holds, IsShown, IsSingle, IsUnread};
+    ghost use Rattle.wire_run.specs.System.{is_broken, shown_at, with_disk, HasFile, Holds, IsShown, IsSingle, IsSized, IsUnread};
     ghost use Rattle.wire_run.specs.declared.setting.TheConstants.{SOURCE_TAG, DEST_TAG};
     ghost use Rattle.wire_schedule.specs.Admission.{admits};
 
@@ -146,10 +146,19 @@ impl<D: Disk + Drop, M: Mechanism + Copy> System<D, M> {
     }
 
     /// How many records were sent.
-    pub(crate) fn records(&self) -> u64
+    pub fn records(&self) -> u64
         ensures { result ≡ length self.now.log }
     {
         self.stage.log.count()
+    }
+
+    /// How many bytes a file has now; where its disk tells what it holds, that is so.
+    pub fn size(&self, side: Side, file: u32) -> u64
+        requires file { HasFile self.now.context side file }
+        requires disks { HasDisks self.now }
+        ensures { D.Told → IsSized self.now side file result }
+    {
+        self.stage.size(side, file)
     }
 
     /// Fills `out` with a file's bytes from `off` on, and with zeros past its end. Where the disk tells what it holds, and true
@@ -163,6 +172,7 @@ impl<D: Disk + Drop, M: Mechanism + Copy> System<D, M> {
         ensures unread { result ≡ false → IsUnread D.Told D.faults self.old self.new side file }
         ensures broken { is_broken self.old side ≡ true → result ≡ false }
         ensures still { D.Told → self.new ≡ with_disk side (disk_of self.new side) self.old }
+        ensures context { self.new.context ≡ self.old.context }
         ensures later { Later D.faults D.size 0 (disk_of self.old side) (disk_of self.new side) }
         ensures disks { HasDisks self.new }
     {

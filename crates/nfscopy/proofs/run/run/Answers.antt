@@ -1,5 +1,6 @@
 use Rattle.std.proofs.Common.{refl}
 use Rattle.std.proofs.KnownBytes.{Keeps-refl}
+use Rattle.nfscopy.proofs.Completing.{with_completeness}
 use Rattle.nfscopy.proofs.Ending.{text_ends, large_ends, failed_ends, starved_ends}
 use Rattle.nfscopy.proofs.Keeping.{inputs_keep}
 use Rattle.nfscopy.proofs.run.run.Goals as goal
@@ -7,22 +8,23 @@ use Rattle.nfscopy.proofs.run.run.Goals as goal
 pub returns-in-Ok-Text-clause-ends : goal.returns-in-Ok-Text-clause-ends
 returns-in-Ok-Text-clause-ends g c =
     let whole = rw c.in-Ok-Text.field-0-is at c.in-Ok-Text.ensures.whole in
-    text_ends _ _ _ _ c.run_text.result c.in-Ok-Text.text.items c.deref.result.now c.deref.ensures.value whole
+    with_completeness _ _ _ _ _ _ (text_ends _ _ _ _ c.run_text.result c.in-Ok-Text.text.items c.deref.result.now c.deref.ensures.value whole
     (c.run_text.ensures.ends (g.S.Stream.gives c.args.input.now).left (g.S.Stream.gives c.read_whole.new.source).left
-    (g.S.Stream.gives c.args.input.now).faults (g.S.Stream.gives c.read_whole.new.source).faults whole.0.ended)
+    (g.S.Stream.gives c.args.input.now).faults (g.S.Stream.gives c.read_whole.new.source).faults whole.0.ended))
 
 pub returns-in-Ok-TooMuch-clause-ends : goal.returns-in-Ok-TooMuch-clause-ends
 returns-in-Ok-TooMuch-clause-ends g c =
     let whole = rw c.in-Ok-TooMuch.field-0-is at c.in-Ok-TooMuch.ensures.whole in
-    large_ends _ _ _ _ c.put_last.result c.too_much_line.result.now c.too_much_line.ensures refl refl whole.1 c.put_last.ensures.puts
+    with_completeness _ _ _ _ _ _
+    (large_ends _ _ _ _ c.put_last.result c.too_much_line.result.now c.too_much_line.ensures refl refl whole.1 c.put_last.ensures.puts)
 
 pub returns-in-Ok-Failed-clause-ends : goal.returns-in-Ok-Failed-clause-ends
 returns-in-Ok-Failed-clause-ends g c =
     let cause = rw c.in-Ok-Failed.field-0-is at c.in-Ok-Failed.ensures.cause in
-    failed_ends _ _ _ _ cause (Keeps-refl (g.K.Stream.takes c.args.output.now).taken) refl refl
+    with_completeness _ _ _ _ _ _ (failed_ends _ _ _ _ cause (Keeps-refl (g.K.Stream.takes c.args.output.now).taken) refl refl)
 
 pub returns-in-Err-clause-ends : goal.returns-in-Err-clause-ends
-returns-in-Err-clause-ends g c = starved_ends _ _ _ _ (Keeps-refl (g.K.Stream.takes c.args.output.now).taken) refl refl
+returns-in-Err-clause-ends g c = with_completeness _ _ _ _ _ _ (starved_ends _ _ _ _ (Keeps-refl (g.K.Stream.takes c.args.output.now).taken) refl refl)
 
 pub returns-in-Ok-Text-clause-kept : goal.returns-in-Ok-Text-clause-kept
 returns-in-Ok-Text-clause-kept g c =

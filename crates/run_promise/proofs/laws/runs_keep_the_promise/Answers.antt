@@ -28,7 +28,7 @@ use Rattle.wire_schedule.specs.Admission.{at_start}
 use Rattle.run_promise.proofs.laws.runs_keep_the_promise.Goals as goal
 
 pub returns : goal.returns
-returns g c = λ mech events first steps end accepted is_first goes plans.
+returns g c = λ mech events first steps end accepted is_first goes.
     let M = g.M.Mechanism in
     let words = words_of M.mic_of M.derived M.started M.accepted M.finished count_gives in
     let accepts = principal_in (M.accepted mech) any_nonce in
@@ -50,7 +50,7 @@ returns g c = λ mech events first steps end accepted is_first goes plans.
     let s = seen_by words mech first steps along.purposes in
     let source =
     c.sources_are_lawful.ensures mech events first steps accepts whose client_view along.purposes is_first (shapes_few sides.Source at_start events accepted) are in
-    let as_caller = c.destinations_go_as_callers.ensures mech events first steps accepts whose is_first are dest_owns c.tokens_agree.ensures.in_bytes.codes tokens plans in
+    let as_caller = c.destinations_go_as_callers.ensures mech events first steps accepts whose is_first are dest_owns c.tokens_agree.ensures.in_bytes.codes tokens in
     let names = c.names_are_lawful.ensures in
     let parts : AreLawful spell meaning s = record {
       source = source;
@@ -92,4 +92,11 @@ returns g c = λ mech events first steps end accepted is_first goes plans.
       stopped = subst (λ (h : History). IsStopped h) same (c.lawful_systems.ensures.stopped spell meaning s is_lawful);
       purposes = along.purposes;
       word = c.lawful_systems.ensures.word spell meaning s is_lawful (truthful spell meaning s parts);
+      tells = record {
+        once = λ n. c.lines_say_stable_once.ensures.once client spell meaning first steps setting n are along is_first.client;
+        none_behind = λ n. c.lines_say_stable_once.ensures.none_behind client spell meaning first steps setting n are along is_first.client;
+        says_all = c.lines_tell_what_is_told.ensures first steps are;
+        stable = λ k n. c.what_is_told_is_the_word.ensures.stable client spell meaning first steps setting along k n is_first.client;
+        exact = λ k n. c.what_is_told_is_the_word.ensures.exact client spell meaning first steps setting along k n is_first.client;
+      };
     }

@@ -1,4 +1,5 @@
 use Rattle.std.proofs.Common.{subst}
+use Rattle.job_table.specs.Fits.{PlansAreFit}
 use Rattle.job_book.specs.Book.{BookView, IsSound}
 use Rattle.job_book.proofs.book.Book.landed.Goals as goal
 
@@ -15,3 +16,8 @@ returns-clause-sound c =
       rising = made.rising;
       given = made.given;
     })
+
+pub returns-clause-plans : goal.returns-clause-plans
+returns-clause-plans c =
+    let P : BookView → Type 0 = λ b. PlansAreFit b.table in
+    subst P c.self.view_is c.landed-landed.ensures.plans

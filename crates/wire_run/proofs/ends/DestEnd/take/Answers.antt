@@ -2,7 +2,7 @@ use Rattle.std.proofs.Common.{Some, refl}
 use Rattle.session_server.specs.declared.host.TheConstants.{MOST_STEPS}
 use Rattle.wire_machine.specs.Ends as acts
 use Rattle.wire_run.specs.Ends.{run_machines}
-use Rattle.wire_run.proofs.Acts.{handled, same_result, served, dest_acts, dest_few}
+use Rattle.wire_run.proofs.Acts.{handled, same_result, dest_served, dest_acts, dest_few}
 use Rattle.wire_run.proofs.ends.DestEnd.take.Goals as goal
 
 pub returns-clause-acts : goal.returns-clause-acts
@@ -13,5 +13,5 @@ returns-clause-acts g c =
     g.D.Disk.faults g.D.Disk.size g.D.Disk.fuse g.D.Disk.timeline
     (record { keeps = c.steps_keep_the_files.ensures; some = c.counts_rise_where_calls_fail.ensures.some; later = c.counts_rise_where_calls_fail.ensures.later })
     (acts.DestTakes 0 c.args.bytes.now) c.args.now c.args.self.now _ c.in-Open.core c.on_record.new.self c.args.draws.now c.on_record.new.draws c.on_record.result c.in-Open.is refl
-    (λ t. served c.on_record.result _ _ _ (handled c.on_record.result c.in-Open.core.steps MOST_STEPS (Some c.args.bytes.now) few c.are_bytes.ensures c.of_bytes.ensures.bytes) c.on_record.ensures.short (c.on_record.ensures.turn t))
+    (λ t. dest_served c.on_record.result _ _ _ _ (handled c.on_record.result c.in-Open.core.steps MOST_STEPS (Some c.args.bytes.now) few c.are_bytes.ensures c.of_bytes.ensures.bytes) c.on_record.ensures.short (c.on_record.ensures.turn t) c.landed.ensures.plans)
     c.on_record.ensures.ran c.on_record.ensures.counted)

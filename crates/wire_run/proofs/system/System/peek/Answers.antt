@@ -1,4 +1,5 @@
-use Rattle.std.proofs.Common.{sym, ◌∙◌}
+use Rattle.std.proofs.Common.{sym, ap, ◌∙◌}
+use Rattle.wire_run.specs.Running.{Running}
 use Rattle.wire_run.proofs.Shown.{Says, is_open, says}
 use Rattle.wire_run.proofs.system.System.peek.Goals as goal
 
@@ -18,6 +19,7 @@ returns g c =
       unread = λ is. said.unread (sym c.was_shown.ensures ∙ is);
       broken = λ is. c.was_shown.ensures ∙ said.broken is;
       still = said.still;
+      context = ap (λ (r : Running g.row.D.Denot g.row.M.Denot). r.context) c.self.view_is;
       later = said.later;
       disks = said.disks c.requires.disks;
     }

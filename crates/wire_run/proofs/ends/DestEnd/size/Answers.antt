@@ -1,0 +1,15 @@
+use Rattle.std.proofs.Common.{sym, subst, ap, arith}
+use Rattle.block_file.specs.declared.info.FileInfo.{FileInfo}
+use Rattle.wire_run.specs.Stage.{DestSized}
+use Rattle.wire_run.specs.declared.ends.DestEnd.{DestEnd}
+use Rattle.wire_run.proofs.ends.DestEnd.size.Goals as goal
+
+pub returns-then-files-file : goal.returns-then-files-file
+returns-then-files-file g c =
+    let few = c.files.ensures in
+    let past = c.if-files-file.true in
+    subst (λ (e : DestEnd _ _). DestSized c.args.file e 0) (sym c.in-Open.is) (λ there. absurd (omega (arith, few, past, there)))
+
+pub returns : goal.returns
+returns g c =
+    subst (λ (e : DestEnd _ _). DestSized c.args.file e c.file.result.size) (sym c.in-Open.is) (λ there. ap (λ (i : FileInfo). i.size) c.file.ensures)
