@@ -4,7 +4,7 @@ use Rattle.std.specs.Prelude.{length, nat_lt, option_map, take, if◌then◌else
 use Rattle.nfscopy.specs.Input.{asked, most_bytes, parsed}
 use Rattle.nfscopy.specs.Notice.{too_much_text}
 use Rattle.nfscopy.specs.RunEnds.{KeepsIf, RunWords, RunsKeep}
-use Rattle.run_bounds.specs.Accepted.{AreAccepted}
+use Rattle.run_client.specs.Accepted.{AreAccepted}
 use Rattle.run_promise.specs.Promise.{KeepsPromise}
 use Rattle.wire_machine.specs.Runs.{End, Numbered, Runs, events_in}
 use Rattle.wire_run.specs.Run.{IsFirst}

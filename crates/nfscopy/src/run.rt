@@ -17,7 +17,7 @@ use disk_model::Disk;
 use gss_mech::Mechanism;
 use nfs_base::INPUT_LIMIT;
 use outcome::NoMemory;
-use run_bounds::schedules_are_accepted;
+use run_client::schedules_are_accepted;
 use run_promise::runs_keep_the_promise;
 use std::alloc::Global;
 use streams::{Sink, Source, Whole, put_all, read_whole};

@@ -4,7 +4,7 @@ use Rattle.std.specs.Prelude.{IfSome, nat_le, ◌&&◌}
 use Rattle.std.proofs.lemmas.Bool.{and_parts, leb-true}
 use Rattle.nfs_base.specs.declared.side.Side.{Side}
 use Rattle.nfs_base.specs.declared.side.Side.TheVariants.{Dest, Source}
-use Rattle.run_bounds.specs.Accepted.{AreAccepted}
+use Rattle.run_client.specs.Accepted.{AreAccepted}
 use Rattle.wire_machine.specs.Runs.{Numbered}
 use Rattle.wire_run.specs.Fresh.{Shape}
 use Rattle.wire_run.specs.Run.{shape_by, shape_of, shape_or}

@@ -11,9 +11,9 @@ use Rattle.nfs_base.specs.declared.seal.End.TheVariants.{Client, Dest}
 use Rattle.outbox.specs.declared.note.Note.{Note}
 use Rattle.outbox.specs.declared.note.Note.TheVariants as notes
 use Rattle.run_system.specs.System.{system_of, telling}
-use Rattle.run_tells.specs.Lines.{told_in_lines}
-use Rattle.run_tells.specs.Told.{notes_along, notes_at, tells_exact}
-use Rattle.run_words.specs.View.{client_view}
+use Rattle.run_client.specs.Lines.{told_in_lines}
+use Rattle.run_client.specs.Told.{notes_along, notes_at, tells_exact}
+use Rattle.run_client.specs.View.{client_view}
 use Rattle.session_server.specs.Host.{Codes}
 use Rattle.wire_machine.specs.History.{history}
 use Rattle.wire_machine.specs.Lines.{lines_of}

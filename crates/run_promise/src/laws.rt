@@ -1,5 +1,5 @@
 ghost use Rattle.std.specs.Prelude.{List};
-ghost use Rattle.run_bounds.specs.Accepted.{AreAccepted};
+ghost use Rattle.run_client.specs.Accepted.{AreAccepted};
 ghost use Rattle.run_promise.specs.Promise.{KeepsPromise, run_spelling};
 ghost use Rattle.wire_log.specs.Keeping.{reading};
 ghost use Rattle.wire_machine.specs.Runs.{End, Numbered, Runs};
@@ -14,13 +14,15 @@ use client_fits::clients_have_fit_ways;
 use dest_lands::what_is_awaited_is_spelled;
 use gss_mech::{Mechanism, tokens_agree};
 use mount_fits::counted_draws_are_nonces;
-use run_bounds::clients_may_go;
-use run_clients::{clients_are_lawful, clients_go_by_turns, wires_are_unmistaken};
-use run_dest_calls::{destinations_are_lawful_callers, destinations_go_as_callers};
-use run_servers::{destinations_are_lawful_servers, sources_are_lawful, sources_call_nobody};
+use run_client::{
+    clients_are_lawful, clients_go_by_turns, clients_may_go, lines_say_stable_once,
+    lines_tell_what_is_told, runs_keep_the_word, what_is_told_is_the_word, wires_are_unmistaken,
+};
+use run_dest::{
+    destinations_are_lawful_callers, destinations_are_lawful_servers, destinations_go_as_callers,
+    sources_are_lawful, sources_call_nobody,
+};
 use run_system::systems_show_histories;
-use run_tells::{lines_say_stable_once, lines_tell_what_is_told, what_is_told_is_the_word};
-use run_words::runs_keep_the_word;
 use streams::CountDraws;
 use wire_model::lawful_systems;
 
@@ -46,12 +48,12 @@ pub fn runs_keep_the_promise<M: Mechanism>()
     destinations_are_lawful_servers::<M>();
     destinations_go_as_callers::<M>();
     destinations_are_lawful_callers::<M>();
-    run_dests::volumes_are_lawful::<M>();
-    run_dests::names_are_lawful::<M>();
+    run_dest::volumes_are_lawful::<M>();
+    run_dest::names_are_lawful::<M>();
     what_is_awaited_is_spelled();
     dest_names::names_are_lawful::<M, CountDraws>();
-    run_copies::destinations_are_shown::<M>();
-    run_goes::copies_are_lawful::<M>();
+    run_dest::destinations_are_shown::<M>();
+    run_dest::copies_are_lawful::<M>();
     systems_show_histories::<M>();
     lines_tell_what_is_told::<M>();
     lines_say_stable_once::<M>();

@@ -1,2 +1,3 @@
-pub mod System
+pub mod Listing
 pub mod Moments
+pub mod System

@@ -19,7 +19,7 @@ use Rattle.nfs_base.specs.declared.seal.End.{End}
 use Rattle.nfs_base.specs.declared.seal.End.TheVariants.{Client, Dest, Source}
 use Rattle.nfs_base.specs.declared.side.Side.TheVariants as sides
 use Rattle.outbox.specs.declared.outgoing.Outbox.{Outbox}
-use Rattle.run_history.specs.Listing.{listed_in}
+use Rattle.run_system.specs.Listing.{listed_in}
 use Rattle.server_laws.specs.Acts.{acts_of}
 use Rattle.server_laws.specs.View.{view}
 use Rattle.session_server.specs.Host.{Codes, HostState, Stepped}

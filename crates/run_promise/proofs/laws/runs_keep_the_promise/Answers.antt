@@ -13,11 +13,11 @@ use Rattle.nfs_base.specs.declared.side.Side.TheVariants as sides
 use Rattle.run_promise.proofs.Histories.{alike}
 use Rattle.run_checks.specs.RunLaws.{runs_right}
 use Rattle.run_promise.specs.Accepted.{shapes_few}
-use Rattle.run_dest_calls.specs.Kept.{TokensAreBytes}
+use Rattle.run_dest.specs.Kept.{TokensAreBytes}
 use Rattle.run_promise.specs.Assembled.{AreLawful, lawful, truthful}
 use Rattle.run_promise.specs.Promise.{any_nonce, run_shows, run_spelling, seen_by, whose}
 use Rattle.run_promise.specs.Setting.{client_is, dest_bytes, dest_is, drawn_fits, nonce_is, setting_fits, token_bytes}
-use Rattle.run_words.specs.View.{client_view}
+use Rattle.run_client.specs.View.{client_view}
 use Rattle.wire_log.specs.Keeping.{reading}
 use Rattle.wire_machine.specs.Runs as runs
 use Rattle.wire_meaning.specs.Meaning.{meaning}

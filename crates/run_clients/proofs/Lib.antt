@@ -1,4 +1,0 @@
-pub mod Lawful
-pub mod Openings
-pub mod Turning
-pub mod Whole

@@ -1,4 +1,0 @@
-pub mod Boots
-pub mod Goes
-pub mod Moments
-pub mod Shown

@@ -1,0 +1,92 @@
+ghost use Rattle.std.specs.Prelude.{ℕ, List, Option, suc};
+ghost use Rattle.client_laws.specs.WholeTurns.{Purposes};
+ghost use Rattle.dest_view.specs.Dues.{AreSafe};
+ghost use Rattle.nfs_base.specs.declared.seal.End.{End};
+ghost use Rattle.nfs_base.specs.declared.seal.End.TheVariants.{Dest};
+ghost use Rattle.run_dest.specs.Mounts.{AreFewJobs, AreNotClients, AreSpelled};
+ghost use Rattle.run_system.specs.System.{ClientView, system_of};
+ghost use Rattle.wire_machine.specs.Runs.{Numbered};
+ghost use Rattle.wire_machine.specs.Steps.{AreSteps};
+ghost use Rattle.wire_meaning.specs.Meaning.{meaning};
+ghost use Rattle.wire_model.specs.CopyLaws.{VolumeLaws};
+ghost use Rattle.wire_model.specs.NameLaws.{NameLaws};
+ghost use Rattle.wire_model.specs.System.{dest_effect};
+ghost use Rattle.wire_model.specs.Told.{TakesSimple};
+ghost use Rattle.wire_run.specs.Ends.{run_machines};
+ghost use Rattle.wire_run.specs.Run.{IsFirst};
+ghost use Rattle.wire_run.specs.Running.{RunStep, RunWorld};
+ghost use Rattle.wire_spelling.specs.Spelling.{spelling};
+
+use dest_core::Destination;
+use dest_jobs::Carried;
+use gss_mech::Mechanism;
+use streams::CountDraws;
+
+/// In each step of a run the volume of the destination goes on by one effect that is allowed, as the system shows it, where the
+/// destination takes only what calls a volume once at most.
+pub fn volumes_are_lawful<M: Mechanism>()
+    ensures { (mech : M) (events : List Numbered) (first : RunWorld M) (steps : List (RunStep M)) (accepts : List ℕ → Option (List ℕ)) (whose : List ℕ → Option End)
+        (seen : ClientView M) (purposes : ℕ → Purposes) → IsFirst mech events first
+        → AreSteps (run_machines M.mic_of M.derived M.started M.accepted M.finished) first steps
+        → AreSpelled (run_machines M.mic_of M.derived M.started M.accepted M.finished) (record { mic = M.mic_of; derived = M.derived }) (spelling accepts whose) meaning first steps
+        → (k : ℕ)
+        → TakesSimple (spelling accepts whose) Dest ((system_of (run_machines M.mic_of M.derived M.started M.accepted M.finished) (record { mic = M.mic_of; derived = M.derived }) (spelling accepts whose) meaning seen first steps purposes).acts Dest k)
+        → VolumeLaws ((system_of (run_machines M.mic_of M.derived M.started M.accepted M.finished) (record { mic = M.mic_of; derived = M.derived }) (spelling accepts whose) meaning seen first steps purposes).dest k)
+        ((system_of (run_machines M.mic_of M.derived M.started M.accepted M.finished) (record { mic = M.mic_of; derived = M.derived }) (spelling accepts whose) meaning seen first steps purposes).dest (suc k))
+        (dest_effect (system_of (run_machines M.mic_of M.derived M.started M.accepted M.finished) (record { mic = M.mic_of; derived = M.derived }) (spelling accepts whose) meaning seen first steps purposes) k) }
+{
+    crate::copies::destinations_are_shown::<M>();
+    server_laws::steps_are_lawful::<Destination<M>, Carried, CountDraws>();
+    server_laws::contexts_stay::<Destination<M>, Carried, CountDraws>();
+    server_laws::contexts_rest::<Destination<M>, Carried>();
+    tell_laws::servers_change_volumes_lawfully::<Destination<M>, Carried, CountDraws>();
+    dest_lands::workers_ask_by_plans::<M, CountDraws>();
+    dest_lands::landings_are_due::<M, CountDraws>();
+    dest_lands::volumes_go_on::<M, CountDraws>();
+}
+
+/// Along a run the numbers of the destination's jobs have four bytes: a step gives out no more than a COMPOUND may have operations, and
+/// few steps are made.
+pub fn jobs_are_few<M: Mechanism>()
+    ensures { (mech : M) (events : List Numbered) (first : RunWorld M) (steps : List (RunStep M)) (accepts : List ℕ → Option (List ℕ)) (whose : List ℕ → Option End)
+        → IsFirst mech events first
+        → AreSteps (run_machines M.mic_of M.derived M.started M.accepted M.finished) first steps
+        → AreFewJobs (run_machines M.mic_of M.derived M.started M.accepted M.finished) (record { mic = M.mic_of; derived = M.derived }) (spelling accepts whose) meaning first steps }
+{
+    crate::copies::destinations_are_shown::<M>();
+    server_laws::steps_are_lawful::<Destination<M>, Carried, CountDraws>();
+    server_laws::contexts_stay::<Destination<M>, Carried, CountDraws>();
+    server_laws::contexts_rest::<Destination<M>, Carried>();
+    server_laws::steps_carry_compounds_out::<Destination<M>, Carried, CountDraws>();
+    tell_laws::servers_change_volumes_lawfully::<Destination<M>, Carried, CountDraws>();
+    own_laws::own_parts_give_few::<Destination<M>, Carried, CountDraws>();
+    dest_own::steps_give_one_entry::<M, CountDraws>();
+}
+
+/// In each step of a run the destination obeys the laws of names and reports, and at each moment what is reported as stable is safe.
+pub fn names_are_lawful<M: Mechanism>()
+    ensures laws { (mech : M) (events : List Numbered) (first : RunWorld M) (steps : List (RunStep M)) (accepts : List ℕ → Option (List ℕ)) (whose : List ℕ → Option End)
+        (seen : ClientView M) (purposes : ℕ → Purposes) → IsFirst mech events first
+        → AreSteps (run_machines M.mic_of M.derived M.started M.accepted M.finished) first steps
+        → AreNotClients (run_machines M.mic_of M.derived M.started M.accepted M.finished) (record { mic = M.mic_of; derived = M.derived }) (spelling accepts whose) meaning first steps
+        → (k : ℕ)
+        → NameLaws (spelling accepts whose) meaning (system_of (run_machines M.mic_of M.derived M.started M.accepted M.finished) (record { mic = M.mic_of; derived = M.derived }) (spelling accepts whose) meaning seen first steps purposes) k }
+    ensures safe { (mech : M) (events : List Numbered) (first : RunWorld M) (steps : List (RunStep M)) (accepts : List ℕ → Option (List ℕ)) (whose : List ℕ → Option End)
+        (seen : ClientView M) (purposes : ℕ → Purposes) → IsFirst mech events first
+        → AreSteps (run_machines M.mic_of M.derived M.started M.accepted M.finished) first steps
+        → AreNotClients (run_machines M.mic_of M.derived M.started M.accepted M.finished) (record { mic = M.mic_of; derived = M.derived }) (spelling accepts whose) meaning first steps
+        → (k : ℕ)
+        → AreSafe (system_of (run_machines M.mic_of M.derived M.started M.accepted M.finished) (record { mic = M.mic_of; derived = M.derived }) (spelling accepts whose) meaning seen first steps purposes) k }
+{
+    jobs_are_few::<M>();
+    crate::copies::destinations_are_shown::<M>();
+    crate::openings::openings_stay::<M, CountDraws>();
+    server_laws::steps_are_lawful::<Destination<M>, Carried, CountDraws>();
+    server_laws::contexts_stay::<Destination<M>, Carried, CountDraws>();
+    server_laws::contexts_rest::<Destination<M>, Carried>();
+    tell_laws::servers_change_volumes_lawfully::<Destination<M>, Carried, CountDraws>();
+    dest_names::answers_are_right::<M, CountDraws>();
+    dest_names::reports_stay_right::<M, CountDraws>();
+    dest_names::reports_begin_right::<M>();
+    dest_names::names_are_lawful::<M, CountDraws>();
+}

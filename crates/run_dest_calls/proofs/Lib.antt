@@ -1,4 +1,0 @@
-mod DestSteps
-mod Plans
-mod RunSteps
-mod Runs

@@ -1,9 +1,0 @@
-mod Premises
-mod Moments
-mod Records
-mod Servers
-mod Volumes
-mod Names
-mod Numbers
-mod Runs
-mod Whole
