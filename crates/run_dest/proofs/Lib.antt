@@ -4,7 +4,7 @@ mod CallerRuns
 mod CallerSteps
 mod DestMoments
 pub mod DestRuns
-pub mod Goes
+pub mod DestGoes
 pub mod GoesAlong
 pub mod Going
 pub mod Moments
@@ -17,7 +17,7 @@ pub mod Resting
 mod RunSteps
 mod Runs
 pub mod ServerSteps
-mod Servers
+mod DestServers
 pub mod Shown
 pub mod SourceCalls
 pub mod SourceRuns

@@ -35,7 +35,7 @@ use Rattle.wire_run.specs.Running.{RunMachines, RunStep, RunWorld}
 use Rattle.run_dest.specs.Acts.{DestDid}
 use Rattle.run_dest.specs.ActLaws.{small_did}
 use Rattle.run_dest.specs.Moments.{dest_part}
-use Rattle.run_dest.proofs.Goes.{AreKnown, Goes, did_goes}
+use Rattle.run_dest.proofs.DestGoes.{AreKnown, Goes, did_goes}
 use Rattle.run_dest.proofs.Boots.{boot_of}
 
 -- what is known of histories

@@ -21,7 +21,7 @@ use Rattle.wire_spelling.specs.Spelling.{spelling}
 use Rattle.wire_xdr.specs.Cursor.{IsBytes}
 use Rattle.run_dest.specs.Kinds.{Kind}
 use Rattle.run_dest.proofs.Records.{codes_of}
-use Rattle.run_dest.proofs.Servers.{IsServer}
+use Rattle.run_dest.proofs.DestServers.{IsServer}
 
 -- ---- what is known of the steps of every destination: what it holds of its reports stays right, or it obeys the laws of names
 

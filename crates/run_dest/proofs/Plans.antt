@@ -22,7 +22,7 @@ use Rattle.run_dest.specs.Kept as runs
 
 by_recursion : (jobs : List Job) → All JobIsFit jobs → AllByRecursion JobIsFit jobs
 by_recursion [] all = tt
-by_recursion (job ∷ jobs) all = (All-head job jobs all, by_recursion jobs (All-tail job jobs all))
+by_recursion (job ∷ jobs) all = (All-head JobIsFit job jobs all, by_recursion jobs (All-tail JobIsFit job jobs all))
 
 each_fits : (t : JobTable) → PlansAreFit t → EachPlanIsFit t
 each_fits t all = by_recursion t.jobs all

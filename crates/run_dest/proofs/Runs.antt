@@ -12,7 +12,7 @@ use Rattle.nfs_base.specs.declared.seal.End.TheVariants.{Dest}
 use Rattle.run_dest.proofs.Names.{IsNamed, StaysRight, Steps, named_by}
 use Rattle.run_dest.proofs.Numbers.{AreCounted, HasNumbers, numbers_on}
 use Rattle.run_dest.proofs.Records.{AreServed, codes_of}
-use Rattle.run_dest.proofs.Servers.{IsServer, server_on}
+use Rattle.run_dest.proofs.DestServers.{IsServer, server_on}
 use Rattle.run_dest.proofs.Volumes.{AreDue, AreOrderly, GoOn, HasVolume, VolumeGoes, volume_goes}
 use Rattle.run_dest.specs.Kinds.{Kind}
 use Rattle.tell_laws.specs.Volumes.{volume_of}

@@ -32,7 +32,7 @@ use Rattle.wire_run.specs.Run.{IsFirst, shape_of}
 use Rattle.wire_run.specs.Running.{RunMachines, RunStep, RunWorld}
 use Rattle.wire_run.specs.Setting.{dest_name, dest_place, dest_source}
 use Rattle.run_dest.specs.Moments.{ShowsAs, host_at, part_at, step_at}
-use Rattle.run_dest.proofs.Goes.{AreKnown}
+use Rattle.run_dest.proofs.DestGoes.{AreKnown}
 use Rattle.run_dest.proofs.Moments.{AreFolds, IsDone, IsSeen, done_at, seen_at}
 
 none_past : {X : Type 0} (xs : List X) (k : ℕ) → length xs ≤ k → slice_get xs k ≡ None

@@ -29,7 +29,7 @@ use Rattle.wire_spelling.specs.Spelling.{spelling}
 use Rattle.wire_xdr.specs.Cursor.{IsBytes}
 use Rattle.run_dest.specs.Kinds.{Kind, TakesNone, TakesRecord, TakesReply, TakesSecond, TakesTurn}
 use Rattle.run_dest.proofs.Records.{AreServed, codes_of, comes}
-use Rattle.run_dest.proofs.Servers.{IsServer}
+use Rattle.run_dest.proofs.DestServers.{IsServer}
 
 -- ---- by an effect that is allowed writes stay numbered
 

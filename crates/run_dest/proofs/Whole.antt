@@ -42,7 +42,7 @@ use Rattle.run_dest.proofs.Names.{IsNamed, StaysRight, Steps}
 use Rattle.run_dest.proofs.Numbers.{AreCounted, HasNumbers, few_jobs}
 use Rattle.run_dest.proofs.Records.{AreServed}
 use Rattle.run_dest.proofs.Runs.{KeepOpening, named_at, numbers_at, right_at, volume_at}
-use Rattle.run_dest.proofs.Servers.{IsServer}
+use Rattle.run_dest.proofs.DestServers.{IsServer}
 use Rattle.run_dest.proofs.Volumes.{AreDue, AreOrderly, GoOn, HasVolume}
 
 module _ {M : Type 0} (words : Words M ℕ) (accepts : List ℕ → Option (List ℕ)) (whose : List ℕ → Option End) (first : RunWorld M) (steps : List (RunStep M)) where

@@ -9,7 +9,7 @@ use Rattle.nfs_base.specs.declared.side.Side.TheVariants.{Source, Dest}
 use Rattle.outcome.specs.Causes.{Rose, RoseBy}
 use Rattle.dest_core.specs.Stepping.{DestState}
 use Rattle.wire_run.specs.Ends.{SourceState}
-use Rattle.wire_run.specs.Running.{HasDisks, Later, Running, disk_of, faults_in}
+use Rattle.wire_run.specs.Running.{HasDisks, Later, Running, disk_of, faults_in, size_in}
 use Rattle.wire_run.specs.Stage.{DestPeeks, DestSized, HasFileAt, IsOpenAt, IsSizedAt, PeekIs, Peeks, SourcePeeks, SourceSized, bit, dest_disk, dest_files, has_failed, is_shown, source_disk, source_files}
 use Rattle.wire_run.specs.System.{HasFile, IsShown, IsSized, IsSound, IsUnread, dest_state, is_broken, running_of, shown_at, source_state, with_disk}
 use Rattle.wire_run.specs.declared.ends.DestEnd.{DestEnd}
@@ -28,7 +28,7 @@ pub record Says {D M : Type 0} (told : Type 0) (faults size : D → ℕ) (side :
   pub unread : is_shown answer ≡ false → IsUnread told faults old new side file
   pub broken : is_broken old side ≡ true → is_shown answer ≡ false
   pub still : told → new ≡ with_disk side (disk_of new side) old
-  pub later : Later faults size 0 (disk_of old side) (disk_of new side)
+  pub later : (at : Side) → Later faults size 0 (disk_of old at) (disk_of new at)
   pub disks : HasDisks old → HasDisks new
 
 unread_by : (A B C : Type 0) (answer : Peeked) → is_shown answer ≡ false → (answer ≡ peeks.Refused → A ⊎ C) → (answer ≡ peeks.Failed → B) → A ⊎ (B ⊎ C)
@@ -64,8 +64,20 @@ later_none : {D : Type 0} (faults size : D → ℕ) (n : ℕ) (old new : Option 
 later_none faults size n old new l =
     record { there = l.there; rose = rose_none n (faults_in faults old) (faults_in faults new) l.rose; as_large = l.as_large }
 
+later_still : {D : Type 0} (faults size : D → ℕ) (old new : Option D) → new ≡ old → Later faults size 0 old new
+later_still {D = D} faults size old new same =
+    record { there = ap (λ (o : Option D). is_some o) same; rose = rose_still (faults_in faults old) (faults_in faults new) (ap (λ (o : Option D). faults_in faults o) same); as_large = ap (λ (o : Option D). size_in size o) same }
+  where
+    rose_still : (before now : ℕ) → now ≡ before → RoseBy 0 before now
+    rose_still before now same = omega (arith, same)
+
 later_at : {D : Type 0} (faults size : D → ℕ) (n : ℕ) (old new a b : Option D) → old ≡ a → new ≡ b → Later faults size n a b → Later faults size n old new
 later_at faults size n old new a b p q l = subst (λ o. Later faults size n o new) (sym p) (subst (λ o. Later faults size n a o) (sym q) l)
+
+both_later : {D M : Type 0} (faults size : D → ℕ) (old new : Running D M) → Later faults size 0 old.source new.source → Later faults size 0 old.dest new.dest
+    → (at : Side) → Later faults size 0 (disk_of old at) (disk_of new at)
+both_later faults size old new source dest Source = source
+both_later faults size old new source dest Dest = dest
 
 rose_failed : {D : Type 0} (faults size : D → ℕ) (old new : Option D) (answer : Peeked) → answer ≡ peeks.Failed → Later faults size (bit (has_failed answer)) old new
     → Rose (faults_in faults old) (faults_in faults new)
@@ -112,7 +124,8 @@ module _ {D M : Type 0} (told : Type 0) (faults size : D → ℕ) (file off : �
             ap (λ (x : Stage D M). running_of size context x) q.rest
             ∙ ap (λ (st : Option (SourceState M)). seen_as context s (source_disk new.source) (dest_disk s.dest) st (dest_state size s.dest))
             (ap (λ (e : SourceEnd D M). source_state size e) p.next_is ∙ ap (λ (x : SourceState M). Some x) (p.same t) ∙ sym (ap (λ (e : SourceEnd D M). source_state size e) p.was_is));
-        later = later_none faults size _ _ _ later;
+        later = both_later faults size (running_of size context s) (running_of size context new) (later_none faults size _ _ _ later)
+            (later_still faults size _ _ (ap (λ (x : Stage D M). dest_disk x.dest) q.rest));
         disks = λ there. record { source_there = ap (λ (o : Option D). is_some o) now; dest_there = ap (λ (x : Stage D M). is_some (dest_disk x.dest)) q.rest ∙ there.dest_there };
       }
 
@@ -139,7 +152,8 @@ module _ {D M : Type 0} (told : Type 0) (faults size : D → ℕ) (file off : �
             ap (λ (x : Stage D M). running_of size context x) q.rest
             ∙ ap (λ (st : Option (DestState M)). seen_as context s (source_disk s.source) (dest_disk new.dest) (source_state size s.source) st)
             (ap (λ (e : DestEnd D M). dest_state size e) p.next_is ∙ ap (λ (x : DestState M). Some x) (p.same t) ∙ sym (ap (λ (e : DestEnd D M). dest_state size e) p.was_is));
-        later = later_none faults size _ _ _ later;
+        later = both_later faults size (running_of size context s) (running_of size context new) (later_still faults size _ _ (ap (λ (x : Stage D M). source_disk x.source) q.rest))
+            (later_none faults size _ _ _ later);
         disks = λ there. record { source_there = ap (λ (x : Stage D M). is_some (source_disk x.source)) q.rest ∙ there.source_there; dest_there = ap (λ (o : Option D). is_some o) now };
       }
 

@@ -79,6 +79,7 @@ impl<D: Disk, M> Model for System<D, M> {
 }
 
 impl<D: Disk + Drop, M: Mechanism + Copy> System<D, M> {
+    ghost use Rattle.nfs_base.specs.declared.side.Side.{Side};
     ghost use Rattle.std.specs.Prelude.{◌≡◌, ◌≤◌, ◌<◌, ◌↔◌, true, false, length, None, Some, IfOk, IsTrue, MatchOption};
     ghost use Rattle.wire_log.specs.Keeping.{reading};
     ghost use Rattle.wire_log.specs.Keeping as keeping;
@@ -164,7 +165,7 @@ impl<D: Disk + Drop, M: Mechanism + Copy> System<D, M> {
     /// Fills `out` with a file's bytes from `off` on, and with zeros past its end. Where the disk tells what it holds, and true
     /// comes back, they are the bytes as they are now; and but for that disk all is as it was, as it is no step. Of any disk: false
     /// where the volume is broken, and else only where its disk failed, whose count of faults then rose, or where a disk that doesn't
-    /// tell what it holds left the file out; the disk is as large as before, and its count of faults never falls.
+    /// tell what it holds left the file out; both disks are as large as before, and their counts of faults never fall.
     pub fn peek(&mut self, side: Side, file: u32, off: u64, out: &mut [u8]) -> bool
         requires file { HasFile self.old.context side file }
         requires disks { HasDisks self.old }
@@ -173,7 +174,7 @@ impl<D: Disk + Drop, M: Mechanism + Copy> System<D, M> {
         ensures broken { is_broken self.old side ≡ true → result ≡ false }
         ensures still { D.Told → self.new ≡ with_disk side (disk_of self.new side) self.old }
         ensures context { self.new.context ≡ self.old.context }
-        ensures later { Later D.faults D.size 0 (disk_of self.old side) (disk_of self.new side) }
+        ensures later { (at : Side) → Later D.faults D.size 0 (disk_of self.old at) (disk_of self.new at) }
         ensures disks { HasDisks self.new }
     {
         was_shown(self.stage.read(side, file, off, out))

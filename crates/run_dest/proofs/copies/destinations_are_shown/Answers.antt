@@ -2,7 +2,7 @@ use Rattle.std.proofs.Common.{refl, slice_get}
 use Rattle.wire_run.specs.Ends.{count_gives, machines, words_of}
 use Rattle.run_system.specs.System.{telling}
 use Rattle.wire_machine.specs.History.{at_moment}
-use Rattle.run_dest.proofs.Goes.{AreKnown}
+use Rattle.run_dest.proofs.DestGoes.{AreKnown}
 use Rattle.run_dest.proofs.Moments.{AreFolds, did_at, quiet_by, seen_at}
 use Rattle.run_dest.proofs.Shown.{begins, reaches, shows_as, shows_at, starts}
 use Rattle.run_dest.proofs.copies.destinations_are_shown.Goals as goal

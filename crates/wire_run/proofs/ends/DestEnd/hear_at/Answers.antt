@@ -9,14 +9,14 @@ use Rattle.wire_run.proofs.ends.DestEnd.hear_at.Goals as goal
 pub returns-clause-acts : goal.returns-clause-acts
 returns-clause-acts g c =
     let few = dest_few MOST_STEPS c.args.self.now c.in-Open.core c.in-Open.is c.requires.few in
-    same_result c.on_source_reply.result c.of_bytes.result _ c.of_bytes.ensures.same
+    same_result c.on_source_reply.result c.of_bytes-out.result _ c.of_bytes-out.ensures.same
     (all_draws c.on_source_reply.result _
     (λ d. dest_acts g.D.Disk.Told (run_machines g.M.Mechanism.mic_of g.M.Mechanism.derived g.M.Mechanism.started g.M.Mechanism.accepted g.M.Mechanism.finished)
     g.D.Disk.faults g.D.Disk.size g.D.Disk.fuse g.D.Disk.timeline
     (record { keeps = c.steps_keep_the_files.ensures; some = c.counts_rise_where_calls_fail.ensures.some; later = c.counts_rise_where_calls_fail.ensures.later })
     (acts.Hears c.args.worker c.args.bytes.now) c.args.now c.args.self.now _ c.in-Open.core c.on_source_reply.new.self d d c.on_source_reply.result c.in-Open.is refl
     (λ t. dest_served c.on_source_reply.result _ _ _ _
-    (handled c.on_source_reply.result c.in-Open.core.steps MOST_STEPS (Some c.args.bytes.now) few c.are_bytes.ensures c.of_bytes.ensures.bytes) c.on_source_reply.ensures.short
+    (handled c.on_source_reply.result c.in-Open.core.steps MOST_STEPS (Some c.args.bytes.now) few c.are_bytes.ensures c.of_bytes-out.ensures.bytes) c.on_source_reply.ensures.short
     (heard_at (words_of g.M.Mechanism.mic_of g.M.Mechanism.derived g.M.Mechanism.started g.M.Mechanism.accepted g.M.Mechanism.finished count_gives)
     (is_worker c.args.worker) c.args.worker c.args.bytes.now c.args.now (host_of g.D.Disk.size c.in-Open.core) (host_of g.D.Disk.size c.on_source_reply.new.self) d c.on_source_reply.result c.requires.there (c.on_source_reply.ensures.is t)) c.landed.ensures.plans)
     c.on_source_reply.ensures.ran c.on_source_reply.ensures.counted))

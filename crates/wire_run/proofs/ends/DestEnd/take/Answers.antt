@@ -8,10 +8,10 @@ use Rattle.wire_run.proofs.ends.DestEnd.take.Goals as goal
 pub returns-clause-acts : goal.returns-clause-acts
 returns-clause-acts g c =
     let few = dest_few MOST_STEPS c.args.self.now c.in-Open.core c.in-Open.is c.requires.few in
-    same_result c.on_record.result c.of_bytes.result _ c.of_bytes.ensures.same
+    same_result c.on_record.result c.of_bytes-out.result _ c.of_bytes-out.ensures.same
     (dest_acts g.D.Disk.Told (run_machines g.M.Mechanism.mic_of g.M.Mechanism.derived g.M.Mechanism.started g.M.Mechanism.accepted g.M.Mechanism.finished)
     g.D.Disk.faults g.D.Disk.size g.D.Disk.fuse g.D.Disk.timeline
     (record { keeps = c.steps_keep_the_files.ensures; some = c.counts_rise_where_calls_fail.ensures.some; later = c.counts_rise_where_calls_fail.ensures.later })
     (acts.DestTakes 0 c.args.bytes.now) c.args.now c.args.self.now _ c.in-Open.core c.on_record.new.self c.args.draws.now c.on_record.new.draws c.on_record.result c.in-Open.is refl
-    (λ t. dest_served c.on_record.result _ _ _ _ (handled c.on_record.result c.in-Open.core.steps MOST_STEPS (Some c.args.bytes.now) few c.are_bytes.ensures c.of_bytes.ensures.bytes) c.on_record.ensures.short (c.on_record.ensures.turn t) c.landed.ensures.plans)
+    (λ t. dest_served c.on_record.result _ _ _ _ (handled c.on_record.result c.in-Open.core.steps MOST_STEPS (Some c.args.bytes.now) few c.are_bytes.ensures c.of_bytes-out.ensures.bytes) c.on_record.ensures.short (c.on_record.ensures.turn t) c.landed.ensures.plans)
     c.on_record.ensures.ran c.on_record.ensures.counted)
