@@ -6,9 +6,9 @@
 The client, the source and the destination are three lines from top to bottom. Each `sent` line is an arrow with its
 number and label, each other line a note at the end that tells it. What a transcript doesn't say isn't drawn: whether a
 record arrived is seen only by what comes of it. So an arrow is dashed where the record was lost or came late as far as
-the transcript shows: a call that nothing answers, or that is sent again before its answer; an answer of which nothing
-comes before its call is sent again. A record that is dropped, as one that comes twice, and a server that stops are
-marked at their end.
+the transcript shows: a call that nothing answers, the earlier ones where fewer answers come than there are calls of that
+name; an answer of which nothing comes before its call is sent again. A record that is dropped, as one that comes twice,
+and a server that stops are marked at their end.
 """
 
 import sys
@@ -17,9 +17,13 @@ from xml.sax.saxutils import escape
 
 LANES = {"c": 150, "s": 430, "d": 710}
 NAMES = {"c": "client", "s": "source", "d": "destination"}
-WIDTH = 860
+LEAST_WIDTH = 860
 TOP = 64
 ROW = 22
+
+# How wide a letter of a note is, and the blank beside one.
+LETTER = 6.7
+GAP = 10
 
 # What the words of a note say of the end that tells it, where they don't name it.
 OF_DESTINATION = {"accepted", "overlap", "sized", "landed", "held", "late", "stopped", "committed", "reported"}
@@ -43,6 +47,10 @@ class Sent:
     def is_answer(self):
         return " " in self.label or self.label == "mismatch"
 
+    def is_refused(self):
+        """Whether it is an answer that doesn't name its call."""
+        return self.call() in ("denied", "mismatch", "fault")
+
 
 @dataclass
 class Note:
@@ -61,46 +69,45 @@ def end_of(words):
         return "d"
     if words[0] in OF_SOURCE:
         return "s"
-    if words[0] == "privilege":
-        return None
     return "c"
 
 
 def parsed(lines):
     """The rows of a picture, in the order of the lines."""
-    rows, last = [], "c"
-    for line in lines:
+    rows = []
+    for place, line in enumerate(lines):
         words = line.split(" ")
         if words[0] == "sent" and len(words) >= 4:
             rows.append(Sent(int(words[1]), words[2][0], words[2][1], " ".join(words[3:])))
-            last = words[2][0]
-            continue
-        if words[0] == "end":
-            continue
-        # A refused privilege is told by the server that answers next; until then it is the last one that spoke.
-        rows.append(Note(end_of(words) or last, line, words[0] in ("drop", "crash", "mistaken", "none")))
+        elif words[0] != "end":
+            end = end_of(words)
+            if words[0] == "privilege":
+                # It is told by the end that sends the next record, which is the refusal.
+                behind = [it.split(" ") for it in lines[place + 1:] if it.startswith("sent ")]
+                end = behind[0][2][0] if behind else "s"
+            rows.append(Note(end, line, words[0] in ("drop", "crash", "mistaken", "none")))
     return rows
 
 
 def mark_missed(rows):
     """Marks the records that were lost or came late, as far as the rows show it."""
-    awaited, answered = {}, {}
+    awaited, answered = [], {}
     for row in rows:
         if isinstance(row, Note):
             # What an end tells comes of an answer that it took.
             answered = {key: answer for key, answer in answered.items() if key[0] != row.end}
-            continue
-        if row.is_answer():
-            key = (row.target, row.origin, row.call())
-            awaited.pop(key, None)
-            answered[key] = row
-            continue
-        key = (row.origin, row.target, row.call())
-        earlier = awaited.get(key) or answered.pop(key, None)
-        if earlier:
-            earlier.is_missed = True
-        awaited[key] = row
-    for call in awaited.values():
+        elif row.is_answer():
+            calls = [it for it in awaited if (it.origin, it.target) == (row.target, row.origin)]
+            calls = calls if row.is_refused() else [it for it in calls if it.label == row.call()]
+            if calls:
+                awaited.remove(calls[-1])
+            answered[row.target, row.origin, row.call()] = row
+        else:
+            earlier = answered.pop((row.origin, row.target, row.label), None)
+            if earlier:
+                earlier.is_missed = True
+            awaited.append(row)
+    for call in awaited:
         call.is_missed = True
 
 
@@ -124,7 +131,7 @@ def arrow(row, y):
 
 def note(row, y):
     x = LANES[row.end]
-    side, anchor = (-10, "end") if row.end == "c" else (10, "start")
+    side, anchor = (-GAP, "end") if row.end == "c" else (GAP, "start")
     kind = "mark" if row.is_mark else "note"
     return [f'<circle class="{kind}" cx="{x}" cy="{y - 4}" r="3"/>', text_at(x + side, y, row.text, anchor, kind)]
 
@@ -143,13 +150,15 @@ STYLE = """
 def picture(rows, title):
     """The picture of these rows."""
     height = TOP + ROW * (len(rows) + 1)
+    ends = [LANES[row.end] + 2 * GAP + LETTER * len(row.text) for row in rows if isinstance(row, Note) and row.end != "c"]
+    width = round(max([LEAST_WIDTH, *ends]))
     drawn = [
-        f'<svg xmlns="http://www.w3.org/2000/svg" width="{WIDTH}" height="{height}" viewBox="0 0 {WIDTH} {height}">',
+        f'<svg xmlns="http://www.w3.org/2000/svg" width="{width}" height="{height}" viewBox="0 0 {width} {height}">',
         f"<title>{escape(title)}</title>",
         f"<style>{STYLE}</style>",
         '<defs><marker id="tip" markerWidth="8" markerHeight="8" refX="6" refY="3" orient="auto">'
         '<path d="M0,0 L6,3 L0,6 z" fill="#246"/></marker></defs>',
-        f'<rect width="{WIDTH}" height="{height}" fill="white"/>',
+        f'<rect width="{width}" height="{height}" fill="white"/>',
         text_at(12, 20, title, "start", "name"),
     ]
     for end, x in LANES.items():
@@ -161,13 +170,18 @@ def picture(rows, title):
     return "\n".join(drawn + ["</svg>", ""])
 
 
+def drawn(path, title):
+    """The picture of the transcript in a file."""
+    with open(path, encoding="ascii") as transcript:
+        rows = parsed(transcript.read().splitlines())
+    mark_missed(rows)
+    return picture(rows, title)
+
+
 def main():
     if len(sys.argv) not in (2, 3):
         sys.exit(__doc__)
-    with open(sys.argv[1], encoding="ascii") as transcript:
-        rows = parsed(transcript.read().splitlines())
-    mark_missed(rows)
-    sys.stdout.write(picture(rows, sys.argv[2] if len(sys.argv) == 3 else sys.argv[1]))
+    sys.stdout.write(drawn(sys.argv[1], sys.argv[2] if len(sys.argv) == 3 else sys.argv[1]))
 
 
 if __name__ == "__main__":
