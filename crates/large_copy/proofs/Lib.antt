@@ -1,0 +1,5 @@
+pub mod Admitted
+pub mod Events
+mod Files
+mod Fitting
+pub mod Lines

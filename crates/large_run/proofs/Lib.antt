@@ -1,0 +1,4 @@
+mod Both
+mod Chunks
+pub mod Serving
+pub mod Tallying
