@@ -384,7 +384,8 @@ def build_missing(crates, missing, rt, file):
     os.makedirs(os.path.dirname(file), exist_ok=True)
     with open(file, "wb") as log:
         run = Build(crates, missing, rt, log)
-        tell(f"proves and builds {len(missing)} crates, up to {run.most} side by side; what the prover says is in {file}")
+        order = f"up to {run.most} side by side" if run.most > 1 else "one after the other"
+        tell(f"proves and builds {len(missing)} crates, {order}; what the prover says is in {file}")
         try:
             failed = run.work()
         finally:
