@@ -15,7 +15,7 @@ use Rattle.wire_run.specs.declared.ends.DestEnd.TheVariants as dest_end
 use Rattle.wire_run.specs.declared.ends.SourceEnd.{SourceEnd}
 use Rattle.wire_run.specs.declared.ends.SourceEnd.TheVariants as source_end
 use Rattle.wire_run.specs.declared.stage.Stage.{Stage}
-use Rattle.wire_schedule.specs.Admission.{admits, after, has_begun, has_file, is_between, is_in_order, is_ready, is_within, most_copies, most_events}
+use Rattle.wire_schedule.specs.Admission.{admits, after, has_begun, has_file, is_between, is_in_order, is_ready, is_within, most_copies, most_events, most_workers}
 use Rattle.wire_schedule.specs.declared.context.Context.{Context}
 use Rattle.wire_schedule.specs.declared.event.Event.{Event}
 use Rattle.wire_schedule.specs.declared.event.Event.TheVariants as kinds
@@ -86,10 +86,8 @@ pub one_event : (context : Context) (event : Event) → admits context event ≡
 one_event context event may = omega (arith, ltb-true context.events most_events (both (nat_lt context.events most_events) _ may).0)
 
 -- the destination has the workers that a schedule may name
-a_worker : (worker : ℕ) → is_between 1 1 worker ≡ true → is_worker worker ≡ true
-a_worker worker is =
-    let bounds = both (nat_le 1 worker) (nat_le worker 1) is in
-    ap (λ (b : Bool). b && nat_le worker 8) bounds.0 ∙ le-leb worker 8 (omega (arith, leb-true worker 1 bounds.1))
+a_worker : (worker : ℕ) → is_between 1 most_workers worker ≡ true → is_worker worker ≡ true
+a_worker worker is = is
 
 -- every event but a volume comes when both servers are there
 pub is_served : (context : Context) (event : Event) → IsSingle event → admits context event ≡ true → is_ready context ≡ true

@@ -13,7 +13,7 @@ most_copies = 15
 
 -- workers too
 abbrev pub most_workers : ℕ
-most_workers = 1
+most_workers = 8
 
 -- how many events a schedule may have, once its lines are written out event by event
 abbrev pub most_events : ℕ

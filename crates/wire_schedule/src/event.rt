@@ -8,7 +8,7 @@ use wire_xdr::Octets;
 pub(crate) const MOST_COPIES: u8 = 15;
 
 /// The highest number of a worker.
-const MOST_WORKERS: u8 = 1;
+const MOST_WORKERS: u8 = 8;
 
 /// How many bytes one event writes at most.
 const MOST_WRITTEN: u64 = 65_536;
