@@ -10,10 +10,9 @@ use Rattle.streams.specs.FrontLaws.{front_more, front_none}
 use Rattle.streams.specs.Sink.{AppendsFront}
 use Rattle.streams.specs.Whole.{TakesAll}
 use Rattle.copy_model.specs.Volume.{Volume}
-use Rattle.disk_model.specs.Elapsed.{Timeline}
 use Rattle.nfs_base.specs.declared.side.Side.{Side}
 use Rattle.nfs_base.specs.declared.side.Side.TheVariants.{Source, Dest}
-use Rattle.wire_machine.specs.Runs.{End, Numbered, Whole, TooLargeAt, MistakenBy, last_line}
+use Rattle.wire_machine.specs.Runs.{End, Numbered, TooLargeAt, MistakenBy, last_line}
 use Rattle.wire_machine.specs.declared.mistake.Mistake.{Mistake}
 use Rattle.wire_run.specs.Fresh.{Small}
 use Rattle.wire_run.specs.Run.{Did, RanHasCause, RanIs, RanOut, RunsFront, RunsTo, ScheduleRuns, Volumes, first_small, put_by}
@@ -60,7 +59,7 @@ kept_none a b bytes kept = kept_front a b b bytes kept (front_none b bytes)
 
 -- ---- disks and counts
 
-abbrev no_did : Did
+abbrev pub no_did : Did
 no_did = record { choices = []; failed = λ side. 0 }
 
 later_same : {D : Type 0} (w : DiskWords D) (d : Option D) → Later w.faults w.size 0 d d
@@ -87,6 +86,22 @@ rose_late a b c le rose = omega (arith, le, rose)
 
 rose_on : (a b c : ℕ) → Rose a b → b ≤ c → Rose a c
 rose_on a b c rose le = omega (arith, rose, le)
+
+-- a disk that is the same under two names
+pub moved : {D : Type 0} (w : DiskWords D) (n : ℕ) (a b c d : Option D) → a ≡ b → d ≡ c → Later w.faults w.size n a c → Later w.faults w.size n b d
+moved {D = D} w n a b c d ab dc later =
+    subst (λ (x : Option D). Later w.faults w.size n x d) ab (subst (λ (x : Option D). Later w.faults w.size n a x) (sym dc) later)
+
+pub small_at : {D M : Type 0} (w : DiskWords D) (r : RunWords M) (before : Outside D) (events : List Numbered) (source dest : Option D)
+    → source ≡ before.source → dest ≡ before.dest → small_of w r before events ≡ first_small (size_in w.size source) (size_in w.size dest) events
+small_at {D = D} w r before events source dest source_is dest_is =
+    ap (λ (x : Option D). first_small (size_in w.size x) (size_in w.size before.dest) events) (sym source_is)
+    ∙ ap (λ (x : Option D). first_small (size_in w.size source) (size_in w.size x) events) (sym dest_is)
+
+-- what the disk of a server holds that is there
+pub held : {D : Type 0} (w : DiskWords D) (tag : ℕ) (v : Volume) (shown : Option Volume) (disk : Option D) → shown ≡ Some v
+    → Holds w.timeline w.size tag shown disk → DiskHolds w.timeline w.size tag v disk
+held w tag v shown disk is holds = rw is at holds
 
 -- ---- memory ran out before anything was put
 
@@ -133,14 +148,8 @@ module _ {D M : Type 0} (w : DiskWords D) (r : RunWords M) (before now : Outside
     (had : HasDisks old) (there : HasDisks new) (ended : IsAtEnd now.left) (le : before.writes ≤ count)
     (source_holds : w.told → Holds w.timeline w.size SOURCE_TAG (shown_at new.source_state new.dest_state Source) now.source)
     (dest_holds : w.told → Holds w.timeline w.size DEST_TAG (shown_at new.source_state new.dest_state Dest) now.dest) where
-  moved : (n : ℕ) (a b c d : Option D) → a ≡ b → d ≡ c → Later w.faults w.size n a c → Later w.faults w.size n b d
-  moved n a b c d ab dc later =
-      subst (λ (x : Option D). Later w.faults w.size n x d) ab (subst (λ (x : Option D). Later w.faults w.size n a x) (sym dc) later)
-
   small_same : small_of w r before events ≡ first_small (size_in w.size old.source) (size_in w.size old.dest) events
-  small_same =
-      ap (λ (x : Option D). first_small (size_in w.size x) (size_in w.size before.dest) events) (sym source)
-      ∙ ap (λ (x : Option D). first_small (size_in w.size old.source) (size_in w.size x) events) (sym dest)
+  small_same = small_at w r before events old.source old.dest source dest
 
   abbrev Is : Ran → Type 0
   Is result = RanIs w.told r.machines r.read w.faults w.size r.mech events old new before.taken middle result
@@ -150,8 +159,8 @@ module _ {D M : Type 0} (w : DiskWords D) (r : RunWords M) (before now : Outside
       record {
         source_back = ap is_some now_source ∙ (there.source_there ∙ (sym had.source_there ∙ ap is_some source));
         dest_back = ap is_some now_dest ∙ (there.dest_there ∙ (sym had.dest_there ∙ ap is_some dest));
-        source = moved (i.did.failed Source) _ _ _ _ source now_source i.source;
-        dest = moved (i.did.failed Dest) _ _ _ _ dest now_dest i.dest;
+        source = moved w (i.did.failed Source) _ _ _ _ source now_source i.source;
+        dest = moved w (i.did.failed Dest) _ _ _ _ dest now_dest i.dest;
         blamed = i.blamed;
       }
 
@@ -225,11 +234,6 @@ module _ {D M : Type 0} (w : DiskWords D) (r : RunWords M) (before now : Outside
 
   -- ---- each way in which a run ends
 
-  -- what the disk of a server holds that is there
-  held : (timeline : D → Timeline) (tag : ℕ) (v : Volume) (shown : Option Volume) (disk : Option D) → shown ≡ Some v → Holds timeline w.size tag shown disk
-      → DiskHolds timeline w.size tag v disk
-  held timeline tag v shown disk is holds = rw is at holds
-
   whole_ends : (end : RunEnd) (i : Is ran.Whole)
       → EndPut middle now.taken count now.writes ran.Whole end → CarriesOut w r before now (Some (Ok events)) end
   whole_ends end i none =
@@ -249,8 +253,8 @@ module _ {D M : Type 0} (w : DiskWords D) (r : RunWords M) (before now : Outside
                 runs = t.runs;
                 puts = appends_kept before.taken middle now.taken _ t.puts none.keeps;
               };
-              source = λ asks. held w.timeline SOURCE_TAG i.last.source _ now.source (i.holds told refl Source asks) (source_holds told);
-              dest = λ asks. held w.timeline DEST_TAG i.last.dest _ now.dest (i.holds told refl Dest asks) (dest_holds told);
+              source = λ asks. held w SOURCE_TAG i.last.source _ now.source (i.holds told refl Source asks) (source_holds told);
+              dest = λ asks. held w DEST_TAG i.last.dest _ now.dest (i.holds told refl Dest asks) (dest_holds told);
             };
       }))
 

@@ -4,15 +4,16 @@ use Rattle.std.specs.Io.KnownBytes.{Appends}
 use Rattle.outcome.specs.Causes.{Rose}
 use Rattle.streams.specs.Sink.{AppendsFront}
 use Rattle.nfscopy.specs.declared.command.Command.{Command}
-use Rattle.nfscopy.specs.declared.command.Command.TheVariants.{Run, Show}
+use Rattle.nfscopy.specs.declared.command.Command.TheVariants.{Run, Show, Gen}
 use Rattle.nfscopy.specs.declared.exit_status.ExitStatus.{ExitStatus}
 use Rattle.nfscopy.specs.declared.ends.UsageEnd.{UsageEnd}
 use Rattle.nfscopy.specs.declared.ends.UsageEnd.TheVariants.{Put, WriteFault}
-use Rattle.nfscopy.specs.ExitStatus.{code_of, usage_status, run_status, show_status}
+use Rattle.nfscopy.specs.ExitStatus.{code_of, usage_status, run_status, gen_status, show_status}
+use Rattle.nfscopy.specs.GenEnds.{GenEnds, gen_events}
 use Rattle.nfscopy.specs.Input.{asked}
 use Rattle.nfscopy.specs.Notice.{usage_text}
-use Rattle.nfscopy.specs.Outside.{Outside, DiskWords, SameDisks}
-use Rattle.nfscopy.specs.RunEnds.{KeepsIf, RunEnds, RunWords}
+use Rattle.nfscopy.specs.Outside.{Outside, DiskWords, SameDisks, SameInput}
+use Rattle.nfscopy.specs.RunEnds.{KeepsIf, RunEnds, RunWords, RunsKeep}
 use Rattle.nfscopy.specs.ShowEnds.{ShowEnds}
 
 -- words of no command: the one line `usage` is put, or a front of it; no memory is taken
@@ -31,6 +32,8 @@ abbrev pub EndsBy : {D M : Type 0} → DiskWords D → RunWords M → Option Com
 EndsBy w r None before now code =
     EndsAs usage_status (UsageEnds before.taken now.taken before.writes now.writes) code × SameDisks before now
 EndsBy w r (Some Run) before now code = EndsAs run_status (RunEnds w r before now) code × KeepsIf r (option_map asked before.left)
+EndsBy w r (Some (Gen mebibytes)) before now code =
+    EndsAs gen_status (GenEnds w r mebibytes before now) code × RunsKeep r (gen_events mebibytes) × SameInput before now
 EndsBy w r (Some Show) before now code = EndsAs show_status (ShowEnds before now) code × SameDisks before now
 
 -- the same, and the counts of faults never fell
@@ -39,8 +42,9 @@ pub record Ends {D M : Type 0} (w : DiskWords D) (r : RunWords M) (command : Opt
   pub reads : before.reads ≤ now.reads
   pub writes : before.writes ≤ now.writes
 
--- the disks that a command uses are handed in: both for `run`
+-- the disks that a command uses are handed in: both for `run` and `gen`
 abbrev pub HasDisks : {D : Type 0} → Option Command → Option D → Option D → Type 0
 HasDisks None source dest = Unit {0}
 HasDisks (Some Run) source dest = (is_some source ≡ true) × (is_some dest ≡ true)
+HasDisks (Some (Gen mebibytes)) source dest = (is_some source ≡ true) × (is_some dest ≡ true)
 HasDisks (Some Show) source dest = Unit {0}

@@ -6,6 +6,8 @@ use Rattle.nfscopy.specs.declared.ends.UsageEnd.{UsageEnd}
 use Rattle.nfscopy.specs.declared.ends.UsageEnd.TheVariants as usage
 use Rattle.nfscopy.specs.declared.ends.RunEnd.{RunEnd}
 use Rattle.nfscopy.specs.declared.ends.RunEnd.TheVariants as run
+use Rattle.nfscopy.specs.declared.ends.GenEnd.{GenEnd}
+use Rattle.nfscopy.specs.declared.ends.GenEnd.TheVariants as gen
 use Rattle.nfscopy.specs.declared.ends.ShowEnd.{ShowEnd}
 use Rattle.nfscopy.specs.declared.ends.ShowEnd.TheVariants as show
 
@@ -34,6 +36,15 @@ run_status run.WriteFault = WriteFault
 run_status run.NoMemory = NoMemory
 run_status run.DiskFault = DiskFault
 run_status run.NoVolume = NoVolume
+
+abbrev pub gen_status : GenEnd → ExitStatus
+gen_status gen.Done = Done
+gen_status gen.OverLimit = Refused
+gen_status gen.Mistaken = Mistaken
+gen_status gen.WriteFault = WriteFault
+gen_status gen.NoMemory = NoMemory
+gen_status gen.DiskFault = DiskFault
+gen_status gen.NoVolume = NoVolume
 
 abbrev pub show_status : ShowEnd → ExitStatus
 show_status show.Done = Done

@@ -4,6 +4,9 @@ pub mod Notice
 pub mod Input
 pub mod Outside
 pub mod RunEnds
+pub mod Summary
+pub mod GenEnds
+pub mod Summing
 pub mod ShowEnds
 pub mod Ends
 pub mod Puts

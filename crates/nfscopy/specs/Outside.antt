@@ -39,6 +39,11 @@ pub record SameDisks {D : Type 0} (before now : Outside D) : Type 0 where
   pub source : now.source ≡ before.source
   pub dest : now.dest ≡ before.dest
 
+-- nothing was read
+pub record SameInput {D : Type 0} (before now : Outside D) : Type 0 where
+  pub left : now.left ≡ before.left
+  pub reads : now.reads ≡ before.reads
+
 -- a server's disk
 abbrev pub disk_at : {D : Type 0} → Outside D → Side → Option D
 disk_at o Source = o.source

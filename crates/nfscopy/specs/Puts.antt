@@ -1,4 +1,4 @@
--- What putting the last line of a run answers. Own definitions.
+-- What putting the last line of a run answers, or a summary. Own definitions.
 use Rattle.std.specs.Prelude.{◌≡◌, ◌⊎◌, ℕ, Option, List}
 use Rattle.std.specs.Io.KnownBytes.{Keeps, Appends}
 use Rattle.outcome.specs.Causes.{Rose}
@@ -12,21 +12,21 @@ use Rattle.nfscopy.specs.declared.ends.RunEnd.TheVariants as ends
 use Rattle.nfscopy.specs.Notice.{bad_line_text, mistaken_text, not_volume_text, small_text}
 
 -- all of it was put, under the end that it goes with
-pub record AllPut (old new : Option (List ℕ)) (line : List ℕ) (end result : RunEnd) : Type 0 where
+pub record AllPut {E : Type 0} (old new : Option (List ℕ)) (line : List ℕ) (end result : E) : Type 0 where
   pub end_is : result ≡ end
   pub puts : Appends old new line
 
 -- or a front of it, where the sink failed
-pub record FrontPut (old new : Option (List ℕ)) (before now : ℕ) (line : List ℕ) (result : RunEnd) : Type 0 where
-  pub end_is : result ≡ ends.WriteFault
+pub record FrontPut {E : Type 0} (fault : E) (old new : Option (List ℕ)) (before now : ℕ) (line : List ℕ) (result : E) : Type 0 where
+  pub end_is : result ≡ fault
   pub rose : Rose before now
   pub puts : AppendsFront old new line
 
 abbrev pub LastPut : Option (List ℕ) → Option (List ℕ) → (before now : ℕ) → List ℕ → RunEnd → RunEnd → Type 0
-LastPut old new before now line end result = AllPut old new line end result ⊎ FrontPut old new before now line result
+LastPut old new before now line end result = AllPut old new line end result ⊎ FrontPut ends.WriteFault old new before now line result
 
 -- nothing was put, under this end
-pub record NonePut (old new : Option (List ℕ)) (end result : RunEnd) : Type 0 where
+pub record NonePut {E : Type 0} (old new : Option (List ℕ)) (end result : E) : Type 0 where
   pub end_is : result ≡ end
   pub keeps : Keeps old new
 

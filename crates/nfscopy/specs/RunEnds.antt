@@ -16,7 +16,7 @@ use Rattle.wire_run.specs.Fresh.{Small}
 use Rattle.wire_run.specs.Run.{Did, RunsFront, ScheduleRuns, Volumes, asks_for, first_small}
 use Rattle.wire_run.specs.System.{DiskHolds}
 use Rattle.wire_run.specs.declared.setting.TheConstants.{SOURCE_TAG, DEST_TAG}
-use Rattle.wire_run.specs.Running.{Later, RunMachines, RunStep, RunWorld, failed_steps, size_in}
+use Rattle.wire_run.specs.Running.{Later, RunMachines, failed_steps, size_in}
 use Rattle.nfscopy.specs.declared.ends.RunEnd.{RunEnd}
 use Rattle.nfscopy.specs.declared.ends.RunEnd.TheVariants as ends
 use Rattle.nfscopy.specs.Input.{Input, asked, IfSchedule, IfRefused}

@@ -1,5 +1,5 @@
 ghost use Rattle.std.specs.Prelude.{◌≡◌};
-ghost use Rattle.nfscopy.specs.ExitStatus.{code_of, usage_status, run_status, show_status};
+ghost use Rattle.nfscopy.specs.ExitStatus.{code_of, usage_status, run_status, gen_status, show_status};
 
 use crate::exit_status::ExitStatus;
 
@@ -30,6 +30,31 @@ pub enum RunEnd {
 
     /// The source failed.
     ReadFault,
+
+    /// The sink failed.
+    WriteFault,
+
+    /// Want of memory.
+    NoMemory,
+
+    /// A disk failed while its volume was made.
+    DiskFault,
+
+    /// A disk has too few blocks, or didn't give back what was written.
+    NoVolume,
+}
+
+/// How `gen` ends.
+#[derive(Clone, Copy, PartialEq, Eq)]
+pub enum GenEnd {
+    /// The schedule was carried out, and its summary was put.
+    Done,
+
+    /// The records of the run have too many bytes.
+    OverLimit,
+
+    /// A record was taken by mistake.
+    Mistaken,
 
     /// The sink failed.
     WriteFault,
@@ -91,6 +116,24 @@ impl RunEnd {
             RunEnd::NoMemory => ExitStatus::NoMemory,
             RunEnd::DiskFault => ExitStatus::DiskFault,
             RunEnd::NoVolume => ExitStatus::NoVolume,
+        };
+        status.code()
+    }
+}
+
+impl GenEnd {
+    /// The exit status that says this end.
+    pub fn code(self) -> u8
+        ensures { result ≡ code_of (gen_status self) }
+    {
+        let status = match self {
+            GenEnd::Done => ExitStatus::Done,
+            GenEnd::OverLimit => ExitStatus::Refused,
+            GenEnd::Mistaken => ExitStatus::Mistaken,
+            GenEnd::WriteFault => ExitStatus::WriteFault,
+            GenEnd::NoMemory => ExitStatus::NoMemory,
+            GenEnd::DiskFault => ExitStatus::DiskFault,
+            GenEnd::NoVolume => ExitStatus::NoVolume,
         };
         status.code()
     }

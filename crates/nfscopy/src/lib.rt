@@ -2,19 +2,22 @@
 //!
 //! The contract to read first is [`nfscopy`]: for each command and each status it says what was read,
 //! what was put, and why. `specs/Ends.antt` has the definitions; for `run` they name the run of the schedule by three
-//! machines and its lines (crates `wire_run`, `wire_machine`), for `show` the lines of a stream of records (crate
-//! `wire_show`).
+//! machines and its lines (crates `wire_run`, `wire_machine`), for `gen` that of a schedule that is made here (crates `large_copy`,
+//! `large_run`), and for `show` the lines of a stream of records (crate `wire_show`).
 #![tactic(auto)]
 
 mod command;
 mod ends;
 mod exit_status;
+mod generate;
 mod notice;
 mod run;
 mod show;
+mod summary;
 mod top;
 
 pub use command::Command;
-pub use ends::{RunEnd, ShowEnd, UsageEnd};
+pub use ends::{GenEnd, RunEnd, ShowEnd, UsageEnd};
 pub use exit_status::ExitStatus;
+pub use summary::Summary;
 pub use top::nfscopy;

@@ -22,6 +22,13 @@ pub fn too_much_line() -> &'static [u8]
     b"too much\n"
 }
 
+/// The same line, as a text of its own.
+pub fn too_much(alloc: Global) -> Mem<String>
+    ensures { IfOk result (λ text. string_bytes text ≡ too_much_text) }
+{
+    Ok(format!(in alloc; "too much\n")?)
+}
+
 /// The line that is put where the input is no schedule, or the records have too many bytes from a line on.
 pub fn bad_line(alloc: Global, bad: BadLine) -> Mem<String>
     ensures { IfOk result (λ text. string_bytes text ≡ bad_line_text bad.line) }

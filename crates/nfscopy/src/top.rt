@@ -6,6 +6,7 @@ ghost use Rattle.nfscopy.specs.Outside.{outside, disk_words};
 ghost use Rattle.nfscopy.specs.RunEnds.{run_words};
 
 use crate::command::Command;
+use crate::generate::generate;
 use crate::run::{run, usage};
 use crate::show::show;
 use disk_model::Disk;
@@ -17,8 +18,8 @@ use wire_run::Disks;
 /// Does what the words ask for, and answers the exit status. The words don't include the program's name.
 ///
 /// `run` reads a schedule from `input`, carries it out with a client and two servers over the two disks, which seal their
-/// records by the mechanism, and puts the transcript to `output`; `show` reads a stream of records and puts what they
-/// hold, line by line. Words of no command put the line `usage`. What each status says of the input, the output and the
+/// records by the mechanism, and puts the transcript to `output`; `gen N` does so with a schedule of its own, which copies a file of N MiB,
+/// and puts a summary; `show` reads a stream of records and puts what they hold, line by line. Words of no command put the line `usage`. What each status says of the input, the output and the
 /// disks stands in `Ends`.
 pub fn nfscopy<S: Source, K: Sink, D: Disk + Drop, M: Mechanism>(
     alloc: Global,
@@ -34,9 +35,12 @@ pub fn nfscopy<S: Source, K: Sink, D: Disk + Drop, M: Mechanism>(
         (outside (S.gives input.new).left (K.takes output.new).taken (S.gives input.new).faults (K.takes output.new).faults disks.new.source disks.new.dest)
         result }
 {
-    match Command::from_words(words) {
-        None => usage(output).code(),
-        Some(Command::Run) => run(alloc, input, output, disks, mech).code(),
-        Some(Command::Show) => show(alloc, input, output).code(),
+    let Some(command) = Command::from_words(words) else {
+        return usage(output).code();
+    };
+    match command {
+        Command::Run => run(alloc, input, output, disks, mech).code(),
+        Command::Gen(plan) => generate(alloc, plan, output, disks, mech).code(),
+        Command::Show => show(alloc, input, output).code(),
     }
 }

@@ -1,4 +1,7 @@
-use crate::answer::{DiskPlan, FIRST_COPY, FIRST_COPY_PUT, GOOD_DISK, NO_FAULTS, ask_disks};
+use crate::answer::{
+    Answer, DiskPlan, FIRST_COPY, FIRST_COPY_PUT, GOOD_DISK, NO_FAULTS, ask_disks,
+};
+use outcome::Mem;
 use std::alloc::Global;
 use std::process::Abort;
 use std::test::Fail;
@@ -58,4 +61,43 @@ fn source_fails(rt: HostRuntime) -> Result<(), Fail> {
 #[test]
 fn destination_fails(rt: HostRuntime) -> Result<(), Fail> {
     check_calls(&rt, rt.alloc(), false, DEST_CALLS)
+}
+
+// What is put of a copy of one mebibyte, but for its last word.
+const LARGE_PUT: &str = "gen 1\nrecords 106\nlanded 1048576\nstable 1\nexact 1\nequal ";
+
+fn large(alloc: Global, source: DiskPlan, dest: DiskPlan) -> Mem<Answer> {
+    ask_disks(
+        alloc,
+        &["gen", "1"],
+        Vec::new(alloc),
+        NO_FAULTS,
+        source,
+        dest,
+    )
+}
+
+fn check_summary(rt: &impl Abort, alloc: Global, answer: &Answer, equal: &str) -> Result<(), Fail> {
+    let due = format!(in alloc; "{LARGE_PUT}{equal}\n")?;
+    answer.check(rt, equal, 0, due.as_str());
+    Ok(())
+}
+
+fn failing_at(call: Option<u64>) -> Result<DiskPlan, Fail> {
+    let fails = call.ok_or("a disk")?;
+    Ok(DiskPlan { fails, ..GOOD_DISK })
+}
+
+// A large copy reads both files behind its run, so the last call of each disk is such a read. Where it fails the files aren't
+// called equal.
+#[test]
+fn a_file_is_not_read(rt: HostRuntime) -> Result<(), Fail> {
+    let whole = large(rt.alloc(), GOOD_DISK, GOOD_DISK)?;
+    check_summary(&rt, rt.alloc(), &whole, "yes")?;
+    let source = failing_at(whole.source_calls)?;
+    let unread = large(rt.alloc(), source, GOOD_DISK)?;
+    check_summary(&rt, rt.alloc(), &unread, "no")?;
+    let dest = failing_at(whole.dest_calls)?;
+    let unread = large(rt.alloc(), GOOD_DISK, dest)?;
+    check_summary(&rt, rt.alloc(), &unread, "no")
 }

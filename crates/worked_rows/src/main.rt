@@ -3,8 +3,8 @@
 //!
 //! A row is `STATUS | TEXT | PUT` for a run, `events N | TEXT` or `bad N | TEXT` for what is read of a schedule, and
 //! `record N | TEXT | BYTES` for a record that goes out in its run; without bytes there is none of that number. Other
-//! lines say what holds of the rows that follow: `before TEXT` and `after TEXT` what stands around their texts, `word
-//! WORD` the program's word or `word` that it has none, `fails SOURCE SINK` which call of either fails, `blocks SOURCE
+//! lines say what holds of the rows that follow: `before TEXT` and `after TEXT` what stands around their texts, `words
+//! WORD..` the program's words or `words` that it has none, `fails SOURCE SINK` which call of either fails, `blocks SOURCE
 //! DEST` how large the disks are. The tests go over each call of a source, a sink or a disk that fails in turn.
 #![tactic(auto)]
 
@@ -31,7 +31,7 @@ use wire_schedule::{Directive, Schedule};
 struct Setting {
     before: Vec<u8>,
     after: Vec<u8>,
-    word: String,
+    words: String,
     faults: Faults,
     source: DiskPlan,
     dest: DiskPlan,
@@ -42,7 +42,7 @@ impl Setting {
         Ok(Setting {
             before: Vec::new(alloc),
             after: Vec::new(alloc),
-            word: String::from_str(alloc, "run")?,
+            words: String::from_str(alloc, "run")?,
             faults: NO_FAULTS,
             source: GOOD_DISK,
             dest: GOOD_DISK,
@@ -66,8 +66,8 @@ impl Setting {
         match name {
             "before" => Ok(put(&mut self.before, spelled(alloc, text)?)),
             "after" => Ok(put(&mut self.after, spelled(alloc, text)?)),
-            "word" => {
-                self.word = String::from_str(alloc, text)?;
+            "words" => {
+                self.words = String::from_str(alloc, text)?;
                 Ok(true)
             }
             "fails" => Ok(match numbers(text) {
@@ -117,11 +117,13 @@ impl Setting {
             };
             return Ok(record(alloc, &input, number)?.as_slice() == put.as_slice());
         }
-        let answer = if self.word.is_empty() {
-            self.ask(alloc, &[], input)?
-        } else {
-            self.ask(alloc, &[self.word.as_str()], input)?
-        };
+        let mut words = Vec::new(alloc);
+        if !self.words.is_empty() {
+            for word in self.words.split(' ') {
+                words.push(word)?;
+            }
+        }
+        let answer = self.ask(alloc, &words, input)?;
         Ok(wanted.parse() == Ok(answer.status) && answer.put.as_bytes() == put.as_slice())
     }
 }
