@@ -1,4 +1,4 @@
-//! A copy of eight chunks, made again and again by 1 to 8 workers, whose steps and whose records come in orders that are drawn.
+//! A copy of sixteen chunks, made again and again by 1 to 8 workers, whose steps and whose records come in orders that are drawn.
 //! Each time the destination's file holds the same bytes in the end; and where it was asked that the chunks land in their order, they
 //! do.
 
@@ -8,7 +8,7 @@ use outcome::Mem;
 use std::alloc::Global;
 
 /// How many chunks the file has, and how many bytes each has at most.
-const CHUNKS: u32 = 8;
+const CHUNKS: u32 = 16;
 
 const CHUNK: u32 = 65_536;
 
@@ -19,7 +19,7 @@ const WORKERS: u32 = 8;
 const ORDERS: u32 = 4;
 
 /// How many events are drawn for each.
-const DRAWN: u32 = 160;
+const DRAWN: u32 = 240;
 
 /// How the copies went.
 #[derive(Clone, Copy)]
@@ -47,16 +47,22 @@ fn drawn(last: u64) -> u64 {
         .wrapping_add(1_442_695_040_888_963_407)
 }
 
+/// The two bytes that are written to a chunk, each by its two digits.
+fn written(chunk: u32) -> (u32, u32) {
+    (10 + chunk % 64, 40 + chunk % 32)
+}
+
 impl Way {
     /// The schedule: two bytes are written to each chunk of the source's file; the copy is begun, and so many times one worker makes a
     /// step or all that waits is brought, as it is drawn; then all of it comes to its end, and four bytes of each chunk are shown.
     fn schedule(self, alloc: Global) -> Mem<String> {
-        let mut text = String::from_str(alloc, "volume s 1 128\nvolume d 1 128\n")?;
+        let mut text = String::from_str(alloc, "volume s 1 256\nvolume d 1 256\n")?;
         for chunk in 0..CHUNKS {
             let off = CHUNK * chunk + 7;
-            text.push_str(format!(in alloc; "write s 1 {off} a{chunk}b{chunk}\n")?.as_str())?;
+            let (first, second) = written(chunk);
+            text.push_str(format!(in alloc; "write s 1 {off} {first}{second}\n")?.as_str())?;
         }
-        text.push_str("flow 40\ncopy 1 1 0 1 0 0 ")?;
+        text.push_str("flow 60\ncopy 1 1 0 1 0 0 ")?;
         text.push_str(if self.consecutive { "c\n" } else { "n\n" })?;
         let mut last = u64::from(self.order);
         for _ in 0..DRAWN {
@@ -65,7 +71,7 @@ impl Way {
             let line = if pick < u64::from(self.workers) {
                 format!(in alloc; "work {}\n", pick + 1)?
             } else {
-                format!(in alloc; "deliver {}\n", 20 + (last >> 40) % 120)?
+                format!(in alloc; "deliver {}\n", 20 + (last >> 40) % 180)?
             };
             text.push_str(line.as_str())?;
         }
@@ -93,7 +99,8 @@ fn is_whole(alloc: Global, text: &str) -> Mem<bool> {
     let mut whole = has_line(text, "stable 1");
     for chunk in 0..CHUNKS {
         let off = CHUNK * chunk + 6;
-        let line = format!(in alloc; "bytes d 1 {off} 00a{chunk}b{chunk}00")?;
+        let (first, second) = written(chunk);
+        let line = format!(in alloc; "bytes d 1 {off} 00{first}{second}00")?;
         whole = whole && has_line(text, line.as_str());
     }
     Ok(whole)

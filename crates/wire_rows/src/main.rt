@@ -4,7 +4,7 @@
 //! A case is a line `case NAME STATUS LENGTH LENGTH`, a schedule of the first length in bytes, a transcript of the second, and
 //! a newline. Other lines between cases are passed over. Behind the cases one copy is made again and again, with each record
 //! lost, each repeated, and the last ones in each order, and what stands in the end is compared with the promise (`promise.rt`); and one
-//! of eight chunks by 1 to 8 workers, in orders that are drawn (`landings.rt`).
+//! of sixteen chunks by 1 to 8 workers, in orders that are drawn (`landings.rt`).
 #![tactic(auto)]
 
 mod landings;
