@@ -1,126 +1,47 @@
 -- Whole steps of a destination: what each does to its jobs, and why.
-use Rattle.std.proofs.Common.{◌≡◌, inl, inr, ℕ, arith, Bool, true, false, List, [], ◌++◌, Option, Some, None, length, refl, sym, ap, subst, ◌∙◌}
-use Rattle.std.specs.Prelude.{max, nat_le}
+use Rattle.std.proofs.Common.{inl, inr, ℕ, List, ◌++◌, Option, refl, sym, subst}
+use Rattle.std.specs.Prelude.{max}
 use Rattle.deed_laws.specs.Kinds.{is_taking}
 use Rattle.dest_core.specs.Stepping.{DestState, DestStep, IsReply, IsWork, around, copier_in, doing_in, failure_step, second_in, tick_step, turn_step, with_copier, without_lapsed}
-use Rattle.dest_jobs.specs.Ending.{end_all}
-use Rattle.dest_jobs.specs.declared.copies.Copies.{Copies}
 use Rattle.dest_laws.specs.Deeds.{ByDeeds, GoesWithin}
+use Rattle.dest_own.specs.Begins.{BeginsQuietly}
 use Rattle.dest_own.specs.Going.{jobs_in}
 use Rattle.dest_own.specs.GoingLaws.{after_those, none as ends_none}
-use Rattle.dest_steps.specs.Copier.{Around, Codes, xid_of}
+use Rattle.dest_steps.specs.Copier.{Codes}
 use Rattle.dest_steps.specs.Failing.{failing}
-use Rattle.dest_steps.specs.Turning.{IsDue, IsTurn, IsTurnOf, begun_turn, drawn_turn, send_at, with_turn}
-use Rattle.dest_steps.specs.declared.copier.Copier.{Copier}
 use Rattle.dest_steps.specs.declared.turning.Turn.{Turn as DueTurn}
-use Rattle.dest_tasks.specs.Completing.{Comes}
-use Rattle.dest_work.specs.Work.{Turn, begun_for, turn}
-use Rattle.dest_work.specs.declared.work.Due.{Due}
-use Rattle.dest_work.specs.declared.work.Due.TheVariants as dues
-use Rattle.dest_work.specs.declared.work.Work.{Work}
-use Rattle.gss_ctx.specs.Seals.{Mic}
 use Rattle.job_book.specs.Book.{BookView}
-use Rattle.mount.specs.Sending.{begun}
-use Rattle.mount.specs.State.{setup_in}
-use Rattle.mount.specs.declared.machine.SendAt.{SendAt}
-use Rattle.mount.specs.declared.machine.Sent.{Sent}
-use Rattle.nfs_base.specs.declared.job.JobName.{JobName}
-use Rattle.nfs_base.specs.declared.job.Stop.{Stop}
-use Rattle.nfs_base.specs.declared.job.Stop.TheVariants.{LeaseExpired}
-use Rattle.nfs_base.specs.declared.limits.TheConstants.{NAME_LIMIT}
 use Rattle.server_volume.specs.Choices.{Choice, choice_of}
 use Rattle.server_volume.specs.declared.used.Used.{Used}
-use Rattle.sess_slots.specs.Begins.{has_lapsed}
-use Rattle.sess_slots.specs.Table.{SessionTable}
-use Rattle.session_client.specs.declared.setup.Setup.{Setup}
 use Rattle.streams.specs.declared.draws.Drawn.{Drawn}
-use Rattle.streams.specs.declared.draws.Drawn.TheVariants as draws
 use Rattle.dest_copies.specs.Story.{GoesWell, IsMet, Story}
 use Rattle.dest_copies.proofs.Joined.{both, few_entries_of, well_by}
 use Rattle.dest_copies.proofs.Turns.{failure_goes, heard_goes, silent, turn_goes}
 
--- the laws of dest_laws
-pub record EntryLaws : Type 0 where
-  pub due : (mic : Mic) (at : SendAt) (me : List ℕ) (sessions : SessionTable) (w : Work) (b : BookView) → GoesWithin 0 0 b (turn mic at me sessions w b).book
-  pub clients : (test : ℕ → Bool) (cause : Stop) (x : Copies) → GoesWithin 0 0 x.book (end_all test cause x).book
-
-none_by : (b c : BookView) → c ≡ b → GoesWithin 0 0 b c
-unfolding Comes
-none_by b c same = record { deeds = []; come = same; few_accepts = omega arith; few_entries = omega arith }
-
--- ---- what is due in a worker's turn
-
-begun_book : (codes : Codes) (around : Around) (place : ℕ) (job : JobName) (begins : Option Sent × Work) (x : Copier)
-    → (begun_turn codes around place job begins x).1.copies.book ≡ x.copies.book
-begun_book codes around place job (None, w) x = refl
-begun_book codes around place job (Some sent, w) x = refl
-
-drawn_book : (started : List ℕ → List ℕ → Option (List ℕ)) (codes : Codes) (around : Around) (at : SendAt) (job : JobName) (drawn : Drawn) (x : Copier)
-    → (drawn_turn started codes around at job drawn x).1.copies.book ≡ x.copies.book
-drawn_book started codes around at job draws.Failed x = refl
-drawn_book started codes around at job (draws.Got nonce) x =
-    begun_book codes around at.place job (begun_for at.place job (begun at nonce (started x.principal nonce) x.work.mount) x.work) x
-
-abbrev book_of : DueTurn × Copier → BookView
-book_of t = t.1.copies.book
-
-module _ {W : Type 0} (gives : W → Drawn → W → Type 0) (started : List ℕ → List ℕ → Option (List ℕ)) (codes : Codes) (around : Around) (before after : W) where
-  due_book : (at : SendAt) (setup : Setup) (due : Due) (x : Copier) (t : DueTurn × Copier) → IsDue gives started codes around at setup due x before after t
-      → book_of t ≡ x.copies.book
-  due_book at setup dues.Rest x t is = ap book_of is.is
-  due_book at setup dues.Land x t is = ap book_of is.is
-  due_book at setup (dues.Begin job) x t is = ap book_of is.is ∙ drawn_book started codes around at job is.drawn x
-  due_book at setup (dues.Asked errand sent) x t is = ap book_of is.is
-  due_book at setup (dues.Commit job) x t is = ap book_of is.is
-
-  turned_does : EntryLaws → (place xid : ℕ) (x : Copier) (due : Turn) (t : DueTurn × Copier)
-      → due ≡ turn codes.mic (send_at around place xid) x.principal around.sessions x.work x.copies.book
-      → IsDue gives started codes around (send_at around place xid) (setup_in x.work.mount.standing) due.told.0 (with_turn due x) before after t
-      → GoesWithin 0 0 x.copies.book (book_of t)
-  turned_does laws place xid x due t is turned =
-      let at = send_at around place xid in
-      subst (λ (b : BookView). GoesWithin 0 0 x.copies.book b)
-      (sym (due_book at (setup_in x.work.mount.standing) due.told.0 (with_turn due x) t turned ∙ ap (λ (d : Turn). d.book) is))
-      (laws.due codes.mic at x.principal around.sessions x.work x.copies.book)
-
-  turn_does : EntryLaws → (short : Bool) (xid : Option ℕ) (place : ℕ) (x : Copier) (t : DueTurn × Copier)
-      → IsTurn short xid gives started codes around place x before after t → GoesWithin 0 0 x.copies.book (book_of t)
-  turn_does laws false xid place x t is = none_by x.copies.book (book_of t) (ap book_of is.is)
-  turn_does laws true None place x t is = none_by x.copies.book (book_of t) (ap book_of is.is)
-  turn_does laws true (Some xid) place x t is =
-      turned_does laws place xid x (turn codes.mic (send_at around place xid) x.principal around.sessions x.work x.copies.book) t refl is
-
-  due_does : EntryLaws → (place : ℕ) (x : Copier) (t : DueTurn × Copier) → IsTurnOf gives started codes around place x before after t
-      → GoesWithin 0 0 x.copies.book (book_of t)
-  due_does laws place x t is = turn_does laws (nat_le (length x.principal) NAME_LIMIT) (xid_of x.work.mount x.back) place x t is
-
 -- ---- a worker's turn
 
-lapsed_does : {M : Type 0} → EntryLaws → (s : DestState M) → GoesWithin 0 0 (jobs_in s) (jobs_in (without_lapsed s))
-lapsed_does laws s = laws.clients (λ client. has_lapsed s.state.sessions client s.second) LeaseExpired (copier_in s).copies
-
 -- nothing that gives an entry was done yet
-turn_step_goes : {M : Type 0} → EntryLaws → (b : BookView) (choice : Choice) (place now : ℕ) (turn : DueTurn) (s : DestState M) → GoesWithin 0 0 b (jobs_in s)
+turn_step_goes : {M W : Type 0} {gives : W → Drawn → W → Type 0} → BeginsQuietly M gives → (b : BookView) (choice : Choice) (place now : ℕ) (turn : DueTurn) (s : DestState M) → GoesWithin 0 0 b (jobs_in s)
     → GoesWell (IsMet b (turn_step choice place now turn s).out.used) 0 1 b (jobs_in (turn_step choice place now turn s).host)
-turn_step_goes laws b choice place now turn s first =
+turn_step_goes quiet b choice place now turn s first =
     let ticked = second_in now s in
     let t = without_lapsed ticked in
-    let ended = lapsed_does laws ticked in
+    let ended = quiet.lapsed ticked in
     let used = (turn_step choice place now turn s).out.used in
     let came : ByDeeds b (jobs_in t) = (first.deeds ++ ended.deeds, after_those first.deeds ended.deeds b (jobs_in s) (jobs_in t) first.come ended.come) in
     both (IsMet b used) b (jobs_in s) (jobs_in (turn_step choice place now turn s).host) (well_by (IsMet b used) (silent b used) b (jobs_in s) first)
     (both (IsMet b used) (jobs_in s) (jobs_in t) (jobs_in (turn_step choice place now turn s).host) (well_by (IsMet b used) (silent b used) (jobs_in s) (jobs_in t) ended)
     (turn_goes b choice place turn (doing_in t) refl came))
 
-pub work_story : {M W : Type 0} → EntryLaws → (gives : W → Drawn → W → Type 0) (started : List ℕ → List ℕ → Option (List ℕ)) (codes : Codes) (place now : ℕ)
+pub work_story : {M W : Type 0} (gives : W → Drawn → W → Type 0) → BeginsQuietly M gives → (started : List ℕ → List ℕ → Option (List ℕ)) (codes : Codes) (place now : ℕ)
     (s : DestState M) (before after : W) (t : DestStep M) → IsWork gives started codes place now s before after t → Story (jobs_in s) (jobs_in t.host) t.out.used
-work_story {M} laws gives started codes place now s before after t work =
+work_story {M} gives quiet started codes place now s before after t work =
     let choice = choice_of t.out.used in
     let start : DestState M = with_copier work.copier s in
     let is = work.is choice (λ n below. refl) in
     inr (subst (λ (u : DestStep M). GoesWell (IsMet (jobs_in s) u.out.used) 0 1 (jobs_in s) (jobs_in u.host)) (sym is)
-    (turn_step_goes laws (jobs_in s) choice place now work.turn start
-    (due_does gives started codes (around (max s.second now) s) before after laws place (copier_in s) (work.turn, work.copier) work.due)))
+    (turn_step_goes quiet (jobs_in s) choice place now work.turn start
+    (quiet.due started codes (around (max s.second now) s) place (copier_in s) before after (work.turn, work.copier) work.due)))
 
 -- ---- a record of the source
 
@@ -143,12 +64,12 @@ failure_story codes place s =
 
 -- ---- a second that comes by itself, and no step at all
 
-pub tick_story : {M : Type 0} → EntryLaws → (codes : Codes) (now : ℕ) (s : DestState M)
+pub tick_story : {M W : Type 0} {gives : W → Drawn → W → Type 0} → BeginsQuietly M gives → (codes : Codes) (now : ℕ) (s : DestState M)
     → Story (jobs_in s) (jobs_in (tick_step codes now s).host) (tick_step codes now s).out.used
-tick_story laws codes now s =
+tick_story quiet codes now s =
     let c = jobs_in (tick_step codes now s).host in
     let used = (tick_step codes now s).out.used in
-    inr (few_entries_of (IsMet (jobs_in s) used) (jobs_in s) c (well_by (IsMet (jobs_in s) used) (silent (jobs_in s) used) (jobs_in s) c (lapsed_does laws (second_in now s))))
+    inr (few_entries_of (IsMet (jobs_in s) used) (jobs_in s) c (well_by (IsMet (jobs_in s) used) (silent (jobs_in s) used) (jobs_in s) c (quiet.lapsed (second_in now s))))
 
 pub rest_story : {M : Type 0} → (s : DestState M) (used : List Used) → Story (jobs_in s) (jobs_in s) used
 rest_story s used = inl (ends_none is_taking (jobs_in s) (jobs_in s) refl)

@@ -24,7 +24,7 @@ ghost use Rattle.wire_model.specs.System.{System};
 ghost use Rattle.wire_model.specs.Wire.{Executed};
 
 use deed_laws::{entries_grow_by_deeds, histories_stay_linked};
-use dest_own::records_take_and_end;
+use dest_own::{records_take_and_end, steps_give_one_entry};
 use gss_mech::Mechanism;
 use streams::Draws;
 
@@ -44,7 +44,7 @@ pub fn steps_have_stories<M: Mechanism, W: Draws>()
     ensures rest { (s : DestState M) (used : List Used) → Story (jobs_in s) (jobs_in s) used }
 {
     records_take_and_end::<M, W>();
-    dest_laws::steps_give_one_entry();
+    steps_give_one_entry::<M, W>();
 }
 
 /// So the copies of a system that shows the step of a destination obey their laws, where what comes from the source is due, what

@@ -2,6 +2,7 @@
 use Rattle.std.proofs.Common.{◌≡◌, ◌⊎◌, inl, inr, ℕ, ◌<◌, ◌≤◌, ◌^◌, Bool, true, false, List, [], ◌∷◌, ◌++◌, length, Option, Some, None, Result, Ok, Err, refl, sym, ap, subst, ◌∙◌, arith, lit<}
 use Rattle.std.specs.Prelude.{◌==◌, ◌&&◌, IfSome, not, nat_lt, if◌then◌else◌, option_and_then, option_map, slice_get}
 use Rattle.std.specs.List.{flat_map}
+use Rattle.std.proofs.lemmas.Grind.{flat_map-append}
 use Rattle.std.proofs.lemmas.Bool.{eqb-true}
 use Rattle.call_results.specs.Results.{at, told_progress}
 use Rattle.compound_server.specs.Compounds.{by_begin, by_first, by_minor, caller_at, on_compound, sequence, sequence_done, unless_many}
@@ -62,6 +63,7 @@ use Rattle.sess_slots.specs.Begins.{begin_of}
 use Rattle.sess_slots.specs.declared.answers.Begin.{Begin}
 use Rattle.sess_slots.specs.declared.answers.Begin.TheVariants as begin
 use Rattle.slot_laws.specs.Turns.{first_retries, is_replay, is_retry}
+use Rattle.tell_laws.specs.ReadBack.{ReadsBack}
 use Rattle.wire_meaning.specs.Meaning.{is_complete, is_zero, results_read, told_by}
 use Rattle.wire_xdr.specs.All.{value_of}
 use Rattle.wire_xdr.specs.Parts.{option_spell}
@@ -70,7 +72,6 @@ use Rattle.dest_names.specs.Causes.{HasCause, HaveCauses}
 use Rattle.dest_names.specs.Posts.{IsCommitted}
 use Rattle.dest_names.proofs.Callbacks.{found_all}
 use Rattle.dest_names.proofs.Low.{hyper_low, low_hyper}
-use Rattle.dest_names.proofs.ReadBack.{IsReadBack, as_many, read_reply, third_read}
 
 -- ---- what is told of a job, in the table
 
@@ -358,12 +359,11 @@ short_none (a ∷ []) few = refl
 short_none (a ∷ b ∷ []) few = refl
 short_none (a ∷ b ∷ c ∷ rs) few = absurd (omega (arith, few))
 
-module _ (t : JobTable) (name : JobName) (have : HaveCauses t) (a : SequenceArgs) (first_fits : operation.Fits (ops.File (args.Sequence a))) (tag : List ℕ) (short : length tag ≤ TEXT_LIMIT)
+module _ (reads : ReadsBack) (t : JobTable) (name : JobName) (have : HaveCauses t) (a : SequenceArgs) (first_fits : operation.Fits (ops.File (args.Sequence a))) (tag : List ℕ) (short : length tag ≤ TEXT_LIMIT)
     (body : List ℕ) (said : IsSaid tag (Says t name a) body) where
   third_is : (s : Says t name a said.results) (v : Reply) → value_of reply body ≡ Some v → is_complete (at 2 told_progress v.results) ≡ true → IsCommitted t name
   third_is (inl few) v read h =
-      let back = read_reply said.status tag said.results body v said.is short (omega (arith, few)) read in
-      let counted = as_many (length said.results) (flat_map outcome.spell said.results) v back in
+      let counted = (reads said.status tag said.results body v said.is short (omega (arith, few)) read).as_many in
       let none : slice_get v.results 2 ≡ None = short_none v.results (omega (arith, few, counted)) in
       absurd (let wrong = sym (ap (λ (r : Option Res). is_complete (option_and_then told_progress r)) none) ∙ h in cc)
   third_is (inr s) v read h =
@@ -372,15 +372,16 @@ module _ (t : JobTable) (name : JobName) (have : HaveCauses t) (a : SequenceArgs
       let second : Res = res.File (files.PutFh statuses.OK) in
       let more : List Res = s.1.0 in
       let low : Res = status_res (low_told answers.told) in
-      let few : length said.results ≤ 4294967295 = omega (arith, s.1.1.2, ap (λ (rs : List Res). length rs) s.1.1.0) in
-      let back = read_reply said.status tag said.results body v said.is short few read in
-      let all : IsReadBack (length (first ∷ second ∷ s.0 ∷ more)) (flat_map outcome.spell (first ∷ second ∷ s.0 ∷ more)) v =
-      subst (λ (rs : List Res). IsReadBack (length rs) (flat_map outcome.spell rs) v) s.1.1.0 back in
+      let three : List Res = first ∷ second ∷ low ∷ [] in
+      let count : length said.results ≡ length (three ++ more) = ap (λ (rs : List Res). length rs) s.1.1.0 in
+      let few : length said.results < 2 ^ 32 = omega (arith, s.1.1.2, count) in
       let same : outcome.spell s.0 ≡ outcome.spell low = ap (λ (r : Res). outcome.spell r) answers.is ∙ low_spelled answers.told in
-      let lowly : IsReadBack (length (first ∷ second ∷ low ∷ more)) (flat_map outcome.spell (first ∷ second ∷ low ∷ more)) v =
-      subst (λ (b : List ℕ). IsReadBack (length (first ∷ second ∷ s.0 ∷ more)) (outcome.spell first ++ (outcome.spell second ++ (b ++ flat_map outcome.spell more))) v) same all in
-      let third = third_read first second low more v (sequence_fits a first_fits) put_fits (low_fits t name answers.told have answers.tells) lowly in
-      low_complete t name answers.told have answers.tells (sym (ap (λ (rs : List Res). is_complete (at 2 told_progress rs)) third.are) ∙ h)
+      let third =
+      (reads said.status tag said.results body v said.is short few read).first three (flat_map outcome.spell more)
+      (sequence_fits a first_fits, (put_fits, (low_fits t name answers.told have answers.tells, tt))) (omega (arith, count))
+      (ap (λ (rs : List Res). flat_map outcome.spell rs) s.1.1.0
+      ∙ ap (λ (b : List ℕ). outcome.spell first ++ (outcome.spell second ++ (b ++ flat_map outcome.spell more))) same ∙ flat_map-append outcome.spell three more) in
+      low_complete t name answers.told have answers.tells (sym (ap (λ (rs : List Res). is_complete (at 2 told_progress rs)) third.1) ∙ h)
 
   value_is : (r : Option Reply) → value_of reply body ≡ r → is_complete (at 2 told_progress (results_read r)) ≡ true → IsCommitted t name
   value_is None read h = absurd cc

@@ -2,6 +2,7 @@
 use Rattle.std.proofs.Common.{◌≡◌, inl, inr, ℕ, ◌+◌, ◌<◌, ◌≤◌, ◌^◌, Bool, true, false, List, [], ◌∷◌, ◌++◌, length, Option, Some, None, refl, sym, ap, subst, ◌∙◌, arith, lit<}
 use Rattle.std.specs.Prelude.{◌==◌, ◌&&◌, max, not, nat_lt, find, option_and_then, option_map, slice_get}
 use Rattle.std.specs.List.{AllByRecursion, flat_map}
+use Rattle.std.proofs.lemmas.Grind.{flat_map-append}
 use Rattle.std.proofs.lemmas.Bool.{eq-eqb, ne_eqb}
 use Rattle.call_results.specs.Results.{at, told_accepted}
 use Rattle.compound_server.specs.Compounds.{by_begin, by_first, by_minor, caller_at, on_compound, sequence, sequence_done, unless_many}
@@ -67,6 +68,7 @@ use Rattle.session_server.specs.Steps.{IsJudgedTurn, IsTurn, who_calls}
 use Rattle.streams.specs.declared.draws.Drawn.{Drawn}
 use Rattle.slot_calls.specs.BytesLaws.{ops_are_bytes}
 use Rattle.slot_laws.specs.Turns.{first_retries, is_replay, is_retry}
+use Rattle.tell_laws.specs.ReadBack.{ReadsBack}
 use Rattle.wire_lines.specs.declared.letters.Speaker.{Speaker}
 use Rattle.wire_meaning.specs.Meaning.{asked_by, copy_asked, job_named, meaning, ops_read, plan_asked, results_read, told_by}
 use Rattle.wire_model.specs.Meaning.{Meaning}
@@ -81,7 +83,6 @@ use Rattle.dest_names.specs.Holding.{IsFairRecord}
 use Rattle.dest_names.specs.Right.{AreGiven}
 use Rattle.dest_names.proofs.Asking.{IsSaid, put_fits, sequence_fits, table_of}
 use Rattle.dest_names.proofs.Copied.{Answers, Decides, Says, Takes, TakesNone, all_walk, walk_says}
-use Rattle.dest_names.proofs.ReadBack.{IsReadBack, as_many, many_first, read_reply}
 use Rattle.dest_names.proofs.Stated.{Spelled}
 
 -- ---- the whole COMPOUND, which isn't a retry
@@ -190,15 +191,11 @@ module _ (t u : JobTable) (source handle : List ℕ) (a : CopyArgs) (boot_small 
   short_none (p ∷ q ∷ r ∷ s ∷ []) few = refl
   short_none (p ∷ q ∷ r ∷ s ∷ o ∷ rs) few = absurd (omega (arith, few))
 
-  chain : (p q r s o : Res) (rs xs ys zs vs ws : List Res) → rs ≡ p ∷ xs → xs ≡ q ∷ ys → ys ≡ r ∷ zs → zs ≡ s ∷ vs → vs ≡ o ∷ ws → rs ≡ p ∷ q ∷ r ∷ s ∷ o ∷ ws
-  chain p q r s o rs xs ys zs vs ws one two three four five = cc
-
-  module _ (slot : SequenceArgs) (slot_fits : operation.Fits (ops.File (args.Sequence slot))) (tag : List ℕ) (short : length tag ≤ TEXT_LIMIT) (body : List ℕ)
+  module _ (reads : ReadsBack) (slot : SequenceArgs) (slot_fits : operation.Fits (ops.File (args.Sequence slot))) (tag : List ℕ) (short : length tag ≤ TEXT_LIMIT) (body : List ℕ)
       (said : IsSaid tag (Says t u source handle a slot) body) where
     fifth : (s : Says t u source handle a slot said.results) (v : Reply) (name : JobName) → value_of reply body ≡ Some v → option_map job_named (at 4 told_accepted v.results) ≡ Some name → Gives name
     fifth (inl few) v name read h =
-        let back = read_reply said.status tag said.results body v said.is short (omega (arith, few)) read in
-        let counted = as_many (length said.results) (flat_map outcome.spell said.results) v back in
+        let counted = (reads said.status tag said.results body v said.is short (omega (arith, few)) read).as_many in
         let none : slice_get v.results 4 ≡ None = short_none v.results (omega (arith, few, counted)) in
         absurd (let wrong = sym (ap (λ (r : Option Res). option_map job_named (option_and_then told_accepted r)) none) ∙ h in cc)
     fifth (inr s) v name read h =
@@ -208,19 +205,16 @@ module _ (t u : JobTable) (source handle : List ℕ) (a : CopyArgs) (boot_small 
         let save : Res = res.File (files.SaveFh statuses.OK) in
         let last : Res = s.0 in
         let more : List Res = s.1.0 in
-        let few : length said.results ≤ 4294967295 = omega (arith, s.1.1.2, ap (λ (rs : List Res). length rs) s.1.1.0) in
-        let back = read_reply said.status tag said.results body v said.is short few read in
-        let all : IsReadBack (length (one ∷ put ∷ save ∷ put ∷ last ∷ more)) (flat_map outcome.spell (one ∷ put ∷ save ∷ put ∷ last ∷ more)) v =
-        subst (λ (rs : List Res). IsReadBack (length rs) (flat_map outcome.spell rs) v) s.1.1.0 back in
+        let five : List Res = one ∷ put ∷ save ∷ put ∷ last ∷ [] in
+        let count : length said.results ≡ length (five ++ more) = ap (λ (rs : List Res). length rs) s.1.1.0 in
+        let few : length said.results < 2 ^ 32 = omega (arith, s.1.1.2, count) in
         let last_fits : outcome.Fits last = subst outcome.Fits (sym answers.is) (copy_fits answers.answer (decides_fits answers.answer answers.decides)) in
-        let r1 = many_first outcome (length (put ∷ save ∷ put ∷ last ∷ more)) all.at one (flat_map outcome.spell (put ∷ save ∷ put ∷ last ∷ more)) v.results all.new (sequence_fits slot slot_fits) all.results in
-        let r2 = many_first outcome (length (save ∷ put ∷ last ∷ more)) r1.at put (flat_map outcome.spell (save ∷ put ∷ last ∷ more)) r1.more all.new put_fits r1.behind in
-        let r3 = many_first outcome (length (put ∷ last ∷ more)) r2.at save (flat_map outcome.spell (put ∷ last ∷ more)) r2.more all.new save_fits r2.behind in
-        let r4 = many_first outcome (length (last ∷ more)) r3.at put (flat_map outcome.spell (last ∷ more)) r3.more all.new put_fits r3.behind in
-        let r5 = many_first outcome (length more) r4.at last (flat_map outcome.spell more) r4.more all.new last_fits r4.behind in
-        let are : v.results ≡ one ∷ put ∷ save ∷ put ∷ last ∷ r5.more = chain one put save put last v.results r1.more r2.more r3.more r4.more r5.more r1.are r2.are r3.are r4.are r5.are in
+        let first =
+        (reads said.status tag said.results body v said.is short few read).first five (flat_map outcome.spell more)
+        (sequence_fits slot slot_fits, (put_fits, (save_fits, (put_fits, (last_fits, tt))))) (omega (arith, count))
+        (ap (λ (rs : List Res). flat_map outcome.spell rs) s.1.1.0 ∙ flat_map-append outcome.spell five more) in
         gives answers.answer name answers.decides
-        (sym (ap (λ (r : Res). option_map job_named (told_accepted r)) answers.is) ∙ (sym (ap (λ (rs : List Res). option_map job_named (at 4 told_accepted rs)) are) ∙ h))
+        (sym (ap (λ (r : Res). option_map job_named (told_accepted r)) answers.is) ∙ (sym (ap (λ (rs : List Res). option_map job_named (at 4 told_accepted rs)) first.1) ∙ h))
 
     value_gives : (r : Option Reply) (name : JobName) → value_of reply body ≡ r → option_map job_named (at 4 told_accepted (results_read r)) ≡ Some name → Gives name
     value_gives None name read h = absurd cc
@@ -254,7 +248,7 @@ pub record TakesCopy (t u : JobTable) (plan : CopyPlan) (name : JobName) : Type 
   pub shown : plan_seen kept ≡ plan
   pub named : name ≡ next_of t
 
-module _ {M : Type 0} (spelled : Spelled) (codes : Codes) (message : List ℕ) (all : IsBytes message) (now : ℕ) (d : DestState M) (t : DestStep M) (e : Executed)
+module _ {M : Type 0} (reads : ReadsBack) (spelled : Spelled) (codes : Codes) (message : List ℕ) (all : IsBytes message) (now : ℕ) (d : DestState M) (t : DestStep M) (e : Executed)
     (told : IsTold {X = Destination M} {C = Carried} dest_rules codes message now d t e) (boot_small : (table_in d).boot < 2 ^ 32) (made_small : (table_in d).made + 1 < 2 ^ 32) where
   abbrev c : Compound
   c = told.step.compound
@@ -280,7 +274,7 @@ module _ {M : Type 0} (spelled : Spelled) (codes : Codes) (message : List ℕ) (
       (who_calls (max d.second now) told.conn (record { number = told.step.asked.number; seq = told.step.asked.seq }) told.step.asked.context)
       told.step.asked.context.principal told.step.asked.context.carry a.slot a.source a.handle a.a d.state.machine.extra c a.ops_are d.state refl told.new in
       let taken =
-      name_given (table_in d) (table_of given.state.machine.extra) a.source a.handle a.a boot_small made_small a.slot fits c.tag found.fits.tag given.body said name
+      name_given (table_in d) (table_of given.state.machine.extra) a.source a.handle a.a boot_small made_small reads a.slot fits c.tag found.fits.tag given.body said name
       (sym (ap (λ (r : List ℕ). meaning.name_in r) told.results) ∙ gives_name) in
       record {
         kept = taken.1.0.plan;
@@ -334,7 +328,7 @@ copy_accepted spell mean s k took speaker executed d t shows given plan name tak
 
 -- ---- a record on a connection
 
-module _ {M W : Type 0} (spelled : Spelled) (codes : Codes) (accepted : List ℕ → List ℕ → Option Accepted) (gives : W → Drawn → W → Type 0)
+module _ {M W : Type 0} (reads : ReadsBack) (spelled : Spelled) (codes : Codes) (accepted : List ℕ → List ℕ → Option Accepted) (gives : W → Drawn → W → Type 0)
     (tell : InEachStep {X = Destination M} {C = Carried} {W = W} dest_rules codes accepted gives (TellsGiven dest_rules codes))
     (conn : ℕ) (message : List ℕ) (now : ℕ) (d : DestState M) (before after : W) (t : DestStep M) (fair : IsFairRecord message d t) (e : Executed)
     (is_told : (acts_of codes message now d t).executed ≡ Some e) (plan : CopyPlan) (name : JobName) (asks : copy_asked (asked_by e.ops) ≡ Some plan) (gives_name : meaning.name_in e.results ≡ Some name) where
@@ -345,7 +339,7 @@ module _ {M W : Type 0} (spelled : Spelled) (codes : Codes) (accepted : List ℕ
   by_turn turn =
       let step : IsStep dest_rules codes accepted gives conn message now d before after t =
       record { good = fair.good; few = fair.few; are_bytes = fair.are_bytes; turn = turn; short = fair.short } in
-      copy_given spelled codes message fair.are_bytes now d t e (tell conn message now d before after t step e is_told) fair.boot fair.made plan name asks gives_name
+      copy_given reads spelled codes message fair.are_bytes now d t e (tell conn message now d before after t step e is_told) fair.boot fair.made plan name asks gives_name
 
   abbrev Tells : Judged → Option Executed
   Tells j = told_of (tells j d.contexts d.state.sessions) message t.out.sent

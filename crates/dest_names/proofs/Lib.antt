@@ -8,7 +8,6 @@ pub mod CopyTold
 pub mod Given
 pub mod Laws
 pub mod Low
-pub mod ReadBack
 pub mod Sealed
 pub mod Shown
 pub mod Small

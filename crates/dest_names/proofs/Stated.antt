@@ -37,6 +37,7 @@ use Rattle.session_server.specs.Steps.{IsJudgedTurn, IsTurn, who_calls}
 use Rattle.streams.specs.declared.draws.Drawn.{Drawn}
 use Rattle.slot_calls.specs.BytesLaws.{ops_are_bytes}
 use Rattle.wire_machine.specs.History.{is_name, says_stable}
+use Rattle.tell_laws.specs.ReadBack.{ReadsBack}
 use Rattle.wire_meaning.specs.Meaning.{asked_by, job_named, meaning, ops_read, status_asked}
 use Rattle.wire_model.specs.System.{System}
 use Rattle.wire_model.specs.Wire.{Executed}
@@ -70,7 +71,7 @@ asks_status os name h = absurd cc
 abbrev pub Spelled : Type 0
 Spelled = (bytes : List ℕ) (c : Compound) → IsBytes bytes → compound_of bytes ≡ Ok c → IsCompound c bytes
 
-module _ {M : Type 0} (spelled : Spelled) (codes : Codes) (message : List ℕ) (all : IsBytes message) (now : ℕ) (d : DestState M) (t : DestStep M) (e : Executed)
+module _ {M : Type 0} (reads : ReadsBack) (spelled : Spelled) (codes : Codes) (message : List ℕ) (all : IsBytes message) (now : ℕ) (d : DestState M) (t : DestStep M) (e : Executed)
     (told : IsTold {X = Destination M} {C = Carried} dest_rules codes message now d t e) (have : HaveCauses (table_in d)) where
   abbrev c : Compound
   c = told.step.compound
@@ -91,7 +92,7 @@ module _ {M : Type 0} (spelled : Spelled) (codes : Codes) (message : List ℕ) (
       told.step.asked.context.principal told.step.asked.context.carry a.slot a.handle a.id d.state.machine.extra c a.ops_are d.state refl told.new in
       let body : List ℕ = (given_in dest_rules codes told.conn message (max d.second now) d t told.step).body in
       subst (λ (n : JobName). IsCommitted (table_in d) n) a.named_is
-      (says_committed (table_in d) (name_in a.id) have a.slot fits c.tag found.fits.tag body said
+      (says_committed reads (table_in d) (name_in a.id) have a.slot fits c.tag found.fits.tag body said
       (sym (ap (λ (r : List ℕ). is_complete_in r) told.results) ∙ complete))
     where
       is_complete_in : List ℕ → Bool
@@ -133,7 +134,7 @@ committed_shown s k d name shows given is =
 
 -- ---- a record on a connection
 
-module _ {M W : Type 0} (spelled : Spelled) (codes : Codes) (accepted : List ℕ → List ℕ → Option Accepted) (gives : W → Drawn → W → Type 0)
+module _ {M W : Type 0} (reads : ReadsBack) (spelled : Spelled) (codes : Codes) (accepted : List ℕ → List ℕ → Option Accepted) (gives : W → Drawn → W → Type 0)
     (tell : InEachStep {X = Destination M} {C = Carried} {W = W} dest_rules codes accepted gives (TellsGiven dest_rules codes)) where
   module _ (conn : ℕ) (message : List ℕ) (now : ℕ) (d : DestState M) (before after : W) (t : DestStep M) (fair : IsFairRecord message d t) (have : HaveCauses (table_in d)) where
     abbrev Told : Option Executed
@@ -146,7 +147,7 @@ module _ {M W : Type 0} (spelled : Spelled) (codes : Codes) (accepted : List ℕ
         let step : IsStep dest_rules codes accepted gives conn message now d before after t =
         record { good = fair.good; few = fair.few; are_bytes = fair.are_bytes; turn = turn; short = fair.short } in
         let asks = stable_asks e name says in
-        status_committed spelled codes message fair.are_bytes now d t e (tell conn message now d before after t step e is) have name asks.0 asks.1
+        status_committed reads spelled codes message fair.are_bytes now d t e (tell conn message now d before after t step e is) have name asks.0 asks.1
 
     none_says : (e : Option Executed) → e ≡ None → (name : JobName) → says_stable meaning name e ≡ true → ⊥
     none_says e none name says = let wrong = sym (ap (λ (x : Option Executed). says_stable meaning name x) none) ∙ says in cc

@@ -21,6 +21,7 @@ use gss_mech::Mechanism;
 use nfs_compound::compounds_are_spelled;
 use server_laws::steps_carry_compounds_out;
 use streams::Draws;
+use tell_laws::results_are_read_back;
 
 /// Where a record comes on a connection, what a destination holds of its reports stays right. A COPY that gives a name accepts the
 /// copy that was asked for, under that name, and an answer to OFFLOAD_STATUS that a copy is complete is one of a copy that is reported
@@ -40,5 +41,6 @@ pub fn answers_are_right<M: Mechanism, W: Draws>()
     records_take_and_end::<M, W>();
     records_tell_nothing::<M, W>();
     compounds_are_spelled();
+    results_are_read_back();
     steps_carry_compounds_out::<Destination<M>, Carried, W>();
 }

@@ -5,6 +5,7 @@ use Rattle.std.specs.Prelude.{max, nat_le}
 use Rattle.deed_laws.specs.Kinds.{GoesBy}
 use Rattle.dest_core.specs.Stepping.{DestState, DestStep, IsReply, IsWork, around, copier_in, doing_in, failure_step, second_in, tick_step, turn_step, with_copier, without_lapsed}
 use Rattle.dest_laws.specs.Deeds.{ByDeeds, GoesWithin, accept_in, book_in, entry_in}
+use Rattle.dest_own.specs.Begins.{BeginsQuietly}
 use Rattle.dest_own.specs.Going.{jobs_in}
 use Rattle.dest_own.specs.GoingLaws.{after_those}
 use Rattle.dest_jobs.specs.Ending.{end_all}
@@ -120,6 +121,12 @@ module _ {W : Type 0} (gives : W → Drawn → W → Type 0) (started : List ℕ
 
 lapsed_does : {M : Type 0} → EntryLaws → (s : DestState M) → GoesWithin 0 0 (jobs_in s) (jobs_in (without_lapsed s))
 lapsed_does laws s = laws.clients (λ client. has_lapsed s.state.sessions client s.second) LeaseExpired (copier_in s).copies
+
+pub begins : {M W : Type 0} → EntryLaws → (gives : W → Drawn → W → Type 0) → BeginsQuietly M gives
+begins laws gives = record {
+  due = λ started codes around place x before after t is. due_does gives started codes around before after laws place x t is;
+  lapsed = lapsed_does laws;
+}
 
 pub tick_does : {M : Type 0} → EntryLaws → (codes : Codes) (now : ℕ) (s : DestState M) → GoesWithin 0 0 (jobs_in s) (jobs_in (tick_step codes now s).host)
 tick_does laws codes now s = lapsed_does laws (second_in now s)

@@ -5,6 +5,7 @@ ghost use Rattle.deed_laws.specs.Kinds.{Ends, TakesAndEnds};
 ghost use Rattle.deed_laws.specs.Seen.{IsGiven, Seen, seen_in};
 ghost use Rattle.dest_core.specs.Stepping.{DestState, DestStep, IsRecord, IsReply, IsWork, failure_step, tick_step};
 ghost use Rattle.dest_laws.specs.Deeds.{ByDeeds, GoesWithin};
+ghost use Rattle.dest_own.specs.Begins.{BeginsQuietly};
 ghost use Rattle.dest_own.specs.Going.{GetsOne, jobs_in};
 ghost use Rattle.dest_steps.specs.Copier.{Codes};
 ghost use Rattle.job_book.specs.Book.{BookView};
@@ -30,8 +31,9 @@ pub fn records_take_and_end<M: Mechanism, W: Draws>()
 }
 
 /// In a worker's turn, where the source's record comes to a worker and where a worker's link failed, jobs get one entry at most, and
-/// no copy is taken. Where a second comes by itself, none does.
+/// no copy is taken. Where a second comes by itself, none does; nor before a worker's call, and where leases lapse.
 pub fn steps_give_one_entry<M: Mechanism, W: Draws>()
+    ensures begin { BeginsQuietly M W.gives }
     ensures work { (started : List ℕ → List ℕ → Option (List ℕ)) (codes : Codes) (place now : ℕ) (s : DestState M) (before after : W) (t : DestStep M)
         → IsWork W.gives started codes place now s before after t → GoesWithin 0 1 (jobs_in s) (jobs_in t.host) }
     ensures reply { (codes : Codes) (finish : List ℕ → List ℕ → Option (List ℕ)) (place : ℕ) (message : List ℕ) (now : ℕ) (s : DestState M) (t : DestStep M)

@@ -1,103 +1,23 @@
 -- The steps of a destination leave its table kept.
-use Rattle.std.proofs.Common.{Bool, List, None, Option, Some, [], ap, arith, false, length, refl, subst, sym, true, ℕ, ◌∙◌, ◌≡◌}
-use Rattle.std.specs.Prelude.{max, nat_le}
+use Rattle.std.proofs.Common.{List, Option, refl, subst, sym, ℕ}
+use Rattle.std.specs.Prelude.{max}
 use Rattle.dest_core.specs.Stepping.{DestState, DestStep, IsReply, IsWork, around, copier_in, doing_in, failure_step, second_in, tick_step, turn_step, with_copier, without_lapsed}
-use Rattle.dest_jobs.specs.Ending.{end_all}
-use Rattle.dest_jobs.specs.declared.copies.Copies.{Copies}
-use Rattle.dest_laws.specs.Deeds.{GoesWithin}
+use Rattle.dest_own.specs.Begins.{BeginsQuietly}
 use Rattle.dest_own.specs.Going.{jobs_in}
-use Rattle.dest_steps.specs.Copier.{Around, Codes, xid_of}
+use Rattle.dest_steps.specs.Copier.{Codes}
 use Rattle.dest_steps.specs.Failing.{failing}
-use Rattle.dest_steps.specs.Turning.{IsDue, IsTurn, IsTurnOf, begun_turn, drawn_turn, send_at, with_turn}
-use Rattle.dest_steps.specs.declared.copier.Copier.{Copier}
 use Rattle.dest_steps.specs.declared.turning.Turn.{Turn as DueTurn}
-use Rattle.dest_tasks.specs.Completing.{Comes}
-use Rattle.dest_work.specs.Work.{Turn, begun_for, turn}
-use Rattle.dest_work.specs.declared.work.Due.TheVariants as dues
-use Rattle.dest_work.specs.declared.work.Due.{Due}
-use Rattle.dest_work.specs.declared.work.Work.{Work}
-use Rattle.gss_ctx.specs.Seals.{Mic}
-use Rattle.job_book.specs.Book.{BookView}
-use Rattle.mount.specs.Sending.{begun}
-use Rattle.mount.specs.State.{setup_in}
-use Rattle.mount.specs.declared.machine.SendAt.{SendAt}
-use Rattle.mount.specs.declared.machine.Sent.{Sent}
-use Rattle.nfs_base.specs.declared.job.JobName.{JobName}
-use Rattle.nfs_base.specs.declared.job.Stop.TheVariants.{LeaseExpired}
-use Rattle.nfs_base.specs.declared.job.Stop.{Stop}
-use Rattle.nfs_base.specs.declared.limits.TheConstants.{NAME_LIMIT}
 use Rattle.server_volume.specs.Choices.{Choice, choice_of}
-use Rattle.sess_slots.specs.Begins.{has_lapsed}
-use Rattle.sess_slots.specs.Table.{SessionTable}
-use Rattle.session_client.specs.declared.setup.Setup.{Setup}
-use Rattle.streams.specs.declared.draws.Drawn.TheVariants as draws
 use Rattle.streams.specs.declared.draws.Drawn.{Drawn}
 use Rattle.dest_sound.proofs.Deeds.{quiet_keeps}
 use Rattle.dest_sound.proofs.Logs.{LogLaws}
 use Rattle.dest_sound.specs.Kept.{IsKept}
 use Rattle.dest_sound.proofs.Doings.{Keeps, effect_keeps, failed_keeps, heard_keeps, turn_keeps}
 
--- the laws of dest_laws
-pub record EntryLaws : Type 0 where
-  pub due : (mic : Mic) (at : SendAt) (me : List ℕ) (sessions : SessionTable) (w : Work) (b : BookView) → GoesWithin 0 0 b (turn mic at me sessions w b).book
-  pub clients : (test : ℕ → Bool) (cause : Stop) (x : Copies) → GoesWithin 0 0 x.book (end_all test cause x).book
-
-none_by : (b c : BookView) → c ≡ b → GoesWithin 0 0 b c
-unfolding Comes
-none_by b c same = record { deeds = []; come = same; few_accepts = omega arith; few_entries = omega arith }
-
--- ---- what is due in a worker's turn
-
-begun_book : (codes : Codes) (around : Around) (place : ℕ) (job : JobName) (begins : Option Sent × Work) (x : Copier)
-    → (begun_turn codes around place job begins x).1.copies.book ≡ x.copies.book
-begun_book codes around place job (None, w) x = refl
-begun_book codes around place job (Some sent, w) x = refl
-
-drawn_book : (started : List ℕ → List ℕ → Option (List ℕ)) (codes : Codes) (around : Around) (at : SendAt) (job : JobName) (drawn : Drawn) (x : Copier)
-    → (drawn_turn started codes around at job drawn x).1.copies.book ≡ x.copies.book
-drawn_book started codes around at job draws.Failed x = refl
-drawn_book started codes around at job (draws.Got nonce) x =
-    begun_book codes around at.place job (begun_for at.place job (begun at nonce (started x.principal nonce) x.work.mount) x.work) x
-
-abbrev book_of : DueTurn × Copier → BookView
-book_of t = t.1.copies.book
-
-module _ {W : Type 0} (gives : W → Drawn → W → Type 0) (started : List ℕ → List ℕ → Option (List ℕ)) (codes : Codes) (around : Around) (before after : W) where
-  due_book : (at : SendAt) (setup : Setup) (due : Due) (x : Copier) (t : DueTurn × Copier) → IsDue gives started codes around at setup due x before after t
-      → book_of t ≡ x.copies.book
-  due_book at setup dues.Rest x t is = ap book_of is.is
-  due_book at setup dues.Land x t is = ap book_of is.is
-  due_book at setup (dues.Begin job) x t is = ap book_of is.is ∙ drawn_book started codes around at job is.drawn x
-  due_book at setup (dues.Asked errand sent) x t is = ap book_of is.is
-  due_book at setup (dues.Commit job) x t is = ap book_of is.is
-
-  turned_does : EntryLaws → (place xid : ℕ) (x : Copier) (due : Turn) (t : DueTurn × Copier)
-      → due ≡ turn codes.mic (send_at around place xid) x.principal around.sessions x.work x.copies.book
-      → IsDue gives started codes around (send_at around place xid) (setup_in x.work.mount.standing) due.told.0 (with_turn due x) before after t
-      → GoesWithin 0 0 x.copies.book (book_of t)
-  turned_does laws place xid x due t is turned =
-      let at = send_at around place xid in
-      subst (λ (b : BookView). GoesWithin 0 0 x.copies.book b)
-      (sym (due_book at (setup_in x.work.mount.standing) due.told.0 (with_turn due x) t turned ∙ ap (λ (d : Turn). d.book) is))
-      (laws.due codes.mic at x.principal around.sessions x.work x.copies.book)
-
-  turn_does : EntryLaws → (short : Bool) (xid : Option ℕ) (place : ℕ) (x : Copier) (t : DueTurn × Copier)
-      → IsTurn short xid gives started codes around place x before after t → GoesWithin 0 0 x.copies.book (book_of t)
-  turn_does laws false xid place x t is = none_by x.copies.book (book_of t) (ap book_of is.is)
-  turn_does laws true None place x t is = none_by x.copies.book (book_of t) (ap book_of is.is)
-  turn_does laws true (Some xid) place x t is =
-      turned_does laws place xid x (turn codes.mic (send_at around place xid) x.principal around.sessions x.work x.copies.book) t refl is
-
-  due_does : EntryLaws → (place : ℕ) (x : Copier) (t : DueTurn × Copier) → IsTurnOf gives started codes around place x before after t
-      → GoesWithin 0 0 x.copies.book (book_of t)
-  due_does laws place x t is = turn_does laws (nat_le (length x.principal) NAME_LIMIT) (xid_of x.work.mount x.back) place x t is
-
--- ---- whole steps
-
-module _ {M : Type 0} (logs : LogLaws) (laws : EntryLaws) where
+module _ {M W : Type 0} (gives : W → Drawn → W → Type 0) (logs : LogLaws) (quiet : BeginsQuietly M gives) where
   lapsed_keeps : (s : DestState M) → Keeps (jobs_in s) (jobs_in (without_lapsed s))
   lapsed_keeps s =
-      quiet_keeps logs (jobs_in s) (jobs_in (without_lapsed s)) (laws.clients (λ client. has_lapsed s.state.sessions client s.second) LeaseExpired (copier_in s).copies)
+      quiet_keeps logs (jobs_in s) (jobs_in (without_lapsed s)) (quiet.lapsed s)
 
   pub tick_keeps : (codes : Codes) (now : ℕ) (s : DestState M) → Keeps (jobs_in s) (jobs_in (tick_step codes now s).host)
   tick_keeps codes now s = lapsed_keeps (second_in now s)
@@ -107,14 +27,14 @@ module _ {M : Type 0} (logs : LogLaws) (laws : EntryLaws) where
       let t = without_lapsed (second_in now s) in
       turn_keeps logs choice place turn (doing_in t) (lapsed_keeps (second_in now s) kept)
 
-  pub work_keeps : {W : Type 0} (gives : W → Drawn → W → Type 0) (started : List ℕ → List ℕ → Option (List ℕ)) (codes : Codes) (place now : ℕ)
+  pub work_keeps : (started : List ℕ → List ℕ → Option (List ℕ)) (codes : Codes) (place now : ℕ)
       (s : DestState M) (before after : W) (t : DestStep M) → IsWork gives started codes place now s before after t → Keeps (jobs_in s) (jobs_in t.host)
-  work_keeps gives started codes place now s before after t work kept =
+  work_keeps started codes place now s before after t work kept =
       let choice = choice_of t.out.used in
       let start : DestState M = with_copier work.copier s in
       let is = work.is choice (λ n below. refl) in
       let claimed = quiet_keeps logs (jobs_in s) (jobs_in start)
-      (due_does gives started codes (around (max s.second now) s) before after laws place (copier_in s) (work.turn, work.copier) work.due) kept in
+      (quiet.due started codes (around (max s.second now) s) place (copier_in s) before after (work.turn, work.copier) work.due) kept in
       subst (λ (u : DestStep M). IsKept (jobs_in u.host).table) (sym is) (step_keeps choice place now work.turn start claimed)
 
   pub reply_keeps : (codes : Codes) (finish : List ℕ → List ℕ → Option (List ℕ)) (place : ℕ) (message : List ℕ) (now : ℕ)

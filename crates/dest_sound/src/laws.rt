@@ -8,7 +8,7 @@ ghost use Rattle.dest_own.specs.Going.{jobs_in};
 ghost use Rattle.dest_sound.specs.Kept.{IsKept};
 ghost use Rattle.dest_steps.specs.Copier.{Codes};
 
-use dest_own::records_take_and_end;
+use dest_own::{records_take_and_end, steps_give_one_entry};
 use gss_mech::Mechanism;
 use streams::Draws;
 
@@ -26,7 +26,7 @@ pub fn tables_stay_sound<M: Mechanism, W: Draws>()
     ensures tick { (codes : Codes) (now : ℕ) (s : DestState M) → IsKept (jobs_in s).table → IsKept (jobs_in (tick_step codes now s).host).table }
 {
     records_take_and_end::<M, W>();
-    dest_laws::steps_give_one_entry();
+    steps_give_one_entry::<M, W>();
     copy_model::logs_grow();
     copy_model::first_chunks();
 }

@@ -35,6 +35,10 @@ use Rattle.state_ids.specs.declared.opens.Full.{Full}
 abbrev pub Keeps : {X : Type 0} → Going X → Going X → Type 0
 Keeps g h = h.machine.extra ≡ g.machine.extra
 
+-- and no call is made
+abbrev pub IsQuiet : {X : Type 0} → Going X → Going X → Type 0
+IsQuiet g h = Keeps g h × (h.used ≡ g.used)
+
 module _ {X : Type 0} where
   -- ---- COMMIT and WRITE
 
@@ -90,94 +94,94 @@ module _ {X : Type 0} where
 
   -- ---- CLOSE, OPEN and LOOKUP
 
-  close_told_keeps : (why : Option Status) (id : StateId) (g : Going X) → Keeps g (close_told why id g).going
-  close_told_keeps (Some status) id g = refl
-  close_told_keeps None id g = refl
+  close_told_keeps : (why : Option Status) (id : StateId) (g : Going X) → IsQuiet g (close_told why id g).going
+  close_told_keeps (Some status) id g = (refl, refl)
+  close_told_keeps None id g = (refl, refl)
 
-  close_meant_keeps : (id : Option StateId) (file : ℕ) (g : Going X) → Keeps g (close_meant id file g).going
-  close_meant_keeps None file g = refl
+  close_meant_keeps : (id : Option StateId) (file : ℕ) (g : Going X) → IsQuiet g (close_meant id file g).going
+  close_meant_keeps None file g = (refl, refl)
   close_meant_keeps (Some id) file g = close_told_keeps (close_refusal g.machine.opens id file) id g
 
-  close_file_keeps : (id : StateId) (r : Result ℕ Status) (g : Going X) → Keeps g (close_file id r g).going
-  close_file_keeps id (Err status) g = refl
+  close_file_keeps : (id : StateId) (r : Result ℕ Status) (g : Going X) → IsQuiet g (close_file id r g).going
+  close_file_keeps id (Err status) g = (refl, refl)
   close_file_keeps id (Ok file) g = close_meant_keeps (meant_id g.held.id id) file g
 
-  pub close_keeps : (args : CloseArgs) (g : Going X) → Keeps g (close args g).going
+  pub close_keeps : (args : CloseArgs) (g : Going X) → IsQuiet g (close args g).going
   unfolding close
   close_keeps args g = close_file_keeps args.state_id (current_file g.machine.store g.held.current) g
 
-  open_told_keeps : (r : Result StateId Full) (table : OpenTable) (file : ℕ) (g : Going X) → Keeps g (open_told r table file g).going
-  open_told_keeps (Err full) table file g = refl
-  open_told_keeps (Ok id) table file g = refl
+  open_told_keeps : (r : Result StateId Full) (table : OpenTable) (file : ℕ) (g : Going X) → IsQuiet g (open_told r table file g).going
+  open_told_keeps (Err full) table file g = (refl, refl)
+  open_told_keeps (Ok id) table file g = (refl, refl)
 
-  open_file_keeps : (client : ℕ) (args : OpenArgs) (r : Result ℕ Status) (g : Going X) → Keeps g (open_file client args r g).going
-  open_file_keeps client args (Err status) g = refl
+  open_file_keeps : (client : ℕ) (args : OpenArgs) (r : Result ℕ Status) (g : Going X) → IsQuiet g (open_file client args r g).going
+  open_file_keeps client args (Err status) g = (refl, refl)
   open_file_keeps client args (Ok file) g =
       open_told_keeps (open_answer g.machine.opens client args.owner file) (open_table g.machine.opens client args.owner file (access_of args.access)) file g
 
-  open_unless_keeps : (why : Option Status) (client : ℕ) (args : OpenArgs) (g : Going X) → Keeps g (open_unless why client args g).going
-  open_unless_keeps (Some status) client args g = refl
+  open_unless_keeps : (why : Option Status) (client : ℕ) (args : OpenArgs) (g : Going X) → IsQuiet g (open_unless why client args g).going
+  open_unless_keeps (Some status) client args g = (refl, refl)
   open_unless_keeps None client args g = open_file_keeps client args (file_opened (length g.machine.store.volume.files) args) g
 
-  pub open_keeps : (caller : Caller) (args : OpenArgs) (g : Going X) → Keeps g (open_by_name caller args g).going
+  pub open_keeps : (caller : Caller) (args : OpenArgs) (g : Going X) → IsQuiet g (open_by_name caller args g).going
   unfolding open_by_name
   open_keeps caller args g = open_unless_keeps (root_refusal (current_file g.machine.store g.held.current)) caller.client args g
 
-  lookup_told_keeps : (r : Result ℕ Status) (g : Going X) → Keeps g (lookup_told r g).going
-  lookup_told_keeps (Err status) g = refl
-  lookup_told_keeps (Ok file) g = refl
+  lookup_told_keeps : (r : Result ℕ Status) (g : Going X) → IsQuiet g (lookup_told r g).going
+  lookup_told_keeps (Err status) g = (refl, refl)
+  lookup_told_keeps (Ok file) g = (refl, refl)
 
-  lookup_unless_keeps : (why : Option Status) (name : List ℕ) (g : Going X) → Keeps g (lookup_unless why name g).going
-  lookup_unless_keeps (Some status) name g = refl
+  lookup_unless_keeps : (why : Option Status) (name : List ℕ) (g : Going X) → IsQuiet g (lookup_unless why name g).going
+  lookup_unless_keeps (Some status) name g = (refl, refl)
   lookup_unless_keeps None name g = lookup_told_keeps (file_named (length g.machine.store.volume.files) name) g
 
-  pub lookup_keeps : (name : List ℕ) (g : Going X) → Keeps g (lookup name g).going
+  pub lookup_keeps : (name : List ℕ) (g : Going X) → IsQuiet g (lookup name g).going
   unfolding lookup
   lookup_keeps name g = lookup_unless_keeps (root_refusal (current_file g.machine.store g.held.current)) name g
 
   -- ---- the operations on handles
 
-  pub put_root_keeps : (g : Going X) → Keeps g (put_root g).going
+  pub put_root_keeps : (g : Going X) → IsQuiet g (put_root g).going
   unfolding put_root
-  put_root_keeps g = refl
+  put_root_keeps g = (refl, refl)
 
-  put_told_keeps : (handle : List ℕ) (r : Result ℕ Status) (g : Going X) → Keeps g (put_told handle r g).going
-  put_told_keeps handle (Err status) g = refl
-  put_told_keeps handle (Ok file) g = refl
+  put_told_keeps : (handle : List ℕ) (r : Result ℕ Status) (g : Going X) → IsQuiet g (put_told handle r g).going
+  put_told_keeps handle (Err status) g = (refl, refl)
+  put_told_keeps handle (Ok file) g = (refl, refl)
 
-  put_tested_keeps : (saved : Bool) (handle : List ℕ) (g : Going X) → Keeps g (put_tested saved handle g).going
-  put_tested_keeps true handle g = refl
+  put_tested_keeps : (saved : Bool) (handle : List ℕ) (g : Going X) → IsQuiet g (put_tested saved handle g).going
+  put_tested_keeps true handle g = (refl, refl)
   put_tested_keeps false handle g = put_told_keeps handle (handle_file (length g.machine.store.volume.files) g.machine.store.tag handle) g
 
-  pub put_keeps : (next : Option ℕ) (handle : List ℕ) (g : Going X) → Keeps g (put next handle g).going
+  pub put_keeps : (next : Option ℕ) (handle : List ℕ) (g : Going X) → IsQuiet g (put next handle g).going
   unfolding put
   put_keeps next handle g = put_tested_keeps (is_saved_next next) handle g
 
-  get_told_keeps : (r : Result ℕ Status) (handle : List ℕ) (g : Going X) → Keeps g (get_told r handle g).going
-  get_told_keeps (Err status) handle g = refl
-  get_told_keeps (Ok file) handle g = refl
+  get_told_keeps : (r : Result ℕ Status) (handle : List ℕ) (g : Going X) → IsQuiet g (get_told r handle g).going
+  get_told_keeps (Err status) handle g = (refl, refl)
+  get_told_keeps (Ok file) handle g = (refl, refl)
 
-  get_current_keeps : (current : Option (List ℕ)) (g : Going X) → Keeps g (get_current current g).going
-  get_current_keeps None g = refl
+  get_current_keeps : (current : Option (List ℕ)) (g : Going X) → IsQuiet g (get_current current g).going
+  get_current_keeps None g = (refl, refl)
   get_current_keeps (Some handle) g = get_told_keeps (handle_file (length g.machine.store.volume.files) g.machine.store.tag handle) handle g
 
-  pub get_keeps : (g : Going X) → Keeps g (get g).going
+  pub get_keeps : (g : Going X) → IsQuiet g (get g).going
   unfolding get
   get_keeps g = get_current_keeps g.held.current g
 
-  save_told_keeps : (current : Option (List ℕ)) (g : Going X) → Keeps g (save_told current g).going
-  save_told_keeps None g = refl
-  save_told_keeps (Some handle) g = refl
+  save_told_keeps : (current : Option (List ℕ)) (g : Going X) → IsQuiet g (save_told current g).going
+  save_told_keeps None g = (refl, refl)
+  save_told_keeps (Some handle) g = (refl, refl)
 
-  pub save_keeps : (g : Going X) → Keeps g (save g).going
+  pub save_keeps : (g : Going X) → IsQuiet g (save g).going
   unfolding save
   save_keeps g = save_told_keeps g.held.current g
 
-  restore_told_keeps : (saved : Option (List ℕ)) (g : Going X) → Keeps g (restore_told saved g).going
-  restore_told_keeps None g = refl
-  restore_told_keeps (Some handle) g = refl
+  restore_told_keeps : (saved : Option (List ℕ)) (g : Going X) → IsQuiet g (restore_told saved g).going
+  restore_told_keeps None g = (refl, refl)
+  restore_told_keeps (Some handle) g = (refl, refl)
 
-  pub restore_keeps : (g : Going X) → Keeps g (restore g).going
+  pub restore_keeps : (g : Going X) → IsQuiet g (restore g).going
   unfolding restore
   restore_keeps g = restore_told_keeps g.held.saved g
 
@@ -191,10 +195,10 @@ module _ {X : Type 0} where
   read_unless_keeps (Some status) choice off count file g = refl
   read_unless_keeps None choice off count file g = read_told_keeps _ _ _ _
 
-  attributes_if_keeps : (said : Gate) (mask file : ℕ) (g : Going X) → Keeps g (attributes_if said mask file g).going
-  attributes_if_keeps (gate.Refuse status) mask file g = refl
-  attributes_if_keeps gate.Serve mask file g = refl
-  attributes_if_keeps gate.Usual mask file g = refl
+  attributes_if_keeps : (said : Gate) (mask file : ℕ) (g : Going X) → IsQuiet g (attributes_if said mask file g).going
+  attributes_if_keeps (gate.Refuse status) mask file g = (refl, refl)
+  attributes_if_keeps gate.Serve mask file g = (refl, refl)
+  attributes_if_keeps gate.Usual mask file g = (refl, refl)
 
   module _ {P : Type 0} (rules : Rules X P) (goes : X → X → Type 0) (same : (x : X) → goes x x)
       (gates : (x : X) (caller : Caller) (carry : P) (ask : Ask) → goes x (rules.gate x caller carry ask).0) (caller : Caller) (carry : P) where
@@ -222,9 +226,20 @@ module _ {X : Type 0} where
     attributes_file_goes mask (Err status) g = same g.machine.extra
     attributes_file_goes mask (Ok file) g =
         let said = rules.gate g.machine.extra caller carry (ask.Attributes file) in
-        subst (λ y. goes g.machine.extra y) (sym (attributes_if_keeps said.1 mask file (with_extra said.0 g)))
+        subst (λ y. goes g.machine.extra y) (sym (attributes_if_keeps said.1 mask file (with_extra said.0 g)).0)
         (gates g.machine.extra caller carry (ask.Attributes file))
 
     pub attributes_go : (asked : List ℕ) (g : Going X) → Goes g (get_attributes rules caller carry asked g).going
     unfolding get_attributes
     attributes_go asked g = attributes_file_goes (first_word asked) (current_file g.machine.store g.held.current) g
+
+  module _ {P : Type 0} (rules : Rules X P) (caller : Caller) (carry : P) where
+    attributes_file_calls_none : (mask : ℕ) (r : Result ℕ Status) (g : Going X) → (attributes_file rules caller carry mask r g).going.used ≡ g.used
+    attributes_file_calls_none mask (Err status) g = refl
+    attributes_file_calls_none mask (Ok file) g =
+        let said = rules.gate g.machine.extra caller carry (ask.Attributes file) in
+        (attributes_if_keeps said.1 mask file (with_extra said.0 g)).1
+
+    pub attributes_call_none : (asked : List ℕ) (g : Going X) → (get_attributes rules caller carry asked g).going.used ≡ g.used
+    unfolding get_attributes
+    attributes_call_none asked g = attributes_file_calls_none (first_word asked) (current_file g.machine.store g.held.current) g

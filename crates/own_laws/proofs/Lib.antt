@@ -1,5 +1,6 @@
 mod Grows
 mod FileParts
+mod QuietParts
 mod WalkParts
 mod OutsideParts
 mod CompoundParts

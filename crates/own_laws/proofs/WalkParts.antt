@@ -47,17 +47,17 @@ module _ {X C : Type 0} (goes : ℕ → X → X → Type 0) (v : Service X C) (p
 
   file_goes : (next : Option ℕ) (a : FileArg) (c : Course X) → One c (file_done v choice caller carry next a c).course
   unfolding file_done
-  file_goes next (args.Close a) c = along (close_keeps a c.going)
+  file_goes next (args.Close a) c = along (close_keeps a c.going).0
   file_goes next (args.Commit a) c = along (commit_keeps choice c.going)
   file_goes next (args.GetAttr mask) c = attributes_go (file_rules v) (goes 1) (f.same 1) at_gate caller carry mask c.going
-  file_goes next args.GetFh c = along (get_keeps c.going)
-  file_goes next (args.Lookup name) c = along (lookup_keeps name c.going)
-  file_goes next (args.Open a) c = along (open_keeps caller a c.going)
-  file_goes next (args.PutFh handle) c = along (put_keeps next handle c.going)
-  file_goes next args.PutRootFh c = along (put_root_keeps c.going)
+  file_goes next args.GetFh c = along (get_keeps c.going).0
+  file_goes next (args.Lookup name) c = along (lookup_keeps name c.going).0
+  file_goes next (args.Open a) c = along (open_keeps caller a c.going).0
+  file_goes next (args.PutFh handle) c = along (put_keeps next handle c.going).0
+  file_goes next args.PutRootFh c = along (put_root_keeps c.going).0
   file_goes next (args.Read a) c = read_goes (file_rules v) (goes 1) (f.same 1) at_gate caller carry choice a c.going
-  file_goes next args.RestoreFh c = along (restore_keeps c.going)
-  file_goes next args.SaveFh c = along (save_keeps c.going)
+  file_goes next args.RestoreFh c = along (restore_keeps c.going).0
+  file_goes next args.SaveFh c = along (save_keeps c.going).0
   file_goes next (args.Write a) c = along (write_keeps choice a c.going)
   file_goes next a c = f.same 1 c.going.machine.extra
 

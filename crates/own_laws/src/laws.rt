@@ -1,5 +1,6 @@
 ghost use Rattle.std.specs.Prelude.{ℕ};
 ghost use Rattle.own_laws.specs.Following.{GivesFew, GivesOne, InSeconds, InTurns};
+ghost use Rattle.own_laws.specs.Quiet.{QuietMakeNoCall};
 ghost use Rattle.session_server.specs.Host.{rules_of};
 
 use crate::following::Following;
@@ -18,4 +19,9 @@ pub fn own_parts_go_on<R: Following<X, C>, X: Extending<C>, C, W: Draws>()
 pub fn own_parts_give_few<X: Extending<C>, C, W: Draws>()
     ensures { (given : X → ℕ) (mech : X.Mech) → GivesOne given (rules_of X.gated X.serves X.leaves X.lapses X.judges X.tells X.silent)
         → InTurns (GivesFew given) (rules_of X.gated X.serves X.leaves X.lapses X.judges X.tells X.silent) (record { mic = X.Mech.mic_of; derived = X.Mech.derived }) (X.Mech.accepted mech) W.gives }
+{}
+
+/// An operation on files that is counted as no call on the volume (`nfs_compound`'s `file_calls`) makes none, whatever a server adds.
+pub fn quiet_operations_make_no_call<X: Extending<C>, C>()
+    ensures { QuietMakeNoCall (rules_of X.gated X.serves X.leaves X.lapses X.judges X.tells X.silent).service }
 {}

@@ -31,6 +31,7 @@ use Rattle.compound_server.specs.Compounds.{alone_refusal, by_begin, by_first, b
 use Rattle.compound_server.specs.Course.{Service}
 use Rattle.compound_server.specs.State.{Given, Parting, State, begun, with_own, with_sessions}
 use Rattle.compound_server.specs.declared.who.Who.{Who}
+use Rattle.own_laws.specs.Quiet.{QuietMakeNoCall}
 use Rattle.tell_laws.specs.Volumes.{ServesNone}
 use Rattle.tell_laws.proofs.Makes.{Makes, makes_none}
 use Rattle.tell_laws.proofs.WalkCalls.{calls_behind, walk_makes}
@@ -112,10 +113,10 @@ unused_few ops g unused = record { makes = makes_none (volume_calls ops) [] g.us
 same_behind : (a : SequenceArgs) (ops : List Op) → volume_calls (File (args.Sequence a) ∷ ops) ≡ volume_calls ops
 same_behind a ops = omega (arith, calls_behind (File (args.Sequence a)) ops)
 
-module _ {X C : Type 0} (v : Service X C) (serves : ServesNone v) (parting : Parting X) (choice : Choice) (who : Who) (principal : List ℕ) (carry : Option C) where
+module _ {X C : Type 0} (v : Service X C) (quiet : QuietMakeNoCall v) (serves : ServesNone v) (parting : Parting X) (choice : Choice) (who : Who) (principal : List ℕ) (carry : Option C) where
   begin_makes : (answer : Begin) (tag : List ℕ) (a : SequenceArgs) (ops : List Op) (tail : Tail) (s : State X)
       → Makes (volume_calls ops) [] (by_begin answer v choice who carry tag a ops tail s).used
-  begin_makes (begin.New place) tag a ops tail s = walk_makes v serves choice (caller_at who place s.sessions) carry tail ops (begun s)
+  begin_makes (begin.New place) tag a ops tail s = walk_makes v quiet serves choice (caller_at who place s.sessions) carry tail ops (begun s)
   begin_makes (begin.Replay place) tag a ops tail s = makes_none (volume_calls ops) [] [] refl
   begin_makes begin.FalseRetry tag a ops tail s = makes_none (volume_calls ops) [] [] refl
   begin_makes begin.BadSession tag a ops tail s = makes_none (volume_calls ops) [] [] refl

@@ -1,29 +1,19 @@
--- How many calls on the volume each operation on files makes.
+-- How many calls on the volume COMMIT, WRITE and READ make.
 use Rattle.std.proofs.Common.{◌≡◌, ℕ, ◌+◌, ◌≤◌, Bool, true, false, List, Option, Some, None, Result, Ok, Err, length, refl, arith}
 use Rattle.block_file.specs.declared.faults.ReadFault.{ReadFault}
 use Rattle.block_file.specs.declared.faults.ReadFault.TheVariants as reading
 use Rattle.block_file.specs.declared.faults.WriteFault.{WriteFault}
 use Rattle.block_file.specs.declared.faults.WriteFault.TheVariants as writing
 use Rattle.copy_model.specs.Volume.{bytes_at, file_at}
-use Rattle.file_ops.specs.declared.files.CloseArgs.{CloseArgs}
 use Rattle.file_ops.specs.declared.files.ReadArgs.{ReadArgs}
 use Rattle.file_ops.specs.declared.files.WriteArgs.{WriteArgs}
-use Rattle.file_ops.specs.declared.opening.OpenArgs.{OpenArgs}
 use Rattle.file_server.specs.Answering.{meant_id, open_refusal}
-use Rattle.file_server.specs.Attributes.{attributes_file, attributes_if, first_word, get_attributes}
-use Rattle.file_server.specs.Closing.{close, close_file, close_meant, close_told}
-use Rattle.file_server.specs.Handles.{byte_file, current_file, handle_file}
+use Rattle.file_server.specs.Handles.{byte_file}
 use Rattle.file_server.specs.Machine.{Going, Rules, with_call, with_extra}
-use Rattle.file_server.specs.Names.{file_named, lookup, lookup_told, lookup_unless, root_refusal}
-use Rattle.file_server.specs.Opening.{access_of, file_opened, open_by_name, open_file, open_told, open_unless}
-use Rattle.file_server.specs.Placing.{get, get_current, get_told, is_saved_next, put, put_root, put_tested, put_told, restore, restore_told, save, save_told}
 use Rattle.file_server.specs.Reading.{read, read_bytes, read_eof, read_file, read_length, read_once, read_refusal, read_told, read_unless}
 use Rattle.file_server.specs.Writing.{commit, commit_file, commit_told, sync_written, taken_bytes, write, write_at, write_file, write_settled, write_synced, write_told, write_unless}
 use Rattle.file_server.specs.declared.extension.Ask.TheVariants as ask
 use Rattle.file_server.specs.declared.extension.Caller.{Caller}
-use Rattle.file_server.specs.declared.extension.Gate.{Gate}
-use Rattle.file_server.specs.declared.extension.Gate.TheVariants as gate
-use Rattle.nfs_base.specs.declared.state_id.StateId.{StateId}
 use Rattle.nfs_base.specs.declared.status.Status.{Status}
 use Rattle.nfs_base.specs.declared.written.Stability.{Stability}
 use Rattle.nfs_base.specs.declared.written.Stability.TheVariants.{Unstable, DataSync, FileSync}
@@ -31,9 +21,7 @@ use Rattle.nfs_compound.specs.VolumeCalls.{write_calls}
 use Rattle.server_volume.specs.Calls as asked
 use Rattle.server_volume.specs.Calls.{broken_fault, commit_call, read_call, write_call, write_fault}
 use Rattle.server_volume.specs.Choices.{Choice}
-use Rattle.state_ids.specs.Opens.{OpenTable, close_refusal, open_answer, open_table}
 use Rattle.state_ids.specs.declared.access.Access.TheVariants as access
-use Rattle.state_ids.specs.declared.opens.Full.{Full}
 use Rattle.tell_laws.proofs.Makes.{Makes, byte_rootless, called_makes, makes_more, makes_none, makes_then}
 
 -- no call was made
@@ -134,100 +122,7 @@ module _ {X : Type 0} where
   unfolding write
   write_calls_few choice args g = write_file_calls choice args (byte_file g.machine.store g.held.current) g refl
 
-  -- ---- CLOSE, OPEN and LOOKUP
-
-  close_told_keeps : (why : Option Status) (id : StateId) (g : Going X) → Keeps g (close_told why id g).going
-  close_told_keeps (Some status) id g = refl
-  close_told_keeps None id g = refl
-
-  close_meant_keeps : (id : Option StateId) (file : ℕ) (g : Going X) → Keeps g (close_meant id file g).going
-  close_meant_keeps None file g = refl
-  close_meant_keeps (Some id) file g = close_told_keeps (close_refusal g.machine.opens id file) id g
-
-  close_file_keeps : (id : StateId) (r : Result ℕ Status) (g : Going X) → Keeps g (close_file id r g).going
-  close_file_keeps id (Err status) g = refl
-  close_file_keeps id (Ok file) g = close_meant_keeps (meant_id g.held.id id) file g
-
-  pub close_keeps : (args : CloseArgs) (g : Going X) → Keeps g (close args g).going
-  unfolding close
-  close_keeps args g = close_file_keeps args.state_id (current_file g.machine.store g.held.current) g
-
-  open_told_keeps : (r : Result StateId Full) (table : OpenTable) (file : ℕ) (g : Going X) → Keeps g (open_told r table file g).going
-  open_told_keeps (Err full) table file g = refl
-  open_told_keeps (Ok id) table file g = refl
-
-  open_file_keeps : (client : ℕ) (args : OpenArgs) (r : Result ℕ Status) (g : Going X) → Keeps g (open_file client args r g).going
-  open_file_keeps client args (Err status) g = refl
-  open_file_keeps client args (Ok file) g =
-      open_told_keeps (open_answer g.machine.opens client args.owner file) (open_table g.machine.opens client args.owner file (access_of args.access)) file g
-
-  open_unless_keeps : (why : Option Status) (client : ℕ) (args : OpenArgs) (g : Going X) → Keeps g (open_unless why client args g).going
-  open_unless_keeps (Some status) client args g = refl
-  open_unless_keeps None client args g = open_file_keeps client args (file_opened (length g.machine.store.volume.files) args) g
-
-  pub open_keeps : (caller : Caller) (args : OpenArgs) (g : Going X) → Keeps g (open_by_name caller args g).going
-  unfolding open_by_name
-  open_keeps caller args g = open_unless_keeps (root_refusal (current_file g.machine.store g.held.current)) caller.client args g
-
-  lookup_told_keeps : (r : Result ℕ Status) (g : Going X) → Keeps g (lookup_told r g).going
-  lookup_told_keeps (Err status) g = refl
-  lookup_told_keeps (Ok file) g = refl
-
-  lookup_unless_keeps : (why : Option Status) (name : List ℕ) (g : Going X) → Keeps g (lookup_unless why name g).going
-  lookup_unless_keeps (Some status) name g = refl
-  lookup_unless_keeps None name g = lookup_told_keeps (file_named (length g.machine.store.volume.files) name) g
-
-  pub lookup_keeps : (name : List ℕ) (g : Going X) → Keeps g (lookup name g).going
-  unfolding lookup
-  lookup_keeps name g = lookup_unless_keeps (root_refusal (current_file g.machine.store g.held.current)) name g
-
-  -- ---- the operations on handles
-
-  pub put_root_keeps : (g : Going X) → Keeps g (put_root g).going
-  unfolding put_root
-  put_root_keeps g = refl
-
-  put_told_keeps : (handle : List ℕ) (r : Result ℕ Status) (g : Going X) → Keeps g (put_told handle r g).going
-  put_told_keeps handle (Err status) g = refl
-  put_told_keeps handle (Ok file) g = refl
-
-  put_tested_keeps : (saved : Bool) (handle : List ℕ) (g : Going X) → Keeps g (put_tested saved handle g).going
-  put_tested_keeps true handle g = refl
-  put_tested_keeps false handle g = put_told_keeps handle (handle_file (length g.machine.store.volume.files) g.machine.store.tag handle) g
-
-  pub put_keeps : (next : Option ℕ) (handle : List ℕ) (g : Going X) → Keeps g (put next handle g).going
-  unfolding put
-  put_keeps next handle g = put_tested_keeps (is_saved_next next) handle g
-
-  get_told_keeps : (r : Result ℕ Status) (handle : List ℕ) (g : Going X) → Keeps g (get_told r handle g).going
-  get_told_keeps (Err status) handle g = refl
-  get_told_keeps (Ok file) handle g = refl
-
-  get_current_keeps : (current : Option (List ℕ)) (g : Going X) → Keeps g (get_current current g).going
-  get_current_keeps None g = refl
-  get_current_keeps (Some handle) g = get_told_keeps (handle_file (length g.machine.store.volume.files) g.machine.store.tag handle) handle g
-
-  pub get_keeps : (g : Going X) → Keeps g (get g).going
-  unfolding get
-  get_keeps g = get_current_keeps g.held.current g
-
-  save_told_keeps : (current : Option (List ℕ)) (g : Going X) → Keeps g (save_told current g).going
-  save_told_keeps None g = refl
-  save_told_keeps (Some handle) g = refl
-
-  pub save_keeps : (g : Going X) → Keeps g (save g).going
-  unfolding save
-  save_keeps g = save_told_keeps g.held.current g
-
-  restore_told_keeps : (saved : Option (List ℕ)) (g : Going X) → Keeps g (restore_told saved g).going
-  restore_told_keeps None g = refl
-  restore_told_keeps (Some handle) g = refl
-
-  pub restore_keeps : (g : Going X) → Keeps g (restore g).going
-  unfolding restore
-  restore_keeps g = restore_told_keeps g.held.saved g
-
-  -- ---- READ and GETATTR
+  -- ---- READ
 
   read_told_keeps : (why : Option ReadFault) (eof : Bool) (bytes : List ℕ) (g : Going X) → Keeps g (read_told why eof bytes g).going
   read_told_keeps (Some f) eof bytes g = refl
@@ -261,18 +156,3 @@ module _ {X : Type 0} where
     pub read_calls : (choice : Choice) (args : ReadArgs) (g : Going X) → Calls 1 g (read rules choice caller carry args g).going
     unfolding read
     read_calls choice args g = read_once_calls g.has_read choice args g
-
-    attributes_if_keeps : (said : Gate) (mask file : ℕ) (g : Going X) → Keeps g (attributes_if said mask file g).going
-    attributes_if_keeps (gate.Refuse status) mask file g = refl
-    attributes_if_keeps gate.Serve mask file g = refl
-    attributes_if_keeps gate.Usual mask file g = refl
-
-    attributes_file_keeps : (mask : ℕ) (r : Result ℕ Status) (g : Going X) → Keeps g (attributes_file rules caller carry mask r g).going
-    attributes_file_keeps mask (Err status) g = refl
-    attributes_file_keeps mask (Ok file) g =
-        let said = rules.gate g.machine.extra caller carry (ask.Attributes file) in
-        attributes_if_keeps said.1 mask file (with_extra said.0 g)
-
-    pub attributes_keep : (asked : List ℕ) (g : Going X) → Keeps g (get_attributes rules caller carry asked g).going
-    unfolding get_attributes
-    attributes_keep asked g = attributes_file_keeps (first_word asked) (current_file g.machine.store g.held.current) g

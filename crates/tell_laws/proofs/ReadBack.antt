@@ -1,6 +1,6 @@
 -- The results that a reply spells are read back in their order, up to the first that has no spelling of its own.
-use Rattle.std.proofs.Common.{◌≡◌, ℕ, zero, suc, ◌+◌, ◌%◌, ◌^◌, ◌<◌, ◌≤◌, List, [], ◌∷◌, ◌++◌, length, Some, Result, Ok, Err, sym, ap, ◌∙◌, lit<, arith}
-use Rattle.std.specs.List.{flat_map}
+use Rattle.std.proofs.Common.{◌≡◌, ℕ, zero, suc, ◌+◌, ◌%◌, ◌^◌, ◌<◌, ◌≤◌, List, [], ◌∷◌, ◌++◌, length, Some, Result, Ok, Err, refl, sym, ap, subst, ◌∙◌, append_assoc, lit<, arith}
+use Rattle.std.specs.List.{AllByRecursion, flat_map}
 use Rattle.std.specs.Result.{result_ok}
 use Rattle.nfs_base.specs.Forms.{status}
 use Rattle.nfs_base.specs.declared.limits.TheConstants.{TEXT_LIMIT}
@@ -15,9 +15,10 @@ use Rattle.wire_xdr.specs.Forms.{both, count, list, opaque}
 use Rattle.wire_xdr.specs.Parts.{list_read, list_spell, many}
 use Rattle.wire_xdr.specs.StepLaws.{bind_ok, ok_is}
 use Rattle.wire_xdr.specs.Words.{opaque_bytes, word_bytes}
+use Rattle.tell_laws.specs.ReadBack.{ReadsBack}
 
 -- a count is any word
-abbrev pub most_words : ℕ
+abbrev most_words : ℕ
 most_words = 4294967295
 
 -- ---- what was read goes on behind what is spelled
@@ -34,11 +35,11 @@ read_both {A} {B} a b at x rest v new fits h =
     y.1 ∙ ap (λ (p : (A × B) × Cursor). Ok (p.0.1, p.1)) (ok_is {E = ℕ} ((x, y.0.0), y.0.1) (v, new) y.2)
 
 -- several values, of which the first is spelled there
-pub record ReadsFirst {A : Type 0} (a : Form A) (n : ℕ) (v : A) (rest : List ℕ) (vs : List A) (new : Cursor) : Type 0 where
-  pub more : List A
-  pub are : vs ≡ v ∷ more
-  pub at : ℕ
-  pub behind : many a n (record { at = at; rest = rest }) ≡ Ok (more, new)
+record ReadsFirst {A : Type 0} (a : Form A) (n : ℕ) (v : A) (rest : List ℕ) (vs : List A) (new : Cursor) : Type 0 where
+  more : List A
+  are : vs ≡ v ∷ more
+  at : ℕ
+  behind : many a n (record { at = at; rest = rest }) ≡ Ok (more, new)
 
 many_first : {A : Type 0} (a : Form A) (n at : ℕ) (v : A) (rest : List ℕ) (vs : List A) (new : Cursor) → a.Fits v
     → many a (suc n) (record { at = at; rest = a.spell v ++ rest }) ≡ Ok (vs, new) → ReadsFirst a n v rest vs new
@@ -78,10 +79,10 @@ closed_some (Ok read) v h = (read.1, ap (λ w. Ok (w, read.1)) (nothing_more rea
 closed_some (Err at) v h = absurd cc
 
 -- so many results stand behind its front
-pub record IsReadBack (number : ℕ) (rest : List ℕ) (v : Reply) : Type 0 where
-  pub at : ℕ
-  pub new : Cursor
-  pub results : many outcome number (record { at = at; rest = rest }) ≡ Ok (v.results, new)
+record IsReadBack (number : ℕ) (rest : List ℕ) (v : Reply) : Type 0 where
+  at : ℕ
+  new : Cursor
+  results : many outcome number (record { at = at; rest = rest }) ≡ Ok (v.results, new)
 
 read_back : (n : ℕ) (tag : List ℕ) (number : ℕ) (rest : List ℕ) (v : Reply) (new : Cursor) → n < 2 ^ 32 → length tag ≤ TEXT_LIMIT → number ≤ most_words
     → reply.read (start (word_bytes n ++ (opaque_bytes tag ++ (word_bytes number ++ rest)))) ≡ Ok (v, new) → IsReadBack number rest v
@@ -109,7 +110,7 @@ unfolding reply list_spell status
 reply_is s tag rs = ap (λ (w : List ℕ). w ++ (opaque_bytes tag ++ (word_bytes (length rs) ++ flat_map outcome.spell rs))) (word_left s.number)
 
 -- what is read of a reply with these results
-pub read_reply : (s : Status) (tag : List ℕ) (rs : List Res) (body : List ℕ) (v : Reply) → body ≡ reply.spell (record { status = s; tag = tag; results = rs })
+read_reply : (s : Status) (tag : List ℕ) (rs : List Res) (body : List ℕ) (v : Reply) → body ≡ reply.spell (record { status = s; tag = tag; results = rs })
     → length tag ≤ TEXT_LIMIT → length rs ≤ most_words → value_of reply body ≡ Some v → IsReadBack (length rs) (flat_map outcome.spell rs) v
 unfolding all_of
 read_reply s tag rs body v is short few h =
@@ -117,32 +118,25 @@ read_reply s tag rs body v is short few h =
     let read = closed_some (reply.read (start spelled)) v (sym (ap (λ (bytes : List ℕ). value_of reply bytes) (is ∙ reply_is s tag rs)) ∙ h) in
     read_back (s.number % 2 ^ 32) tag (length rs) (flat_map outcome.spell rs) v read.0 (omega arith) short few read.1
 
--- ---- the third result
+-- ---- the results that stand first
 
-pub record ReadsThird (third : Res) (results : List Res) : Type 0 where
-  pub first : Res
-  pub second : Res
-  pub more : List Res
-  pub are : results ≡ first ∷ second ∷ third ∷ more
+first_read : (front : List Res) (number at : ℕ) (rest : List ℕ) (vs : List Res) (new : Cursor) → AllByRecursion outcome.Fits front → length front ≤ number
+    → many outcome number (record { at = at; rest = flat_map outcome.spell front ++ rest }) ≡ Ok (vs, new) → (more : List Res) × (vs ≡ front ++ more)
+first_read [] number at rest vs new fits few h = (vs, refl)
+first_read (r ∷ front) zero at rest vs new fits few h = absurd (omega (arith, few))
+first_read (r ∷ front) (suc number) at rest vs new fits few h =
+    let behind = flat_map outcome.spell front ++ rest in
+    let x = many_first outcome number at r behind vs new fits.0
+    (subst (λ (bytes : List ℕ). many outcome (suc number) (record { at = at; rest = bytes }) ≡ Ok (vs, new)) (append_assoc (outcome.spell r) (flat_map outcome.spell front) rest) h) in
+    let y = first_read front number x.at rest x.more new fits.1 (omega (arith, few)) x.behind in
+    (y.0, x.are ∙ ap (λ (rs : List Res). r ∷ rs) y.1)
 
-chained : (a b c : Res) (rs xs ys zs : List Res) → rs ≡ a ∷ xs → xs ≡ b ∷ ys → ys ≡ c ∷ zs → rs ≡ a ∷ b ∷ c ∷ zs
-chained a b c rs xs ys zs first second third =
-    first ∙ ap (λ (r : List Res). a ∷ r) second ∙ ap (λ (r : List Res). a ∷ b ∷ r) third
-
-pub third_read : (first second third : Res) (more : List Res) (v : Reply) → outcome.Fits first → outcome.Fits second → outcome.Fits third
-    → IsReadBack (length (first ∷ second ∷ third ∷ more)) (flat_map outcome.spell (first ∷ second ∷ third ∷ more)) v → ReadsThird third v.results
-third_read first second third more v one two three b =
-    let behind_third = flat_map outcome.spell more in
-    let behind_second = outcome.spell third ++ behind_third in
-    let x = many_first outcome (length (second ∷ third ∷ more)) b.at first (outcome.spell second ++ behind_second) v.results b.new one b.results in
-    let y = many_first outcome (length (third ∷ more)) x.at second behind_second x.more b.new two x.behind in
-    let z = many_first outcome (length more) y.at third behind_third y.more b.new three y.behind in
+pub reads_back : ReadsBack
+reads_back status tag told body v is short few read =
+    let b = read_reply status tag told body v is short (omega (arith, few)) read in
     record {
-      first = first;
-      second = second;
-      more = z.more;
-      are = chained first second third v.results x.more y.more z.more x.are y.are z.are;
+      as_many = many_length outcome (length told) (record { at = b.at; rest = flat_map outcome.spell told }) v.results b.new b.results;
+      first = λ front rest fits shorter spelled.
+          first_read front (length told) b.at rest v.results b.new fits shorter
+          (subst (λ (bytes : List ℕ). many outcome (length told) (record { at = b.at; rest = bytes }) ≡ Ok (v.results, b.new)) spelled b.results);
     }
-
-pub as_many : (number : ℕ) (rest : List ℕ) (v : Reply) → IsReadBack number rest v → length v.results ≡ number
-as_many number rest v b = many_length outcome number (record { at = b.at; rest = rest }) v.results b.new b.results

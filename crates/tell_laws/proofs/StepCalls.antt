@@ -14,6 +14,7 @@ use Rattle.wire_spelling.specs.Spelling.{spelling}
 use Rattle.server_laws.specs.Acts.{acts_of}
 use Rattle.server_laws.specs.Slots.{IsCompoundStep}
 use Rattle.server_laws.specs.Told.{HasKind, given_in}
+use Rattle.own_laws.specs.Quiet.{QuietMakeNoCall}
 use Rattle.tell_laws.specs.Volumes.{AreOffRoot, CallsNone, CallsOnce}
 use Rattle.tell_laws.proofs.Makes.{Makes}
 use Rattle.tell_laws.proofs.CompoundCalls.{CallsFew, compound_few}
@@ -26,14 +27,14 @@ made_all most more m =
       subst AreOffRoot (sym same) m.off_root,
     )
 
-module _ {X C : Type 0} (rules : Rules X C) (none : CallsNone rules) (codes : Codes) (bytes : List ℕ) (now : ℕ) (s : HostState X C) (t : Stepped X C) where
+module _ {X C : Type 0} (rules : Rules X C) (quiet : QuietMakeNoCall rules.service) (none : CallsNone rules) (codes : Codes) (bytes : List ℕ) (now : ℕ) (s : HostState X C) (t : Stepped X C) where
   module _ (conn : ℕ) (k : IsCompoundStep rules codes conn bytes (max s.second now) s t) where
     abbrev given : Given X
     given = given_in rules codes conn bytes (max s.second now) s t k
 
     few : CallsFew k.compound.ops given
     few =
-        compound_few rules.service none rules.parting k.choice
+        compound_few rules.service quiet none rules.parting k.choice
         (who_calls (max s.second now) conn (record { number = k.asked.number; seq = k.asked.seq }) k.asked.context)
         k.asked.context.principal k.asked.context.carry k.compound s.state
 

@@ -1,7 +1,8 @@
 -- What a step tells is right of the volume before it.
-use Rattle.std.proofs.Common.{◌≡◌, inl, inr, ℕ, ◌+◌, ◌<◌, ◌≤◌, false, List, [], ◌∷◌, length, Option, Some, None, Ok, refl, sym, ap, subst, ◌∙◌, arith}
+use Rattle.std.proofs.Common.{◌≡◌, inl, inr, ℕ, ◌+◌, ◌<◌, ◌≤◌, ◌^◌, false, List, [], ◌∷◌, ◌++◌, length, Option, Some, None, Ok, refl, sym, ap, subst, ◌∙◌, arith}
 use Rattle.std.specs.Prelude.{max, option_and_then, slice_get}
 use Rattle.std.specs.List.{AllByRecursion, flat_map}
+use Rattle.std.proofs.lemmas.Grind.{flat_map-append}
 use Rattle.call_results.specs.Results.{at, told_bytes, told_change, told_size}
 use Rattle.copy_model.specs.Volume.{Volume, byte_at, bytes_at, file_at}
 use Rattle.file_ops.specs.declared.args.FileArg.TheVariants as args
@@ -40,12 +41,12 @@ use Rattle.wire_model.specs.Wire.{Executed}
 use Rattle.wire_xdr.specs.All.{value_of}
 use Rattle.wire_xdr.specs.Cursor.{IsBytes}
 use Rattle.server_laws.specs.Told.{IsTold, given_in}
+use Rattle.tell_laws.specs.ReadBack.{ReadsBack}
 use Rattle.tell_laws.specs.Telling.{FitsWords, RefusesByFailures}
 use Rattle.tell_laws.proofs.Answers.{AttributesRight, GateFails, IsData, ReadsRight, attributes_right, fails_gate, reads_right}
 use Rattle.tell_laws.proofs.Asked.{CHANGE_AND_SIZE, asks_attributes, asks_read}
 use Rattle.tell_laws.proofs.CompoundTold.{IsSaid, SaysRight, compound_said}
 use Rattle.tell_laws.proofs.Fits.{attributes_fit, attributes_refused_fits, put_fits, read_fits, read_refused_fits, sequence_fits}
-use Rattle.tell_laws.proofs.ReadBack.{IsReadBack, ReadsThird, as_many, read_reply, third_read}
 use Rattle.tell_laws.proofs.WalkTold.{HasPut}
 use Rattle.tell_laws.proofs.Words.{IsKnown, both_short, change_read, change_short, size_read}
 
@@ -57,36 +58,35 @@ short_none (a ∷ []) few = refl
 short_none (a ∷ b ∷ []) few = refl
 short_none (a ∷ b ∷ c ∷ rs) few = absurd (omega (arith, few))
 
-at_third : {T : Type 0} (told : Res → Option T) (third : Res) (rs : List Res) → ReadsThird third rs → at 2 told rs ≡ told third
-at_third told third rs reads = ap (λ (xs : List Res). at 2 told xs) reads.are
-
 -- a result that answers, and says this
 pub record SaysThird {T : Type 0} (answer : Res → Type 0) (told : Res → Option T) (x : T) : Type 0 where
   pub third : Res
   pub answers : answer third
   pub says : told third ≡ Some x
 
-module _ (answer : Res → Type 0) (fits : (r : Res) → answer r → outcome.Fits r) (a : SequenceArgs) (first_fits : operation.Fits (ops.File (args.Sequence a)))
+module _ (reads : ReadsBack) (answer : Res → Type 0) (fits : (r : Res) → answer r → outcome.Fits r) (a : SequenceArgs) (first_fits : operation.Fits (ops.File (args.Sequence a)))
     (most : ℕ) (bounded : most ≤ 2) (tag : List ℕ) (short : length tag ≤ TEXT_LIMIT) (body : List ℕ) (said : IsSaid tag (SaysRight answer a most) body) where
   module _ {T : Type 0} (told : Res → Option T) (x : T) where
     read_third : (s : SaysRight answer a most said.results) (v : Reply) → value_of reply body ≡ Some v → at 2 told v.results ≡ Some x → SaysThird answer told x
     read_third (inl few) v read h =
-        let back = read_reply said.status tag said.results body v said.is short (omega (arith, few)) read in
-        let counted = as_many (length said.results) (flat_map outcome.spell said.results) v back in
+        let counted = (reads said.status tag said.results body v said.is short (omega (arith, few)) read).as_many in
         let none : slice_get v.results 2 ≡ None = short_none v.results (omega (arith, few, counted)) in
         absurd (let both : None ≡ Some x = sym (ap (option_and_then told) none) ∙ h in cc)
     read_third (inr s) v read h =
         let third = s.0 in
         let more = s.1.0 in
         let are = s.1.1.0 in
-        let few : length said.results ≤ 4294967295 = omega (arith, s.1.1.2, bounded, ap (λ (rs : List Res). length rs) are) in
-        let back = read_reply said.status tag said.results body v said.is short few read in
-        let all = subst (λ (rs : List Res). IsReadBack (length rs) (flat_map outcome.spell rs) v) are back in
-        let third_is = third_read (sequence_done a) (File (files.PutFh statuses.OK)) third more v (sequence_fits a first_fits) put_fits (fits third s.1.1.1) all in
+        let three : List Res = sequence_done a ∷ File (files.PutFh statuses.OK) ∷ third ∷ [] in
+        let count : length said.results ≡ length (three ++ more) = ap (λ (rs : List Res). length rs) are in
+        let few : length said.results < 2 ^ 32 = omega (arith, s.1.1.2, bounded, count) in
+        let first =
+        (reads said.status tag said.results body v said.is short few read).first three (flat_map outcome.spell more)
+        (sequence_fits a first_fits, (put_fits, (fits third s.1.1.1, tt))) (omega (arith, count))
+        (ap (λ (rs : List Res). flat_map outcome.spell rs) are ∙ flat_map-append outcome.spell three more) in
         record {
           third = third;
           answers = s.1.1.1;
-          says = sym (at_third told third v.results third_is) ∙ h;
+          says = sym (ap (λ (rs : List Res). at 2 told rs) first.1) ∙ h;
         }
 
     read_value : (r : Option Reply) → value_of reply body ≡ r → at 2 told (results_read r) ≡ Some x → SaysThird answer told x
@@ -194,7 +194,7 @@ module _ {X C : Type 0} (v : Service X C) (fails : GateFails (file_rules v)) (st
 abbrev pub Spelled : Type 0
 Spelled = (bytes : List ℕ) (c : Compound) → IsBytes bytes → compound_of bytes ≡ Ok c → IsCompound c bytes
 
-module _ (read_length : ReadLength) (read_byte : ReadByte) (spelled : Spelled) {X C : Type 0} (rules : Rules X C) (failing : RefusesByFailures rules)
+module _ (reads : ReadsBack) (read_length : ReadLength) (read_byte : ReadByte) (spelled : Spelled) {X C : Type 0} (rules : Rules X C) (failing : RefusesByFailures rules)
     (codes : Codes) (bytes : List ℕ) (are_bytes : IsBytes bytes) (now : ℕ) (s : HostState X C) (t : Stepped X C) (e : Executed)
     (told : IsTold rules codes bytes now s t e) where
   abbrev c : Compound
@@ -234,7 +234,7 @@ module _ (read_length : ReadLength) (read_byte : ReadByte) (spelled : Spelled) {
       let answers : (caller : Caller) (next : Option ℕ) (d : Course X) → HasPut a.handle store d.going
       → ReadAnswers store (file_in a.handle) a.args_are.offset (perform rules.service told.step.choice caller told.step.asked.context.carry next (ops.File (args.Read a.args_are)) d).res =
       λ caller next d put. read_answers rules.service fails store a.handle told.step.choice caller told.step.asked.context.carry a.args_are next d put in
-      let third = says_third answer (read_answer_fits read_length read_byte store (file_in a.handle) a.args_are.offset) a.slot
+      let third = says_third reads answer (read_answer_fits read_length read_byte store (file_in a.handle) a.args_are.offset) a.slot
       (first_fits a.slot a.handle (ops.File (args.Read a.args_are)) [] a.ops_are answer answers) 1 (omega arith) c.tag found.fits.tag body
       (said a.slot a.handle (ops.File (args.Read a.args_are)) [] a.ops_are answer answers) told_bytes bytes_told h in
       subst (λ (p : Place). DataRight store.volume p.file p.off bytes_told) a.place_is
@@ -248,7 +248,7 @@ module _ (read_length : ReadLength) (read_byte : ReadByte) (spelled : Spelled) {
       let answers : (caller : Caller) (next : Option ℕ) (d : Course X) → HasPut a.handle store d.going
       → AttributesAnswer store (file_in a.handle) a.word (perform rules.service told.step.choice caller told.step.asked.context.carry next (ops.File (args.GetAttr (a.word ∷ []))) d).res =
       λ caller next d put. attributes_answer rules.service fails store a.handle told.step.choice caller told.step.asked.context.carry a.word next d put in
-      let third = says_third answer (attributes_answer_fits store (file_in a.handle) a.word a.known) a.slot
+      let third = says_third reads answer (attributes_answer_fits store (file_in a.handle) a.word a.known) a.slot
       (first_fits a.slot a.handle (ops.File (args.GetAttr (a.word ∷ []))) a.rest a.ops_are answer answers) (length a.rest + 1) (omega (arith, a.few)) c.tag found.fits.tag body
       (said a.slot a.handle (ops.File (args.GetAttr (a.word ∷ []))) a.rest a.ops_are answer answers) field x h in
       (a.word, (a.known, subst (λ f. SaysThird (AttributesAnswer store f a.word) field x) a.file_is third))

@@ -21,9 +21,10 @@ use Rattle.compound_server.specs.Performing.{asks_later, done, file_done, file_r
 use Rattle.compound_server.specs.Refusals.{place_refusal, tail_refusal}
 use Rattle.compound_server.specs.Walking.{Walked, at_tail, walk}
 use Rattle.compound_server.specs.declared.refusing.TailRefusal.{TailRefusal}
+use Rattle.own_laws.specs.Quiet.{QuietMakeNoCall}
 use Rattle.tell_laws.specs.Volumes.{ServesNone}
 use Rattle.tell_laws.proofs.Makes.{Makes, makes_more, makes_none, makes_then}
-use Rattle.tell_laws.proofs.FileCalls.{attributes_keep, close_keeps, commit_calls, get_keeps, lookup_keeps, open_keeps, put_keeps, put_root_keeps, read_calls, restore_keeps, save_keeps, write_calls_few}
+use Rattle.tell_laws.proofs.FileCalls.{commit_calls, read_calls, write_calls_few}
 
 -- ---- how many calls several operations make at most
 
@@ -38,31 +39,16 @@ calls_behind op ops = omega (arith, sum_from (0 + op_calls op) ops)
 abbrev went : {X : Type 0} → (ok : Bool) → Performed X → Walked X → Walked X
 went ok a w = if ok then record { course = w.course; results = a.res ∷ w.results } else record { course = a.course; results = a.res ∷ [] }
 
-module _ {X C : Type 0} (v : Service X C) (serves : ServesNone v) (choice : Choice) (caller : Caller) (carry : Option C) where
+module _ {X C : Type 0} (v : Service X C) (quiet : QuietMakeNoCall v) (serves : ServesNone v) (choice : Choice) (caller : Caller) (carry : Option C) where
   abbrev pub Calls : ℕ → Course X → Course X → Type 0
   Calls most c d = Makes most c.going.used d.going.used
 
   file_makes : (next : Option ℕ) (a : FileArg) (c : Course X) → Calls (file_calls a) c (file_done v choice caller carry next a c).course
   unfolding file_done
-  file_makes next (args.Close a) c = makes_none 0 c.going.used _ (close_keeps a c.going)
   file_makes next (args.Commit a) c = commit_calls choice c.going
-  file_makes next (args.GetAttr mask) c = makes_none 0 c.going.used _ (attributes_keep (file_rules v) caller carry mask c.going)
-  file_makes next args.GetFh c = makes_none 0 c.going.used _ (get_keeps c.going)
-  file_makes next (args.Lookup name) c = makes_none 0 c.going.used _ (lookup_keeps name c.going)
-  file_makes next (args.Open a) c = makes_none 0 c.going.used _ (open_keeps caller a c.going)
-  file_makes next (args.PutFh handle) c = makes_none 0 c.going.used _ (put_keeps next handle c.going)
-  file_makes next args.PutRootFh c = makes_none 0 c.going.used _ (put_root_keeps c.going)
   file_makes next (args.Read a) c = read_calls (file_rules v) caller carry choice a c.going
-  file_makes next args.RestoreFh c = makes_none 0 c.going.used _ (restore_keeps c.going)
-  file_makes next args.SaveFh c = makes_none 0 c.going.used _ (save_keeps c.going)
   file_makes next (args.Write a) c = write_calls_few choice a c.going
-  file_makes next (args.ReclaimComplete one_fs) c = makes_none 0 c.going.used _ refl
-  file_makes next args.Illegal c = makes_none 0 c.going.used _ refl
-  file_makes next (args.ExchangeId a) c = makes_none 0 c.going.used _ refl
-  file_makes next (args.CreateSession a) c = makes_none 0 c.going.used _ refl
-  file_makes next (args.DestroySession a) c = makes_none 0 c.going.used _ refl
-  file_makes next (args.Sequence a) c = makes_none 0 c.going.used _ refl
-  file_makes next (args.DestroyClientId a) c = makes_none 0 c.going.used _ refl
+  file_makes next a c = makes_none 0 c.going.used _ (quiet choice caller carry next a c refl)
 
   done_makes : (next : Option ℕ) (op : Op) (c : Course X) → Calls (op_calls op) c (done v choice caller carry next op c).course
   done_makes next (File a) c = file_makes next a c

@@ -1,3 +1,4 @@
 pub mod Fitting
 pub mod Volumes
 pub mod Telling
+pub mod ReadBack

@@ -1,5 +1,6 @@
 ghost use Rattle.session_server.specs.Host.{rules_of};
 ghost use Rattle.server_laws.specs.ContextLaws.{InEachStep};
+ghost use Rattle.tell_laws.specs.ReadBack.{ReadsBack};
 ghost use Rattle.tell_laws.specs.Telling.{RefusesByFailures, TellsOfVolume};
 
 use session_server::Extending;
@@ -14,4 +15,10 @@ pub fn steps_tell_of_the_volume<X: Extending<C>, C, W: Draws>()
     server_laws::steps_carry_compounds_out::<X, C, W>();
     copy_model::written_bytes();
     nfs_compound::compounds_are_spelled();
+    results_are_read_back();
 }
+
+/// The results of a reply are read back from its bytes, in their order, up to the first that can't be spelled.
+pub fn results_are_read_back()
+    ensures { ReadsBack }
+{}

@@ -22,6 +22,7 @@ pub fn steps_call_once<X: Extending<C>, C, W: Draws>()
     ensures root { (mech : X.Mech) → CallsNone (rules_of X.gated X.serves X.leaves X.lapses X.judges X.tells X.silent) → InEachStep (rules_of X.gated X.serves X.leaves X.lapses X.judges X.tells X.silent) (record { mic = X.Mech.mic_of; derived = X.Mech.derived }) (X.Mech.accepted mech) W.gives SparesRoot }
 {
     server_laws::steps_carry_compounds_out::<X, C, W>();
+    own_laws::quiet_operations_make_no_call::<X, C>();
 }
 
 /// One call at most changes a volume by one effect that is allowed (`wire_model`'s `VolumeLaws`): the one that is seen of the call and

@@ -33,12 +33,12 @@ returns g c =
     λ name says.
     safe_then accepts whose mic read s k _ speaker _ d t shows keep later by name
     (committed_shown s k d name shows.before held.given
-    (record_says c.compounds_are_spelled.ensures.found codes _ _ (c.steps_carry_compounds_out.ensures.told mech) conn message now d before after t fair held.have is name says)) in (
+    (record_says c.results_are_read_back.ensures c.compounds_are_spelled.ensures.found codes _ _ (c.steps_carry_compounds_out.ensures.told mech) conn message now d before after t fair held.have is name says)) in (
       held_then accepts whose mic read s k _ speaker _ d t shows keep later by held are sealed says (taken.sessions mech conn message now d before after t is held.fit) (takes_caused (jobs_in d) (jobs_in t.host) (c.records_take_and_end.ensures.record_ mech conn message now d before after t is) held.have),
       reports_then accepts whose mic read s k _ speaker _ d t shows keep later by held are sealed says,
       λ os results plan name executed asks named.
           copy_accepted _ _ s k _ speaker _ d t shows held.given plan name
-          (record_copies c.compounds_are_spelled.ensures.found codes _ _ (c.steps_carry_compounds_out.ensures.told mech) conn message now d before after t fair
+          (record_copies c.results_are_read_back.ensures c.compounds_are_spelled.ensures.found codes _ _ (c.steps_carry_compounds_out.ensures.told mech) conn message now d before after t fair
           (record { ops = os; results = results }) (sym (ap (λ (a : Acts). a.executed) shows.acts) ∙ executed) plan name asks named is),
       status_then accepts whose mic read s k _ speaker _ d t shows keep later by held are sealed says,
     )

@@ -1,21 +1,20 @@
 use Rattle.dest_own.specs.Going.{jobs_in}
 use Rattle.dest_sound.proofs.Deeds.{none_kept, takes_keep}
 use Rattle.dest_sound.proofs.Logs.{LogLaws}
-use Rattle.dest_sound.proofs.Steps.{EntryLaws, failure_keeps, reply_keeps, tick_keeps, work_keeps}
+use Rattle.dest_sound.proofs.Steps.{failure_keeps, reply_keeps, tick_keeps, work_keeps}
 use Rattle.dest_sound.proofs.laws.tables_stay_sound.Goals as goal
 
 pub returns : goal.returns
 returns g c =
     let grow = c.logs_grow.ensures in
     let logs : LogLaws = record { same = grow.same; first = grow.first; stays = grow.stays; fails = grow.fails; none = c.first_chunks.ensures.none } in
-    let told = c.steps_give_one_entry.ensures in
-    let laws : EntryLaws = record { due = told.due; clients = told.clients } in
+    let quiet = c.steps_give_one_entry.ensures.begin in
     record {
       begin = none_kept;
       record_ = λ mech conn message now s before after t is kept.
           takes_keep logs (jobs_in s) (jobs_in t.host) (c.records_take_and_end.ensures.record_ mech conn message now s before after t is) kept;
-      work = work_keeps logs laws _;
-      reply = reply_keeps logs laws;
-      failure = failure_keeps logs laws;
-      tick = tick_keeps logs laws;
+      work = work_keeps _ logs quiet;
+      reply = reply_keeps _ logs quiet;
+      failure = failure_keeps _ logs quiet;
+      tick = tick_keeps _ logs quiet;
     }
