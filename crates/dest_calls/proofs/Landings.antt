@@ -1,13 +1,11 @@
 -- What is done on the volume and to the jobs leaves the mount, and tells clients alone.
-use Rattle.std.proofs.Common.{◌≡◌, ◌∙◌, inl, inr, ℕ, Bool, true, false, List, [], ◌∷◌, length, Option, Some, None, refl, sym, ap}
+use Rattle.std.proofs.Common.{◌≡◌, ◌∙◌, inl, inr, ℕ, Bool, true, false, List, [], length, Option, Some, None, refl, sym, ap}
 use Rattle.std.proofs.lemmas.Bool.{cases_eq}
 use Rattle.std.proofs.lemmas.List.{get_or-set_other}
 use Rattle.block_file.specs.declared.faults.ReadFault.{ReadFault}
 use Rattle.block_file.specs.declared.faults.WriteFault.{WriteFault}
 use Rattle.block_file.specs.declared.faults.WriteFault.TheVariants as faults
 use Rattle.caller_laws.specs.Good.{Identity}
-use Rattle.copy_model.specs.Volume.{Volume, write}
-use Rattle.commit_laws.specs.Calling.{CameByCalls}
 use Rattle.dest_back.specs.Callbacks.{CallbackTable}
 use Rattle.dest_steps.specs.Landing as landings
 use Rattle.dest_steps.specs.Landing.{Doing, Done as DoneTo, landed, stopped}
@@ -30,60 +28,11 @@ use Rattle.mount.specs.State.{Mounted, awaited_at}
 use Rattle.mount.specs.declared.state.Awaiting.{Awaiting}
 use Rattle.nfs_base.specs.declared.job.JobName.{JobName}
 use Rattle.nfs_base.specs.declared.job.Stop.{Stop}
-use Rattle.server_volume.specs.Calls.{Asked, Called, Commits, Reads, Writes, called, commit_call, left_by, write_call}
-use Rattle.server_volume.specs.Moments.{Made, after_calls}
-use Rattle.server_volume.specs.declared.used.CallAnswer.{CallAnswer}
-use Rattle.server_volume.specs.declared.used.CallAnswer.TheVariants.{DiskFailed, Done, Refused}
-use Rattle.server_volume.specs.Choices.{Choice, Fate, Failed, Went}
-use Rattle.server_volume.specs.Store.{Store}
-use Rattle.server_volume.specs.declared.used.Used.{Used}
+use Rattle.server_volume.specs.Calls.{Called, Commits, commit_call, write_call}
+use Rattle.server_volume.specs.declared.used.CallAnswer.TheVariants.{DiskFailed}
+use Rattle.server_volume.specs.Choices.{Choice}
 use Rattle.dest_calls.proofs.Callbacks.{Tells, TellsBy, tells_none}
 use Rattle.dest_calls.specs.Settled.{AreClients}
-
--- ---- a call on the volume leaves its opening's number
-
-abbrev pub boot_in : Store → ℕ
-boot_in s = s.volume.boot
-
-write_boot : (v : Volume) (file off : ℕ) (bytes : List ℕ) → (write v file off bytes).boot ≡ v.boot
-write_boot v file off [] = refl
-write_boot v file off (b ∷ bs) = refl
-
-write_called : (o : Option WriteFault) (fails : WriteFault) (fate : Fate) (file off : ℕ) (bytes : List ℕ) (used : List Used) (s : Store)
-    → boot_in (called o fails fate (Writes file off bytes) used s).store ≡ boot_in s
-write_called (Some fault) fails fate file off bytes used s = refl
-write_called None fails Went file off bytes used s = write_boot s.volume file off bytes
-write_called None fails Failed file off bytes used s = refl
-
-commit_called : (o : Option ReadFault) (fails : ReadFault) (fate : Fate) (file : ℕ) (used : List Used) (s : Store)
-    → boot_in (called o fails fate (Commits file) used s).store ≡ boot_in s
-commit_called (Some fault) fails fate file used s = refl
-commit_called None fails Went file used s = refl
-commit_called None fails Failed file used s = refl
-
-pub write_keeps : (choice : Choice) (used : List Used) (s : Store) (file off : ℕ) (bytes : List ℕ) → boot_in (write_call choice used s file off bytes).store ≡ boot_in s
-unfolding write_call
-write_keeps choice used s file off bytes = write_called _ _ _ file off bytes used s
-
-pub commit_keeps : (choice : Choice) (used : List Used) (s : Store) (file : ℕ) → boot_in (commit_call choice used s file).store ≡ boot_in s
-unfolding commit_call
-commit_keeps choice used s file = commit_called _ _ _ file used s
-
-left_boot : (asked : Asked) (answer : CallAnswer) (s : Store) → boot_in (left_by asked answer s) ≡ boot_in s
-left_boot asked Refused s = refl
-left_boot (Reads file off len) Done s = refl
-left_boot (Reads file off len) DiskFailed s = refl
-left_boot (Writes file off bytes) Done s = write_boot s.volume file off bytes
-left_boot (Writes file off bytes) DiskFailed s = refl
-left_boot (Commits file) Done s = refl
-left_boot (Commits file) DiskFailed s = refl
-
-calls_boot : (s : Store) (calls : List Made) → boot_in (after_calls s calls) ≡ boot_in s
-calls_boot s [] = refl
-calls_boot s (call ∷ calls) = calls_boot (left_by call.asked call.answer s) calls ∙ left_boot call.asked call.answer s
-
-pub came_boot : (old new : Store) (used more : List Used) → CameByCalls old new used more → boot_in old ≡ boot_in new
-came_boot old new used more came = sym (ap boot_in came.store ∙ calls_boot old came.calls)
 
 -- ---- posts
 
@@ -109,7 +58,6 @@ pub record Ends (who : Identity) (m : Mounted) (d : Doing) (done : DoneTo) : Typ
   pub mount : done.doing.copier.work.mount ≡ d.copier.work.mount
   pub posts : KeepsPurposes d.copier.work.mount d.copier.work.workers done.doing.copier.work.workers
   pub tells : Tells who m d.copier.back done.sent done.doing.copier.back
-  pub boot : boot_in done.doing.store ≡ boot_in d.store
 
 abbrev pub LandingTells : Identity → Mounted → CallbackTable → Option Landing → Type 0
 LandingTells who m back None = Unit {0}
@@ -125,10 +73,10 @@ TurnTells who m back _ = Unit {0}
 
 module _ (who : Identity) (m : Mounted) where
   pub still_ends : (d : Doing) → AreClients d.copier.back → Ends who m d (landings.still d)
-  still_ends d clients = record { mount = refl; posts = λ place a there. refl; tells = tells_none who m d.copier.back clients; boot = refl }
+  still_ends d clients = record { mount = refl; posts = λ place a there. refl; tells = tells_none who m d.copier.back clients }
 
   pub stopped_ends : (job : JobName) (cause : Stop) (told : Telling) (d : Doing) → TellsBy who m d.copier.back told → Ends who m d (stopped job cause told d)
-  stopped_ends job cause told d tells = record { mount = refl; posts = λ place a there. refl; tells = tells; boot = refl }
+  stopped_ends job cause told d tells = record { mount = refl; posts = λ place a there. refl; tells = tells }
 
   fault_tells : (fault : WriteFault) (told : Landing) (back : CallbackTable) → TellsBy who m back told.fault → TellsBy who m back told.worn
       → TellsBy who m back (landings.told_of fault told)
@@ -137,13 +85,13 @@ module _ (who : Identity) (m : Mounted) where
   fault_tells faults.DiskFailed told back fault worn = fault
   fault_tells faults.Broken told back fault worn = fault
 
-  written_ends : (job : JobName) (chunk : Chunk) (told : Landing) (d : Doing) (c : Called WriteFault) → boot_in c.store ≡ boot_in d.store → AreClients d.copier.back
+  written_ends : (job : JobName) (chunk : Chunk) (told : Landing) (d : Doing) (c : Called WriteFault) → AreClients d.copier.back
       → TellsBy who m d.copier.back told.fault → TellsBy who m d.copier.back told.worn → (o : Option WriteFault)
       → Ends who m d (landings.written job chunk told o (landings.with_write c d))
-  written_ends job chunk told d c boot clients fault worn None =
-      record { mount = refl; posts = λ place a there. refl; tells = tells_none who m d.copier.back clients; boot = boot }
-  written_ends job chunk told d c boot clients fault worn (Some why) =
-      record { mount = refl; posts = λ place a there. refl; tells = fault_tells why told d.copier.back fault worn; boot = boot }
+  written_ends job chunk told d c clients fault worn None =
+      record { mount = refl; posts = λ place a there. refl; tells = tells_none who m d.copier.back clients }
+  written_ends job chunk told d c clients fault worn (Some why) =
+      record { mount = refl; posts = λ place a there. refl; tells = fault_tells why told d.copier.back fault worn }
 
   where_ends : (choice : Choice) (job : JobName) (chunk : Chunk) (bytes : List ℕ) (told : Landing) (d : Doing) → AreClients d.copier.back
       → TellsBy who m d.copier.back told.fault → TellsBy who m d.copier.back told.worn → (o : Option (ℕ × ℕ))
@@ -151,7 +99,7 @@ module _ (who : Identity) (m : Mounted) where
   where_ends choice job chunk bytes told d clients fault worn None = still_ends d clients
   where_ends choice job chunk bytes told d clients fault worn (Some place) =
       let c = write_call choice d.used d.store place.0 place.1 bytes in
-      written_ends job chunk told d c (write_keeps choice d.used d.store place.0 place.1 bytes) clients fault worn c.fault
+      written_ends job chunk told d c clients fault worn c.fault
 
   if_ends : (choice : Choice) (job : JobName) (chunk : Chunk) (bytes : List ℕ) (d : Doing) → AreClients d.copier.back → (told : Option Landing)
       → LandingTells who m d.copier.back told → Ends who m d (landings.written_if choice job chunk bytes told d)
@@ -164,12 +112,11 @@ module _ (who : Identity) (m : Mounted) where
   landed_ends choice place job chunk bytes told d clients tells free = by (table_landing d.copier.copies.book.table (id_of job) chunk)
     where
       by : (t : TakesIt) → Ends who m d (landings.landed_by t choice place job chunk bytes told d)
-      by takes.Late = record { mount = refl; posts = λ q a there. refl; tells = tells_none who m d.copier.back clients; boot = refl }
+      by takes.Late = record { mount = refl; posts = λ q a there. refl; tells = tells_none who m d.copier.back clients }
       by takes.Held = record {
         mount = refl;
         posts = put_keeps d.copier.work.mount place (Holds job chunk bytes) d.copier.work.workers free;
         tells = tells_none who m d.copier.back clients;
-        boot = refl;
       }
       by takes.Landed = if_ends choice job chunk bytes d clients told tells
 
@@ -179,7 +126,6 @@ module _ (who : Identity) (m : Mounted) where
     mount = refl;
     posts = put_keeps d.copier.work.mount place Idle d.copier.work.workers free;
     tells = tells_none who m d.copier.back clients;
-    boot = refl;
   }
   held_ends choice place told d clients tells free (Awaits job errand) = still_ends d clients
   held_ends choice place told d clients tells free (Holds job chunk bytes) =
@@ -191,13 +137,12 @@ module _ (who : Identity) (m : Mounted) where
         posts = keeps_on d.copier.work.mount d.copier.work.workers e.copier.work.workers done.doing.copier.work.workers
             (put_keeps d.copier.work.mount place Idle d.copier.work.workers free) ends.posts;
         tells = ends.tells;
-        boot = ends.boot;
       }
 
-  commit_ends : (job : JobName) (told : Committing) (d : Doing) (c : Called ReadFault) → boot_in c.store ≡ boot_in d.store → TellsBy who m d.copier.back told.done
+  commit_ends : (job : JobName) (told : Committing) (d : Doing) (c : Called ReadFault) → TellsBy who m d.copier.back told.done
       → TellsBy who m d.copier.back told.fault → (o : Option ReadFault) → Ends who m d (workings.commit_done job told o (workings.with_commit c d))
-  commit_ends job told d c boot done fault None = record { mount = refl; posts = λ q a there. refl; tells = done; boot = boot }
-  commit_ends job told d c boot done fault (Some why) = record { mount = refl; posts = λ q a there. refl; tells = fault; boot = boot }
+  commit_ends job told d c done fault None = record { mount = refl; posts = λ q a there. refl; tells = done }
+  commit_ends job told d c done fault (Some why) = record { mount = refl; posts = λ q a there. refl; tells = fault }
 
   committed_ends : (choice : Choice) (job : JobName) (told : Committing) (d : Doing) → AreClients d.copier.back → TellsBy who m d.copier.back told.done
       → TellsBy who m d.copier.back told.fault → (may : Bool) → Ends who m d (workings.commit_if may choice job told d)
@@ -208,7 +153,7 @@ module _ (who : Identity) (m : Mounted) where
       by None = still_ends d clients
       by (Some file) =
           let c = commit_call choice d.used d.store file in
-          commit_ends job told d c (commit_keeps choice d.used d.store file) done fault c.fault
+          commit_ends job told d c done fault c.fault
 
   -- a turn by which nothing goes out to the source
   pub made_ends : (choice : Choice) (place : ℕ) (turn : Turn) (d : Doing) → AreClients d.copier.back → TurnTells who m d.copier.back turn

@@ -2,6 +2,7 @@ mod Callbacks
 mod GivenOut
 mod Plans
 mod Asking
+mod Boots
 mod Landings
 mod Wholes
 mod Dues

@@ -8,7 +8,7 @@ use Rattle.dest_back.specs.Callbacks.{CallbackTable}
 use Rattle.dest_steps.specs.Copier.{Around, Codes}
 use Rattle.dest_steps.specs.Landing.{Doing, Done}
 use Rattle.dest_steps.specs.Replying as replyings
-use Rattle.dest_steps.specs.Replying.{IsFound, IsHeard, IsHeardBy, IsHeardIf, effect_done, is_read, mounted, taken_of}
+use Rattle.dest_steps.specs.Replying.{IsFound, IsHeardBy, IsHeardIf, effect_done, mounted}
 use Rattle.call_results.specs.Results.{at, told_bytes, told_size}
 use Rattle.dest_steps.specs.Turning.{landing_for, landing_if}
 use Rattle.dest_steps.specs.declared.copier.Copier.{Copier}
@@ -41,7 +41,7 @@ use Rattle.outbox.specs.declared.note.Dropped.{Dropped}
 use Rattle.outbox.specs.declared.note.Dropped.TheVariants.{Unmatched, Unread}
 use Rattle.server_volume.specs.Choices.{Choice}
 use Rattle.dest_calls.proofs.Callbacks.{TellsBy, Tells, stop_goes, tells_none}
-use Rattle.dest_calls.proofs.Landings.{Ends, KeepsPurposes, LandingTells, boot_in, keeps_on, landed_ends, stopped_ends}
+use Rattle.dest_calls.proofs.Landings.{Ends, KeepsPurposes, LandingTells, keeps_on, landed_ends, stopped_ends}
 use Rattle.dest_calls.proofs.Settling.{settled_keeps}
 use Rattle.dest_calls.proofs.TakenCalls.{taken_calls}
 use Rattle.dest_calls.specs.Settled.{AreClients}
@@ -145,7 +145,6 @@ pub record EffectEnds (who : Identity) (m n : Mounted) (d : Doing) (done : Done)
   pub mount : done.doing.copier.work.mount ≡ n
   pub posts : KeepsPurposes n d.copier.work.workers done.doing.copier.work.workers
   pub tells : Tells who m d.copier.back done.sent done.doing.copier.back
-  pub boot : boot_in done.doing.store ≡ boot_in d.store
 
 module _ (who : Identity) (m : Mounted) (place : ℕ) (choice : Choice) (d : Doing) (clients : AreClients d.copier.back) where
   after_mounted : (n : Mounted) (done : Done) → Ends who m (record d { copier = mounted n d.copier }) done → EffectEnds who m n d done
@@ -153,17 +152,16 @@ module _ (who : Identity) (m : Mounted) (place : ℕ) (choice : Choice) (d : Doi
     mount = ends.mount;
     posts = keeps_on n d.copier.work.workers (settled (with_mount n d.copier.work)).workers done.doing.copier.work.workers (settled_keeps n d.copier.work) ends.posts;
     tells = ends.tells;
-    boot = ends.boot;
   }
 
   pub effect_ends : (n : Mounted) (effect : Effect) → Effects who m d.copier.back place n effect → EffectEnds who m n d (effect_done choice place effect d)
   effect_ends n (effects.Drops why) does = absurd does
   effect_ends n (effects.Goes k) does =
       subst (λ (x : Mounted). EffectEnds who m x d (effect_done choice place (effects.Goes k) d)) does
-      (record { mount = refl; posts = settled_keeps k d.copier.work; tells = tells_none who m d.copier.back clients; boot = refl })
+      (record { mount = refl; posts = settled_keeps k d.copier.work; tells = tells_none who m d.copier.back clients })
   effect_ends n (effects.Denied job k) does =
       subst (λ (x : Mounted). EffectEnds who m x d (effect_done choice place (effects.Denied job k) d)) does
-      (record { mount = refl; posts = settled_keeps k d.copier.work; tells = tells_none who m d.copier.back clients; boot = refl })
+      (record { mount = refl; posts = settled_keeps k d.copier.work; tells = tells_none who m d.copier.back clients })
   effect_ends n (effects.Stops job cause told k) does =
       subst (λ (x : Mounted). EffectEnds who m x d (effect_done choice place (effects.Stops job cause told k) d)) does.0
       (after_mounted k (effect_done choice place (effects.Stops job cause told k) d) (stopped_ends who m job cause told (record d { copier = mounted k d.copier }) does.1))

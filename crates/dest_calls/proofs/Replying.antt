@@ -42,6 +42,7 @@ use Rattle.wire_model.specs.CallerLaws.{LearnsRoot}
 use Rattle.wire_model.specs.Spelling.{Context, SlotName}
 use Rattle.wire_model.specs.Wire.{Acts, Awaited, Begins, Executed, Purpose}
 use Rattle.wire_spelling.specs.Spelling.{spelling}
+use Rattle.dest_calls.proofs.Boots.{effect_stays}
 use Rattle.dest_calls.proofs.Replies.{Becomes, Effects, IsNothing, IsSomething, IsUnmatched, TakenOnce, calls_same, effect_ends, heard_so}
 use Rattle.dest_calls.proofs.TakenCalls.{taken_child}
 use Rattle.dest_calls.proofs.Wholes.{Moves, fall_whole, gives_whole, rest_whole, stays_ready, take_whole}
@@ -171,8 +172,7 @@ module _ {M : Type 0} (who : Identity) (means : Means) (obeys : (a b : Above) (m
       where
         moves : (k : Mounted) → n ≡ k → Moves k (above_of s) (above_of (T effect accepted x).host)
         moves k same = record {
-          boot = sym (effect_ends who (mount_of s) place choice (doing_in (Start x)) (subst AreClients (sym backs) settled.clients) n effect
-              (subst (λ (b : CallbackTable). Effects who (mount_of s) b place n effect) (sym backs) does)).boot;
+          boot = sym (effect_stays choice place effect (doing_in (Start x)));
           ready = stays_ready (made_in s) (made_in (T effect accepted x).host) later;
           purpose = λ q a there.
               (effect_ends who (mount_of s) place choice (doing_in (Start x)) (subst AreClients (sym backs) settled.clients) n effect

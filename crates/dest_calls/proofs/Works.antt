@@ -39,6 +39,7 @@ use Rattle.wire_spelling.specs.Spelling.{spelling}
 use Rattle.dest_calls.proofs.Asking.{IsReady}
 use Rattle.dest_calls.proofs.Callbacks.{max_left}
 use Rattle.dest_calls.proofs.Dues.{IsAsked, IsIdle, dues_turn}
+use Rattle.dest_calls.proofs.Boots.{made_stays}
 use Rattle.dest_calls.proofs.Landings.{Ends, TurnTells, made_ends, put_keeps}
 use Rattle.dest_calls.proofs.Wholes.{rest_whole, send_whole, stays_ready}
 use Rattle.dest_calls.specs.Fits.{WorkIsFit}
@@ -97,7 +98,7 @@ module _ {M : Type 0} (who : Identity) (means : Means) (went : (at : SendAt) (se
       subst (λ (n : Mounted). AreBesides (spelling who.accepts who.whose) Source (last_xid m c.back) (map sent_of done.sent) (last_xid n done.doing.copier.back)) (sym same) tells in
       let step = rest_whole who means (above_of s) (above_of (T turn x).host) m done.doing.copier.work.mount (part_acts (part_by None speaker (T turn x)) executed) same
       (record {
-        boot = sym ends.boot;
+        boot = sym (made_stays choice place turn d);
         ready = stays_ready (made_in s) (made_in (T turn x).host) later;
         purpose = λ q a there.
             ends.posts q a (ap (λ (w : Work). awaited_at w.mount q) works ∙ there)

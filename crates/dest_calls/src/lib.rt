@@ -6,14 +6,17 @@
 //! record on a connection by [`records_are_seen`], a link that failed by [`failures_are_seen`]. What is seen so obeys the
 //! laws by [`seen_steps_are_lawful`], where what is asked can be spelled: [`fit_steps_are_spelled`] says when it can (`specs/Fits.antt`).
 //! What a worker hears it answers by no reply ([`heard_records_are_not_answered`]).
-//! What holds between steps holds at the beginning ([`destinations_begin_settled`]) and stays.
+//! What holds between steps holds at the beginning ([`destinations_begin_settled`]) and stays; so does the number of the volume's
+//! opening ([`openings_stay`]).
 #![tactic(auto)]
 
 mod following;
+mod openings;
 mod seen;
 mod whole;
 
 pub use following::SeatsAlong;
+pub use openings::openings_stay;
 pub use seen::{
     failures_are_seen, heard_records_are_not_answered, records_are_seen, replies_are_seen,
     rests_are_seen, ticks_are_seen, workers_turns_are_seen,

@@ -26,6 +26,7 @@ use mount_runs::sends_are_counted;
 use own_laws::own_parts_go_on;
 use reply_laws::servers_send_replies;
 use streams::Draws;
+use tell_laws::volumes_stay_fitting;
 
 /// In a worker's turn one call goes out to the source, for a job that was accepted, or none does and a client may be called back. What
 /// goes out keeps to the bounds where the jobs' plans do, and what is drawn.
@@ -104,6 +105,7 @@ pub fn records_are_seen<M: Mechanism, W: Draws>()
 {
     own_parts_go_on::<SeatsAlong, Destination<M>, Carried, W>();
     steps_change_by_calls::<Destination<M>, Carried, W>();
+    volumes_stay_fitting();
     servers_send_replies::<Destination<M>, Carried, W>();
     tokens_agree::<M>();
     steps_go_by_deeds::<M, W>();

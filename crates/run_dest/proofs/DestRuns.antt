@@ -2,7 +2,6 @@
 use Rattle.std.proofs.Common.{◌≡◌, ◌⊎◌, inl, inr, ℕ, zero, suc, ◌+◌, ◌*◌, ◌<◌, ◌≤◌, ◌^◌, Bool, true, false, List, [], ◌∷◌, length, map, slice_get, Option, Some, None, refl, sym, ap, subst, ◌∙◌, arith}
 use Rattle.std.specs.Prelude.{All, max}
 use Rattle.std.proofs.lemmas.List.Elements.{All-cons, All-contains, All-nil}
-use Rattle.std.proofs.lemmas.Option.{same_Some}
 use Rattle.client_laws.specs.WholeTurns.{Purposes}
 use Rattle.context_laws.specs.View.{AreNumbered}
 use Rattle.copy_model.specs.Effect.{after}
@@ -18,13 +17,13 @@ use Rattle.nfs_base.specs.declared.seal.End.{End}
 use Rattle.nfs_base.specs.declared.seal.End.TheVariants.{Dest}
 use Rattle.nfs_base.specs.declared.seal.Seal.{Seal}
 use Rattle.nfs_base.specs.declared.side.Side.TheVariants as sides
-use Rattle.outbox.specs.declared.outgoing.Outbox.{Outbox}
 use Rattle.outbox.specs.declared.outgoing.Outgoing.{Outgoing}
 use Rattle.rpc_calls.specs.Judging.{judged_of}
 use Rattle.rpc_calls.specs.declared.call.Judged.{Judged}
 use Rattle.rpc_calls.specs.declared.call.Judged.TheVariants as judged
 use Rattle.rpc_calls.specs.declared.call.TheConstants.Program as programs
 use Rattle.run_dest.specs.Lawful.{IsLawfulDest}
+use Rattle.run_system.specs.Moments.{made_at}
 use Rattle.run_system.specs.System.{ClientView, system_of, telling, told_in}
 use Rattle.server_laws.specs.Acts.{acts_of, sent_of, tells, told}
 use Rattle.server_laws.specs.ContextLaws.{InEachStep, KeepsGood}
@@ -45,7 +44,6 @@ use Rattle.wire_machine.specs.History.{At, at_moment, called_with, is_call, next
 use Rattle.wire_machine.specs.History as history
 use Rattle.wire_machine.specs.Runs.{Numbered}
 use Rattle.wire_machine.specs.Steps.{AreSteps}
-use Rattle.wire_machine.specs.Steps as small
 use Rattle.wire_machine.specs.World.{Part, Parts, all_idle}
 use Rattle.wire_meaning.specs.Meaning.{meaning}
 use Rattle.wire_model.specs.Copies.{bare_effect}
@@ -57,7 +55,7 @@ use Rattle.wire_run.specs.Run.{IsFirst, shape_of}
 use Rattle.wire_run.specs.Running.{RunMachines, RunStep, RunWorld}
 use Rattle.wire_spelling.specs.Replies.{is_reply}
 use Rattle.wire_spelling.specs.Spelling.{spelling}
-use Rattle.run_dest.proofs.ServerSteps.{AsksAlone, Did, IsHeardAlone, LeavesServer, Rests, Takes, small_did}
+use Rattle.run_dest.proofs.ServerSteps.{AsksAlone, Did, IsHeardAlone, LeavesServer, Takes, small_did}
 
 -- ---- a server that takes no call and tells nothing
 
@@ -267,23 +265,6 @@ module _ {M : Type 0} (words : Words M ℕ) (known : AreKnownDest words) (accept
     abbrev moment : RunWorld M → List (RunStep M) → ℕ → At m (telling codes) spell meaning
     moment before more k = at_moment m (telling codes) spell meaning before more k
 
-    next_same : (a b : At m (telling codes) spell meaning) (o : Option (RunStep M)) → a.world ≡ b.world
-        → (next m (telling codes) spell meaning a o).world ≡ (next m (telling codes) spell meaning b o).world
-    next_same a b None same = same
-    next_same a b (Some s) same = refl
-
-    moment_later : (before : RunWorld M) (s : RunStep M) (more : List (RunStep M)) (k : ℕ) → (moment before (s ∷ more) (suc k)).world ≡ (moment s.after more k).world
-    moment_later before s more zero = refl
-    moment_later before s more (suc k) =
-        next_same (moment before (s ∷ more) (suc k)) (moment s.after more k) (slice_get more k) (moment_later before s more k)
-
-    step_at : (before : RunWorld M) (more : List (RunStep M)) (k : ℕ) (s : RunStep M) → AreSteps m before more → slice_get more k ≡ Some s
-        → small.IsStep m (moment before more k).world s
-    step_at before [] k s done is = absurd cc
-    step_at before (x ∷ more) zero s done is = subst (λ (y : RunStep M). small.IsStep m before y) (same_Some x s is) done.0
-    step_at before (x ∷ more) (suc k) s done is =
-        subst (λ (w : RunWorld M). small.IsStep m w s) (sym (moment_later before x more k)) (step_at x.after more k s done.1 is)
-
     abbrev acts_by_step : RunWorld M → Option (RunStep M) → Acts
     acts_by_step before o = history.acts_of m (telling codes) spell meaning before o Dest
 
@@ -293,7 +274,7 @@ module _ {M : Type 0} (words : Words M ℕ) (known : AreKnownDest words) (accept
     goes_at k None is sound = rests_right (moment first steps k).world sound
     goes_at k (Some s) is sound =
         let before = (moment first steps k).world in
-        did_right before s.parts s.after (small_did words known.alone s.event before s.parts s.after (step_at first steps k s are is).small) sound
+        did_right before s.parts s.after (small_did words known.alone s.event before s.parts s.after (made_at m (telling codes) spell meaning first steps k s are is).step.small) sound
 
     sound_at : (k : ℕ) → IsSoundDest (moment first steps k).world.dest
     sound_at zero = begun

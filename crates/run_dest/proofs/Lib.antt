@@ -1,5 +1,4 @@
 pub mod Along
-pub mod Boots
 mod CallerRuns
 mod CallerSteps
 mod DestMoments

@@ -36,7 +36,9 @@ use Rattle.run_dest.specs.Acts.{DestDid}
 use Rattle.run_dest.specs.ActLaws.{small_did}
 use Rattle.run_dest.specs.Moments.{dest_part}
 use Rattle.run_dest.proofs.DestGoes.{AreKnown, Goes, did_goes}
-use Rattle.run_dest.proofs.Boots.{boot_of}
+
+abbrev boot_of : {M : Type 0} → DestState M → ℕ
+boot_of s = s.state.machine.store.volume.boot
 
 -- what is known of histories
 pub record AreFolds : Type 0 where

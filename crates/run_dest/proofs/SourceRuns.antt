@@ -1,20 +1,17 @@
 -- The source of a run is lawful at each moment.
-use Rattle.std.proofs.Common.{◌≡◌, ◌⊎◌, inl, inr, ℕ, zero, suc, ◌*◌, ◌<◌, ◌≤◌, ◌^◌, List, [], ◌∷◌, slice_get, Option, Some, None, refl, sym, ap, subst, ◌∙◌, arith}
-use Rattle.std.proofs.lemmas.Option.{same_Some}
-use Rattle.client_core.specs.State.{ClientState}
+use Rattle.std.proofs.Common.{◌≡◌, ◌⊎◌, inl, inr, ℕ, zero, suc, ◌*◌, ◌<◌, ◌≤◌, ◌^◌, List, [], slice_get, Option, Some, None, refl, sym, ap, subst, ◌∙◌, arith}
 use Rattle.client_laws.specs.WholeTurns.{Purposes}
 use Rattle.copy_model.specs.Effect.{Effect}
 use Rattle.copy_model.specs.Effect as effects
 use Rattle.copy_model.specs.Volume.{Volume, formatted}
-use Rattle.dest_core.specs.Stepping.{DestState}
 use Rattle.gss_ctx.specs.Table.{ContextTable}
 use Rattle.nfs_base.specs.declared.limits.TheConstants.{MOST_BLOCKS}
 use Rattle.nfs_base.specs.declared.seal.End.{End}
 use Rattle.nfs_base.specs.declared.seal.End.TheVariants.{Client, Source}
 use Rattle.nfs_base.specs.declared.seal.Seal.{Seal}
 use Rattle.nfs_base.specs.declared.side.Side.TheVariants as sides
-use Rattle.outbox.specs.declared.outgoing.Outbox.{Outbox}
 use Rattle.run_dest.specs.Lawful.{IsLawfulSource, SendsReplies}
+use Rattle.run_system.specs.Moments.{made_at}
 use Rattle.run_system.specs.System.{ClientView, source_effect, system_of, telling, told_in}
 use Rattle.server_laws.specs.Acts.{acts_of}
 use Rattle.server_laws.specs.ContextLaws.{InEachStep, KeepsBoot, KeepsGood}
@@ -29,24 +26,23 @@ use Rattle.sess_slots.specs.Lives.{no_clients}
 use Rattle.sess_slots.specs.Table.{SessionTable}
 use Rattle.session_server.specs.Host.{Codes, Stepped}
 use Rattle.session_server.specs.Steps.{ticked}
-use Rattle.source_core.specs.Core.{nothing, source_rules}
+use Rattle.source_core.specs.Core.{source_rules}
 use Rattle.source_core.specs.declared.carried.Carried.{Carried}
 use Rattle.source_core.specs.declared.source.Source as sources
 use Rattle.tell_laws.specs.Fitting.{IsFitting}
 use Rattle.tell_laws.specs.Telling.{FitsWords, TellsOfVolume}
 use Rattle.tell_laws.specs.Volumes.{ChangesLawfully, KeepsFitting, KeepsOpening, volume_of}
-use Rattle.wire_machine.specs.History.{At, acts_in, at_moment, effect_of, next, part_acts, told_by}
+use Rattle.wire_machine.specs.History.{At, at_moment, effect_of, next, part_acts, told_by}
 use Rattle.wire_machine.specs.History as history
 use Rattle.wire_machine.specs.Runs.{Numbered}
-use Rattle.wire_machine.specs.Steps.{AreSteps, Step}
-use Rattle.wire_machine.specs.Steps as small
-use Rattle.wire_machine.specs.World.{Part, Parts, all_idle}
+use Rattle.wire_machine.specs.Steps.{AreSteps}
+use Rattle.wire_machine.specs.World.{Part, Parts}
 use Rattle.wire_meaning.specs.Meaning.{meaning}
 use Rattle.wire_model.specs.CopyLaws.{TellsRight, VolumeLaws}
 use Rattle.wire_model.specs.ServerLaws.{ServerLaws, ServerStart}
 use Rattle.wire_model.specs.Spelling.{Spelling}
 use Rattle.wire_model.specs.Told.{TakesSimple}
-use Rattle.wire_model.specs.Wire.{Acts, Executed, Sends}
+use Rattle.wire_model.specs.Wire.{Acts, Sends}
 use Rattle.wire_run.specs.Ends.{SourceState, Words, machines}
 use Rattle.wire_run.specs.Fresh.{IsFreshSource, Shape}
 use Rattle.wire_run.specs.Run.{IsFirst, shape_of}
@@ -202,23 +198,6 @@ module _ {M : Type 0} (words : Words M ℕ) (known : AreKnown words) (accepts : 
     abbrev moment : RunWorld M → List (RunStep M) → ℕ → At m (telling codes) spell meaning
     moment before more k = at_moment m (telling codes) spell meaning before more k
 
-    next_same : (a b : At m (telling codes) spell meaning) (o : Option (RunStep M)) → a.world ≡ b.world
-        → (next m (telling codes) spell meaning a o).world ≡ (next m (telling codes) spell meaning b o).world
-    next_same a b None same = same
-    next_same a b (Some s) same = refl
-
-    moment_later : (before : RunWorld M) (s : RunStep M) (more : List (RunStep M)) (k : ℕ) → (moment before (s ∷ more) (suc k)).world ≡ (moment s.after more k).world
-    moment_later before s more zero = refl
-    moment_later before s more (suc k) =
-        next_same (moment before (s ∷ more) (suc k)) (moment s.after more k) (slice_get more k) (moment_later before s more k)
-
-    step_at : (before : RunWorld M) (more : List (RunStep M)) (k : ℕ) (s : RunStep M) → AreSteps m before more → slice_get more k ≡ Some s
-        → small.IsStep m (moment before more k).world s
-    step_at before [] k s done is = absurd cc
-    step_at before (x ∷ more) zero s done is = subst (λ (y : RunStep M). small.IsStep m before y) (same_Some x s is) done.0
-    step_at before (x ∷ more) (suc k) s done is =
-        subst (λ (w : RunWorld M). small.IsStep m w s) (sym (moment_later before x more k)) (step_at x.after more k s done.1 is)
-
     abbrev acts_by_step : RunWorld M → Option (RunStep M) → Acts
     acts_by_step before o = history.acts_of m (telling codes) spell meaning before o Source
 
@@ -229,7 +208,7 @@ module _ {M : Type 0} (words : Words M ℕ) (known : AreKnown words) (accepts : 
     goes_at k None is sound = stays (moment first steps k).world.source sound
     goes_at k (Some s) is sound =
         let before = (moment first steps k).world in
-        did_right before s.parts s.after (small_did words s.event before s.parts s.after (step_at first steps k s are is).small) sound
+        did_right before s.parts s.after (small_did words s.event before s.parts s.after (made_at m (telling codes) spell meaning first steps k s are is).step.small) sound
 
     pub sound_at : (k : ℕ) → IsSound (moment first steps k).world.source
     sound_at zero = begun

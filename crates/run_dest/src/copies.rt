@@ -19,7 +19,6 @@ ghost use Rattle.wire_run.specs.Ends.{count_gives, run_machines, words_of};
 ghost use Rattle.wire_run.specs.Run.{IsFirst};
 ghost use Rattle.wire_run.specs.Running.{RunStep, RunWorld};
 
-use crate::openings::openings_stay;
 use gss_mech::Mechanism;
 use streams::CountDraws;
 
@@ -61,7 +60,7 @@ pub fn destinations_are_shown<M: Mechanism>()
         → (table_in (host_at (run_machines M.mic_of M.derived M.started M.accepted M.finished) (record { mic = M.mic_of; derived = M.derived }) spell meaning first steps k)).boot
         ≡ (host_at (run_machines M.mic_of M.derived M.started M.accepted M.finished) (record { mic = M.mic_of; derived = M.derived }) spell meaning first steps k).state.machine.store.volume.boot }
 {
-    openings_stay::<M, CountDraws>();
+    dest_calls::openings_stay::<M, CountDraws>();
     dest_view::opened_destinations_show_nothing::<M>();
     dest_copies::steps_have_stories::<M, CountDraws>();
     dest_sound::tables_stay_sound::<M, CountDraws>();

@@ -80,7 +80,7 @@ pub fn names_are_lawful<M: Mechanism>()
 {
     jobs_are_few::<M>();
     crate::copies::destinations_are_shown::<M>();
-    crate::openings::openings_stay::<M, CountDraws>();
+    dest_calls::openings_stay::<M, CountDraws>();
     server_laws::steps_are_lawful::<Destination<M>, Carried, CountDraws>();
     server_laws::contexts_stay::<Destination<M>, Carried, CountDraws>();
     server_laws::contexts_rest::<Destination<M>, Carried>();

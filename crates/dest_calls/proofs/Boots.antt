@@ -1,13 +1,11 @@
 -- The number of an opening of the destination's volume stays in each of its steps.
-use Rattle.std.proofs.Common.{◌≡◌, ◌∙◌, ℕ, Bool, true, false, List, [], ◌∷◌, length, Option, Some, None, refl, sym, ap}
+use Rattle.std.proofs.Common.{◌≡◌, ◌∙◌, ℕ, Bool, true, false, List, [], ◌∷◌, length, Option, Some, None, refl, ap}
 use Rattle.std.specs.Prelude.{max}
 use Rattle.block_file.specs.declared.faults.ReadFault.{ReadFault}
 use Rattle.block_file.specs.declared.faults.WriteFault.{WriteFault}
 use Rattle.copy_model.specs.Volume.{Volume, write}
-use Rattle.commit_laws.specs.Calling.{CameByCalls}
 use Rattle.dest_core.specs.Core.{dest_rules}
 use Rattle.dest_core.specs.Stepping.{DestState, DestStep, IsRecord, IsRecordBy, IsReply, IsWork, doing_in, second_in, with_copier, without_lapsed}
-use Rattle.dest_core.specs.declared.destination.Destination.{Destination}
 use Rattle.dest_steps.specs.Copier.{Codes}
 use Rattle.dest_steps.specs.Landing as landings
 use Rattle.dest_steps.specs.Landing.{Doing, Done as DoneTo, landed}
@@ -33,12 +31,9 @@ use Rattle.rpc_calls.specs.Judging.{judged_of}
 use Rattle.rpc_calls.specs.declared.call.Judged.{Judged}
 use Rattle.rpc_calls.specs.declared.call.Judged.TheVariants as judged
 use Rattle.rpc_calls.specs.declared.call.TheConstants.Program as programs
-use Rattle.server_volume.specs.Calls.{Asked, Called, Commits, Reads, Writes, called, commit_call, left_by, write_call}
+use Rattle.server_volume.specs.Calls.{Called, Commits, Writes, called, commit_call, write_call}
 use Rattle.server_volume.specs.Choices.{Choice, Fate, Failed, Went, choice_of}
-use Rattle.server_volume.specs.Moments.{Made, after_calls}
 use Rattle.server_volume.specs.Store.{Store}
-use Rattle.server_volume.specs.declared.used.CallAnswer.{CallAnswer}
-use Rattle.server_volume.specs.declared.used.CallAnswer.TheVariants.{DiskFailed, Done, Refused}
 use Rattle.server_volume.specs.declared.used.Used.{Used}
 use Rattle.session_server.specs.Host as hosts
 use Rattle.session_server.specs.Steps.{IsJudgedTurn, IsTurn}
@@ -73,25 +68,9 @@ commit_keeps : (choice : Choice) (used : List Used) (s : Store) (file : ℕ) →
 unfolding commit_call
 commit_keeps choice used s file = commit_called _ _ _ file used s
 
-left_boot : (asked : Asked) (answer : CallAnswer) (s : Store) → boot_in (left_by asked answer s) ≡ boot_in s
-left_boot asked Refused s = refl
-left_boot (Reads file off len) Done s = refl
-left_boot (Reads file off len) DiskFailed s = refl
-left_boot (Writes file off bytes) Done s = write_boot s.volume file off bytes
-left_boot (Writes file off bytes) DiskFailed s = refl
-left_boot (Commits file) Done s = refl
-left_boot (Commits file) DiskFailed s = refl
-
-calls_boot : (s : Store) (calls : List Made) → boot_in (after_calls s calls) ≡ boot_in s
-calls_boot s [] = refl
-calls_boot s (call ∷ calls) = calls_boot (left_by call.asked call.answer s) calls ∙ left_boot call.asked call.answer s
-
-pub came_boot : (old new : Store) (used more : List Used) → CameByCalls old new used more → boot_in new ≡ boot_in old
-came_boot old new used more came = ap boot_in came.store ∙ calls_boot old came.calls
-
 -- ---- what is done
 
-abbrev Stays : Doing → DoneTo → Type 0
+abbrev pub Stays : Doing → DoneTo → Type 0
 Stays d done = boot_in done.doing.store ≡ boot_in d.store
 
 written_stays : (job : JobName) (chunk : Chunk) (told : Landing) (d : Doing) (c : Called WriteFault) → boot_in c.store ≡ boot_in d.store → (o : Option WriteFault)
@@ -142,7 +121,7 @@ committed_stays : (choice : Choice) (job : JobName) (told : Committing) (d : Doi
 committed_stays choice job told d false = refl
 committed_stays choice job told d true = commit_in_stays choice job told d (landings.target_file d.store (named d.copier.copies.book.table job))
 
-made_stays : (choice : Choice) (place : ℕ) (turn : Turn) (d : Doing) → Stays d (workings.turn_made choice place turn d)
+pub made_stays : (choice : Choice) (place : ℕ) (turn : Turn) (d : Doing) → Stays d (workings.turn_made choice place turn d)
 made_stays choice place turns.Rest d = refl
 made_stays choice place turns.Undrawn d = refl
 made_stays choice place (turns.Sent call) d = refl
@@ -150,7 +129,7 @@ made_stays choice place (turns.Stops job cause told) d = refl
 made_stays choice place (turns.Lands told) d = held_stays choice place told d (post_at d.copier.work.workers place)
 made_stays choice place (turns.Commits job told) d = committed_stays choice job told d (workings.may_commit job d.copier)
 
-effect_stays : (choice : Choice) (place : ℕ) (effect : Effect) (d : Doing) → Stays d (effect_done choice place effect d)
+pub effect_stays : (choice : Choice) (place : ℕ) (effect : Effect) (d : Doing) → Stays d (effect_done choice place effect d)
 effect_stays choice place (effects.Drops why) d = refl
 effect_stays choice place (effects.Goes m) d = refl
 effect_stays choice place (effects.Denied job m) d = refl

@@ -1,11 +1,15 @@
+//! The opening of a destination's volume.
+
 ghost use Rattle.std.specs.Prelude.{◌≡◌, ℕ, List, Option};
 ghost use Rattle.dest_core.specs.Stepping.{DestState, DestStep, IsRecord, IsReply, IsWork, tick_step};
 ghost use Rattle.dest_steps.specs.Copier.{Codes};
 
+use commit_laws::steps_change_by_calls;
 use dest_core::Destination;
 use dest_jobs::Carried;
 use gss_mech::Mechanism;
 use streams::Draws;
+use tell_laws::volumes_stay_fitting;
 
 /// The number of an opening of a destination's volume stays in each of its steps.
 pub fn openings_stay<M: Mechanism, W: Draws>()
@@ -19,5 +23,6 @@ pub fn openings_stay<M: Mechanism, W: Draws>()
     ensures tick { (codes : Codes) (now : ℕ) (s : DestState M)
         → (tick_step codes now s).host.state.machine.store.volume.boot ≡ s.state.machine.store.volume.boot }
 {
-    commit_laws::steps_change_by_calls::<Destination<M>, Carried, W>();
+    steps_change_by_calls::<Destination<M>, Carried, W>();
+    volumes_stay_fitting();
 }
