@@ -1,0 +1,6 @@
+use Rattle.std.proofs.Common.{◌≡◌, take}
+use Rattle.copy_workers.specs.Desk.{landed_in}
+use Rattle.copy_workers.proofs.counting.landed_in.Given as goal
+
+abbrev pub invariant-notes : goal.invariant-notes
+invariant-notes l = l.sum ≡ landed_in (take l.note-index l.notes)

@@ -1,0 +1,184 @@
+ghost use Rattle.std.specs.Prelude.{◌≡◌, ◌+◌, ◌*◌, ◌<◌, ◌≤◌, ◌^◌, true, is_some};
+ghost use Rattle.rpc_msg.specs.Watching.{is_down};
+ghost use Rattle.copy_workers.specs.Desk.{chunk_limit, given_limit, given_to, records_to, landed_in, IsModest};
+ghost use Rattle.copy_workers.specs.Workers.{Sends, WasShut, WorkerIs};
+
+use crate::counting::{given_to, landed_in};
+use crate::desk::Desk;
+use crate::gate::Gate;
+use crate::holding::{Held, hold};
+use crate::link::Link;
+use crate::report::{Ended, WorkerEnd};
+use crate::sending::{post_all, send_all};
+use outbox::Outbox;
+use rpc_msg::{Got, Watched};
+use std::alloc::Global;
+use std::sync::ledger::{Ledger, Share};
+use std::sync::{Mutex, Wait};
+
+// How often the desk is told that a link is down, where memory is refused.
+const TRIES: u32 = 100;
+
+// Works until the turns are used, the link is down or the desk is closed. Replies are taken as records were sent, and one for
+// which memory was refused is kept and given again.
+pub(crate) fn work_all<R: Wait, L: Ledger, T: Ledger, G: Ledger, N: Link, K: Desk<L, T, G, N>>(
+    rt: &R,
+    alloc: Global,
+    gate: &Gate,
+    desk: &Mutex<K>,
+    worker: u8,
+    turns: u64,
+    share: &mut Share<L>,
+    turned: &mut Share<T>,
+    given: &mut Share<G>,
+    link: &mut Watched<N>,
+) -> (Ended, Option<K::Shut>)
+    requires worker { 1 ≤ worker }
+    requires workers { worker ≤ 8 }
+    requires turns { turns < 2 ^ 32 }
+    requires unsent { link.old.sent ≡ 0 }
+    requires share { (0 < share.old.parts) × (share.old.amount ≡ 0) }
+    requires turned { (0 < turned.old.parts) × (turned.old.amount ≡ 0) }
+    requires given { (0 < given.old.parts) × (given.old.amount ≡ 0) }
+    ensures share_parts { share.new.parts ≡ share.old.parts }
+    ensures turned_parts { turned.new.parts ≡ turned.old.parts }
+    ensures given_parts { given.new.parts ≡ given.old.parts }
+    ensures share { share.new.amount ≡ result.0.share }
+    ensures turned { turned.new.amount ≡ result.0.turned }
+    ensures given { given.new.amount ≡ result.0.given }
+    ensures worker { WorkerIs turns (is_some result.1) link.new result.0 }
+    ensures shut { WasShut K.shut_by result.1 }
+{
+    let mut done = Ended::nothing();
+    let mut owed = 0;
+    let mut kept = false;
+    'turns: while done.turned < turns {
+        let reply = fetch(link, owed, kept);
+        if link.down().is_some() {
+            report_down(rt, alloc, gate, desk, worker, link);
+            return (done.ending(WorkerEnd::Down), None);
+        }
+        match hold(rt, alloc, desk, worker, reply, link, share, turned, given) {
+            Held::Closed(shut) => return (done.ending(WorkerEnd::Closed), Some(shut)),
+            Held::Starved => {
+                done.turned += 1;
+                kept = reply;
+                link.link().rest();
+            }
+            Held::Gave(out) => {
+                done.count(worker, &out);
+                owed = owed - u64::from(reply) + carry_out(link, gate, worker, reply, &out);
+                kept = false;
+            }
+        }
+    }
+    if link.down().is_some() {
+        report_down(rt, alloc, gate, desk, worker, link);
+        return (done.ending(WorkerEnd::Down), None);
+    }
+    (done.ending(WorkerEnd::Turns), None)
+}
+
+// Takes the next reply where one is owed and none is kept, and says whether there is one. The link may go down by it.
+fn fetch<N: Link>(link: &mut Watched<N>, owed: u64, kept: bool) -> bool
+    ensures owed { result ≡ true → 0 < owed }
+    ensures sent { link.new.sent ≡ link.old.sent }
+    ensures down { is_down link.old.signs ≡ true → is_down link.new.signs ≡ true }
+{
+    if owed == 0 {
+        return false;
+    }
+    kept || link.next() == Got::Whole
+}
+
+// Sends what a holding gave, wakes the others where it may have given them work, and rests where there was nothing to send. It
+// says how many replies will come.
+fn carry_out<N: Link>(
+    link: &mut Watched<N>,
+    gate: &Gate,
+    worker: u8,
+    reply: bool,
+    out: &Outbox,
+) -> u64
+    requires modest { IsModest worker out.now }
+    requires room { link.old.sent + given_to worker out.now.sent < 2 ^ 64 }
+    ensures count { result ≡ records_to worker out.now.sent }
+    ensures sends { Sends (given_to worker out.now.sent) link.old.sent link.new.sent (is_down link.new.signs) }
+    ensures down { is_down link.old.signs ≡ true → is_down link.new.signs ≡ true }
+{
+    let count = send_all(link, worker, out.sent.as_slice());
+    post_all(link, out.sent.as_slice());
+    if reply || !out.notes.as_slice().is_empty() {
+        gate.wake();
+    }
+    if out.sent.is_empty() {
+        link.link().rest();
+    }
+    count
+}
+
+// Tells the desk that the worker's link is down.
+fn report_down<R: Wait, L: Ledger, T: Ledger, G: Ledger, N: Link, K: Desk<L, T, G, N>>(
+    rt: &R,
+    alloc: Global,
+    gate: &Gate,
+    desk: &Mutex<K>,
+    worker: u8,
+    link: &mut Watched<N>,
+)
+    requires worker { 1 ≤ worker }
+    requires workers { worker ≤ 8 }
+    requires down { is_down link.old.signs ≡ true }
+    ensures sent { link.new.sent ≡ link.old.sent }
+    ensures signs { link.new.signs ≡ link.old.signs }
+{
+    'tries: for _ in 0..TRIES {
+        let answer = desk.lock(rt).link_failed(alloc, worker, link);
+        match answer {
+            Ok(out) => {
+                post_all(link, out.sent.as_slice());
+                gate.wake();
+                return;
+            }
+            Err(_) => link.link().rest(),
+        }
+    }
+}
+
+impl Ended {
+    // A worker that did nothing.
+    pub(crate) fn nothing() -> Ended
+        ensures { result ≡ record { share = 0; turned = 0; given = 0; end = WorkerEnd.NoLink } }
+    {
+        Ended {
+            share: 0,
+            turned: 0,
+            given: 0,
+            end: WorkerEnd::NoLink,
+        }
+    }
+
+    // The same, ending by this.
+    fn ending(self, end: WorkerEnd) -> Ended
+        ensures { result ≡ record self { end = end } }
+    {
+        Ended { end, ..self }
+    }
+
+    // Counts a turn that gave something.
+    fn count(&mut self, worker: u8, out: &Outbox)
+        requires modest { IsModest worker out.now }
+        requires turned { self.old.turned < 2 ^ 32 }
+        requires share { self.old.share ≤ chunk_limit * self.old.turned }
+        requires given { self.old.given ≤ given_limit * self.old.turned }
+        ensures { self.new ≡ record self.old {
+          share = self.old.share + landed_in out.now.notes;
+          turned = self.old.turned + 1;
+          given = self.old.given + given_to worker out.now.sent;
+        } }
+    {
+        self.share += landed_in(out.notes.as_slice());
+        self.turned += 1;
+        self.given += given_to(worker, out.sent.as_slice());
+    }
+}
