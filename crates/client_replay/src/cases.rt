@@ -2,10 +2,11 @@
 
 use crate::ends::Ends;
 use crate::lines::{Kind, awaits_line, copy_number, kind_of, report_line, side_of};
-use crate::outcomes::lines_of;
+use outbox_text::lines_of;
 use outcome::Mem;
 use row_text::{word, words};
 use std::alloc::Global;
+use wire_lines::Speaker;
 
 /// The case that is replayed, and how the ones before went.
 #[derive(Drop)]
@@ -122,7 +123,7 @@ impl Cases {
             return Ok(());
         };
         if let Some(out) = ends.step(alloc, words)? {
-            self.due = lines_of(alloc, 'c', &out)?;
+            self.due = lines_of(alloc, Speaker::Client, &out)?;
             self.due.reverse();
         }
         Ok(())

@@ -4,7 +4,6 @@
 mod cases;
 mod ends;
 mod lines;
-mod outcomes;
 
 use crate::cases::Cases;
 use std::{env, io};

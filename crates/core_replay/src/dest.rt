@@ -14,20 +14,20 @@ use dest_core::DestCore;
 use dest_tasks::WORKERS;
 use disk_model::{Disk, MemoryDisk};
 use gss_mech::Realm;
-use nfs_base::End;
 use outbox::Outbox;
 use outcome::Mem;
 use session_server::MOST_STEPS;
 use std::alloc::Global;
 use streams::Draws;
+use wire_lines::Speaker;
 
 impl Driver for DestCore<MemoryDisk, Realm> {
     fn begin(alloc: Global, words: &[&str]) -> Mem<Option<DestCore<MemoryDisk, Realm>>> {
         new_dest(alloc, new_disk(alloc), words)
     }
 
-    fn end(&self) -> End {
-        End::Dest
+    fn speaker(&self) -> Speaker {
+        Speaker::Dest
     }
 
     fn take<W: Draws>(

@@ -1,19 +1,19 @@
 //! What a core must do to be replayed.
 
 use block_file::FileInfo;
-use nfs_base::End;
 use outbox::Outbox;
 use outcome::Mem;
 use std::alloc::Global;
 use streams::Draws;
+use wire_lines::Speaker;
 
 /// A server's core that the lines of cases drive. A step that it doesn't make is answered with None.
 pub trait Driver: Drop {
     /// A core over the new volume of a case, by the words of its first line. None where there is no such volume.
     fn begin(alloc: Global, words: &[&str]) -> Mem<Option<Self>>;
 
-    /// Which end it is.
-    fn end(&self) -> End;
+    /// Who tells its notes.
+    fn speaker(&self) -> Speaker;
 
     /// A record comes on a connection.
     fn take<W: Draws>(

@@ -13,7 +13,6 @@ mod cores;
 mod dest;
 mod driver;
 mod lines;
-mod outcomes;
 mod playing;
 mod replay;
 mod setting;

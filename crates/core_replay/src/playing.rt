@@ -2,13 +2,14 @@
 
 use crate::driver::Driver;
 use crate::lines::{bytes_of, long};
-use crate::outcomes::{end_letter, lines_of};
 use crate::setting::{few_draws, given_draws};
 use outbox::Outbox;
+use outbox_text::lines_of;
 use outcome::Mem;
 use row_text::{number, word};
 use std::alloc::Global;
 use streams::{CountDraws, MemDraws};
+use wire_lines::Speaker;
 
 /// The core of a case, where it has a volume, and what the core draws from.
 #[derive(Drop)]
@@ -74,17 +75,17 @@ fn event<D: Driver>(
         _ => None,
     };
     match out {
-        Some(out) => Ok(Some(lines_of(alloc, taker(core, words), &out)?)),
+        Some(out) => Ok(Some(lines_of(alloc, speaker(core, words), &out)?)),
         None => Ok(None),
     }
 }
 
-/// Who takes the record of an event: a worker has a letter of its own.
-fn taker<D: Driver>(core: &D, words: &[&str]) -> char {
+/// Who tells the notes of an event: of an answer the worker to which it came.
+fn speaker<D: Driver>(core: &D, words: &[&str]) -> Speaker {
     if word(words, 0) == "reply" {
-        return 'w';
+        return Speaker::Worker;
     }
-    end_letter(core.end())
+    core.speaker()
 }
 
 /// A record comes on a connection.

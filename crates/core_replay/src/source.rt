@@ -10,21 +10,21 @@ use crate::volume::{formatted, new_disk};
 use block_file::FileInfo;
 use disk_model::{Disk, MemoryDisk};
 use gss_mech::Realm;
-use nfs_base::End;
 use outbox::Outbox;
 use outcome::Mem;
 use session_server::MOST_STEPS;
 use source_core::SourceCore;
 use std::alloc::Global;
 use streams::Draws;
+use wire_lines::Speaker;
 
 impl Driver for SourceCore<MemoryDisk, Realm> {
     fn begin(alloc: Global, words: &[&str]) -> Mem<Option<SourceCore<MemoryDisk, Realm>>> {
         new_source(alloc, new_disk(alloc), words)
     }
 
-    fn end(&self) -> End {
-        End::Source
+    fn speaker(&self) -> Speaker {
+        Speaker::Source
     }
 
     fn take<W: Draws>(

@@ -1,16 +1,17 @@
-//! What a step gave, as the lines of a case.
-
-use nfs_base::{End, JobName, Seal};
+use nfs_base::{End, Seal};
 use nfs_compound::{cb_name_of, name_of};
-use outbox::{CallAnswer, CallLabel, Dropped, Label, Note, Outbox, Outgoing, To, Used, VolumeCall};
+use outbox::{CallAnswer, CallLabel, Label, Outbox, Outgoing, To, Used, VolumeCall};
 use outcome::Mem;
 use std::alloc::Global;
+use wire_lines::{Line, Speaker};
 
-/// The lines of an outbox, in their order. A letter says who took the record.
-pub fn lines_of(alloc: Global, taker: char, out: &Outbox) -> Mem<Vec<String>> {
+/// The lines of an outbox, in their order: what is noted, which seal was accepted, what was done to the volume, whether a
+/// draw was missing, and what is sent. A speaker tells the notes.
+pub fn lines_of(alloc: Global, by: Speaker, out: &Outbox) -> Mem<Vec<String>> {
     let mut lines = Vec::new(alloc);
     for note in out.notes.as_slice() {
-        lines.push(note_line(alloc, taker, note)?)?;
+        let noted = Line::Note { by, note: *note };
+        lines.push(format!(in alloc; "note {noted}")?)?;
     }
     if let Some(seal) = &out.accepted {
         let seal = seal_text(alloc, seal)?;
@@ -28,67 +29,7 @@ pub fn lines_of(alloc: Global, taker: char, out: &Outbox) -> Mem<Vec<String>> {
     Ok(lines)
 }
 
-fn note_line(alloc: Global, taker: char, note: &Note) -> Mem<String> {
-    match note {
-        Note::Dropped { why } => {
-            let why = dropped_word(*why);
-            Ok(format!(in alloc; "note drop {taker} {why}")?)
-        }
-        Note::Permit { cause } => Ok(format!(in alloc; "note permit {cause}")?),
-        Note::Privilege { cause } => Ok(format!(in alloc; "note privilege {cause}")?),
-        _ => job_line(alloc, note),
-    }
-}
-
-/// What is told of a job.
-fn job_line(alloc: Global, note: &Note) -> Mem<String> {
-    match note {
-        Note::Accepted {
-            job,
-            file,
-            to,
-            count,
-        } => accepted_line(alloc, *job, *file, *to, *count),
-        Note::Overlap { job } => Ok(format!(in alloc; "note overlap {job}")?),
-        Note::Stopped { job, cause } => Ok(format!(in alloc; "note stopped {job} {cause}")?),
-        _ => way_line(alloc, note),
-    }
-}
-
-/// A count of 0 goes to the end of the source file.
-fn accepted_line(alloc: Global, job: JobName, file: u32, to: u64, count: u64) -> Mem<String> {
-    if count == 0 {
-        return Ok(format!(in alloc; "note accepted {job} {file} {to} end")?);
-    }
-    Ok(format!(in alloc; "note accepted {job} {file} {to} {count}")?)
-}
-
-/// What is told of a job on its way.
-fn way_line(alloc: Global, note: &Note) -> Mem<String> {
-    match note {
-        Note::Sized { job, len } => Ok(format!(in alloc; "note sized {job} {len}")?),
-        Note::Landed { job, off, len } => {
-            Ok(format!(in alloc; "note landed {job} {off} {len}")?)
-        }
-        Note::Held { job, off } => Ok(format!(in alloc; "note held {job} {off}")?),
-        Note::Late { job, off } => Ok(format!(in alloc; "note late {job} {off}")?),
-        Note::Committed { job } => Ok(format!(in alloc; "note committed {job}")?),
-        Note::Reported { job } => Ok(format!(in alloc; "note reported {job}")?),
-        _ => Ok(format!(in alloc; "note of another end")?),
-    }
-}
-
-fn dropped_word(why: Dropped) -> &'static str {
-    match why {
-        Dropped::Unread => "unread",
-        Dropped::Repeat => "repeat",
-        Dropped::Old => "old",
-        Dropped::Unmatched => "unmatched",
-    }
-}
-
-/// The letter of an end.
-pub fn end_letter(end: End) -> char {
+fn end_letter(end: End) -> char {
     match end {
         End::Source => 's',
         End::Dest => 'd',
