@@ -1,11 +1,11 @@
-ghost use Rattle.std.specs.Prelude.{◌≡◌, ◌+◌, ◌<◌, ◌≤◌, ◌^◌, ◌∷◌, List, length, map, sum, take, is_some, None};
+ghost use Rattle.std.specs.Prelude.{◌≡◌, ◌+◌, ◌<◌, ◌≤◌, ◌^◌, ◌∷◌, length, map, sum, take, is_some, None};
 ghost use Rattle.std.specs.Thread.{IsSend, IsSync};
 ghost use Rattle.copy_workers.specs.Workers.{first_shut, given_of, landed_of, rows, turns_of, AllNobody, AllUnsent, AllWorkers, WasShut, WorkerIs};
 
 use crate::desk::Desk;
 use crate::gate::Gate;
 use crate::link::Link;
-use crate::report::{Ended, WorkerEnd, WorkerReport};
+use crate::report::{Ended, WorkerReport};
 use crate::worker::work_all;
 use rpc_msg::Watched;
 use std::alloc::Global;

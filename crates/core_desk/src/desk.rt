@@ -1,4 +1,4 @@
-ghost use Rattle.std.specs.Prelude.{◌≡◌, ℕ, ◌+◌, ◌<◌, ◌≤◌, true, false, All, IfOk, OnErr};
+ghost use Rattle.std.specs.Prelude.{◌≡◌, ◌+◌, ◌<◌, ◌≤◌, true, false, All, IfOk, OnErr};
 ghost use Rattle.copy_workers.specs.Desk.{chunk_limit, given_by, given_to, landed_by, landed_in, records_to, Adds, IsModest, IsSmall};
 ghost use Rattle.rpc_msg.specs.Watching.{is_down};
 ghost use Rattle.core_desk.specs.Core.{closing_of, passed_sent, same_sent, Gave, IsEmpty};

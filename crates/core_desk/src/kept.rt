@@ -1,4 +1,4 @@
-ghost use Rattle.std.specs.Prelude.{◌≡◌, ◌-◌, ◌≤◌, None, Some, IfSome, slice_set, slice_index_or};
+ghost use Rattle.std.specs.Prelude.{◌≡◌, ◌-◌, ◌≤◌, None, Some, IfSome, slice_set};
 ghost use Rattle.copy_workers.specs.Desk.{IsSmall};
 ghost use Rattle.core_desk.specs.Kept.{kept_for, nothing_kept};
 

@@ -84,7 +84,7 @@ fn ask(alloc: Global, worker: u8) -> Mem<Items<Outgoing>>
     let mut sent = Items::new(alloc);
     sent.push(Outgoing {
         to: To::Source(worker),
-        bytes: Octets::from_slice(alloc, b"READ")?,
+        bytes: Octets::from_slice(alloc, b"record")?,
         seal: None,
         label: Label::Call(CallLabel::Null),
     })?;
