@@ -1,41 +1,19 @@
 -- What one holding of a desk gives to a worker, and what it adds to the desk's books and to the worker's shares. Own
 -- definitions; records stand on a link behind their marks (RFC 5531 section 11).
-use Rattle.std.specs.Prelude.{◌≡◌, ℕ, ◌+◌, ◌*◌, ◌≤◌, ◌==◌, Bool, false, if◌then◌else◌, List, length, sum_by, All, Result, Ok, Err}
-use Rattle.outbox.specs.declared.note.Note.{Note}
-use Rattle.outbox.specs.declared.note.Note.TheVariants.{Landed}
+use Rattle.std.specs.Prelude.{◌≡◌, ℕ, ◌+◌, ◌*◌, ◌≤◌, if◌then◌else◌, List, length, sum_by, All, Result, Ok, Err}
+use Rattle.outbox.specs.Counting.{is_to, landed_in, records_to}
 use Rattle.outbox.specs.declared.outgoing.Outbox.{Outbox}
 use Rattle.outbox.specs.declared.outgoing.Outgoing.{Outgoing}
-use Rattle.outbox.specs.declared.outgoing.To.{To}
-use Rattle.outbox.specs.declared.outgoing.To.TheVariants as to
 use Rattle.outcome.specs.declared.memory.NoMemory.{NoMemory}
 use Rattle.rpc_msg.specs.Records.{record_limit}
-
--- whether a record goes to this worker's link
-abbrev pub is_to : (worker : ℕ) → To → Bool
-is_to worker (to.Source number) = number == worker
-is_to worker _ = false
 
 -- how many bytes a record is on this worker's link, with its mark of four bytes
 abbrev pub carried : (worker : ℕ) → Outgoing → ℕ
 carried worker o = if is_to worker o.to then length o.bytes + 4 else 0
 
-abbrev pub counted : (worker : ℕ) → Outgoing → ℕ
-counted worker o = if is_to worker o.to then 1 else 0
-
--- the bytes that a list of records is on this worker's link, and how many of them go there
+-- the bytes that a list of records is on this worker's link
 abbrev pub given_to : (worker : ℕ) → List Outgoing → ℕ
 given_to worker sent = sum_by (carried worker) sent
-
-abbrev pub records_to : (worker : ℕ) → List Outgoing → ℕ
-records_to worker sent = sum_by (counted worker) sent
-
--- the bytes that landed, as it is told
-abbrev pub landed_len : Note → ℕ
-landed_len (Landed job off len) = len
-landed_len _ = 0
-
-abbrev pub landed_in : List Note → ℕ
-landed_in notes = sum_by landed_len notes
 
 -- ---- of a call's answer: nothing landed and nothing is given where memory was refused
 

@@ -4,7 +4,8 @@ use Rattle.std.proofs.lemmas.List.Elements.{All-head, All-tail}
 use Rattle.std.proofs.lemmas.List.Sums.{sum_by-cons}
 use Rattle.outbox.specs.declared.outgoing.Outgoing.{Outgoing}
 use Rattle.outbox.specs.declared.outgoing.Outbox.{Outbox}
-use Rattle.copy_workers.specs.Desk.{is_to, carried, counted, given_limit, given_to, records_to, IsSmall, IsModest}
+use Rattle.copy_workers.specs.Desk.{carried, given_limit, given_to, IsSmall, IsModest}
+use Rattle.outbox.specs.Counting.{is_to, counted, records_to}
 
 one_small : (b : Bool) (len : ℕ) → len ≤ 73728 → (if b then len + 4 else 0) ≤ 73732 * (if b then 1 else 0)
 one_small true len small = omega (arith, small)

@@ -1,7 +1,8 @@
 -- How workers end, and what is so of each then. Own definitions.
 use Rattle.std.specs.Prelude.{◌≡◌, ℕ, ◌+◌, ◌*◌, ◌≤◌, Bool, true, false, List, [], ◌∷◌, Option, Some, None, sum_by}
 use Rattle.rpc_msg.specs.Watching.{Watch, is_down}
-use Rattle.copy_workers.specs.Desk.{chunk_limit, given_to, landed_in, IsModest}
+use Rattle.copy_workers.specs.Desk.{chunk_limit, given_to, IsModest}
+use Rattle.outbox.specs.Counting.{landed_in}
 use Rattle.copy_workers.specs.declared.holding.Held.{Held}
 use Rattle.copy_workers.specs.declared.holding.Held.TheVariants as held
 use Rattle.copy_workers.specs.declared.report.Ended.{Ended}

@@ -1,5 +1,6 @@
 ghost use Rattle.std.specs.Prelude.{◌≡◌, ◌<◌, ◌≤◌, ◌^◌};
-ghost use Rattle.copy_workers.specs.Desk.{chunk_limit, given_to, landed_in};
+ghost use Rattle.copy_workers.specs.Desk.{chunk_limit, given_to};
+ghost use Rattle.outbox.specs.Counting.{landed_in};
 
 use outbox::{Note, Outgoing, To};
 

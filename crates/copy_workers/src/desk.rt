@@ -1,6 +1,7 @@
 ghost use Rattle.std.specs.Prelude.{◌≡◌, ℕ, ◌<◌, ◌≤◌, true, Option, IfOk};
 ghost use Rattle.rpc_msg.specs.Watching.{is_down};
-ghost use Rattle.copy_workers.specs.Desk.{landed_by, given_by, records_to, Adds, IsModest};
+ghost use Rattle.copy_workers.specs.Desk.{landed_by, given_by, Adds, IsModest};
+ghost use Rattle.outbox.specs.Counting.{records_to};
 
 use outbox::Outbox;
 use outcome::Mem;

@@ -1,7 +1,8 @@
 ghost use Rattle.std.specs.Prelude.{◌≡◌, ◌+◌, ◌<◌, ◌≤◌, ◌^◌, true, length, All};
 ghost use Rattle.rpc_msg.specs.Records.{record_limit};
 ghost use Rattle.rpc_msg.specs.Watching.{is_down};
-ghost use Rattle.copy_workers.specs.Desk.{given_to, records_to, IsSmall};
+ghost use Rattle.copy_workers.specs.Desk.{given_to, IsSmall};
+ghost use Rattle.outbox.specs.Counting.{records_to};
 ghost use Rattle.copy_workers.specs.Workers.{Sends};
 
 use crate::link::Link;

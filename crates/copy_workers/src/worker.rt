@@ -1,6 +1,7 @@
 ghost use Rattle.std.specs.Prelude.{◌≡◌, ◌+◌, ◌*◌, ◌<◌, ◌≤◌, ◌^◌, true, is_some};
 ghost use Rattle.rpc_msg.specs.Watching.{is_down};
-ghost use Rattle.copy_workers.specs.Desk.{chunk_limit, given_limit, given_to, records_to, landed_in, IsModest};
+ghost use Rattle.copy_workers.specs.Desk.{chunk_limit, given_limit, given_to, IsModest};
+ghost use Rattle.outbox.specs.Counting.{records_to, landed_in};
 ghost use Rattle.copy_workers.specs.Workers.{Sends, WasShut, WorkerIs};
 
 use crate::counting::{given_to, landed_in};

@@ -1,5 +1,6 @@
 ghost use Rattle.std.specs.Prelude.{◌≡◌, ◌+◌, ◌<◌, ◌≤◌, true, false, All, IfOk, OnErr};
-ghost use Rattle.copy_workers.specs.Desk.{chunk_limit, given_by, given_to, landed_by, landed_in, records_to, Adds, IsModest, IsSmall};
+ghost use Rattle.copy_workers.specs.Desk.{chunk_limit, given_by, given_to, landed_by, Adds, IsModest, IsSmall};
+ghost use Rattle.outbox.specs.Counting.{landed_in, records_to};
 ghost use Rattle.rpc_msg.specs.Watching.{is_down};
 ghost use Rattle.core_desk.specs.Core.{closing_of, passed_sent, same_sent, Gave, IsEmpty};
 ghost use Rattle.core_desk.specs.Kept.{kept_of, nothing_kept, passed_of, Gives};

@@ -1,5 +1,6 @@
 ghost use Rattle.std.specs.Prelude.{◌≡◌, ℕ, ◌+◌, ◌<◌, ◌≤◌, List, All, IfOk, OnErr};
-ghost use Rattle.copy_workers.specs.Desk.{chunk_limit, landed_by, landed_in, records_to, IsSmall};
+ghost use Rattle.copy_workers.specs.Desk.{chunk_limit, landed_by, IsSmall};
+ghost use Rattle.outbox.specs.Counting.{landed_in, records_to};
 ghost use Rattle.outbox.specs.declared.outgoing.Outbox.{Outbox};
 
 use outbox::Outbox;

@@ -1,7 +1,8 @@
 //! A machine that asks for records, and lands what comes.
 
 ghost use Rattle.std.specs.Prelude.{◌≡◌, ◌<◌, ◌≤◌, [], All, IfOk, OnErr};
-ghost use Rattle.copy_workers.specs.Desk.{records_to, IsSmall};
+ghost use Rattle.copy_workers.specs.Desk.{IsSmall};
+ghost use Rattle.outbox.specs.Counting.{records_to};
 
 use core_desk::{Core, MOST_CALLS};
 use nfs_base::JobName;

@@ -1,5 +1,5 @@
 use Rattle.std.proofs.Common.{◌≡◌, take}
-use Rattle.copy_workers.specs.Desk.{landed_in}
+use Rattle.outbox.specs.Counting.{landed_in}
 use Rattle.copy_workers.proofs.counting.landed_in.Given as goal
 
 abbrev pub invariant-notes : goal.invariant-notes

@@ -1,6 +1,7 @@
 use Rattle.std.proofs.Common.{◌≡◌, true, take}
 use Rattle.rpc_msg.specs.Watching.{is_down}
-use Rattle.copy_workers.specs.Desk.{given_to, records_to}
+use Rattle.copy_workers.specs.Desk.{given_to}
+use Rattle.outbox.specs.Counting.{records_to}
 use Rattle.copy_workers.specs.Workers.{Sends}
 use Rattle.copy_workers.proofs.sending.send_all.Given as goal
 
