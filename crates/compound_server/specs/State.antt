@@ -75,22 +75,27 @@ refusal s tag op status = answered_by s tag (refused op status ∷ [])
 abbrev pub Gives : {X : Type 0} → (Choice → Given X) → State X → List Used → List ℕ → Type 0
 Gives told state used body = (choice : Choice) → Agrees choice used → told choice ≡ record { state = state; used = used; body = body }
 
--- how many numbers a COMPOUND gives out at most
-pub record IsCounted {D X : Type 0} (given : X → ℕ) (old new : Server D X) : Type 0 where
+-- How many numbers a COMPOUND gives out at most. It lands no byte of a copy.
+pub record IsCounted {D X : Type 0} (given lands : X → ℕ) (old new : Server D X) : Type 0 where
   pub opens : new.files.opens.made ≤ old.files.opens.made + MOST_OPERATIONS
   pub own : given new.files.extra ≤ given old.files.extra + MOST_OPERATIONS
   pub clients : numbers_made new.sessions ≤ numbers_made old.sessions + 1
+  pub landed : lands new.files.extra ≡ lands old.files.extra
 
--- How many numbers so many operations behind SEQUENCE give out at most. The sessions with their slots stay.
-pub record AreCounted {D X : Type 0} (given : X → ℕ) (operations : ℕ) (old new : Server D X) : Type 0 where
+-- How many numbers so many operations behind SEQUENCE give out at most. The sessions with their slots stay, and no byte of a
+-- copy lands.
+pub record AreCounted {D X : Type 0} (given lands : X → ℕ) (operations : ℕ) (old new : Server D X) : Type 0 where
   pub opens : new.files.opens.made ≤ old.files.opens.made + operations
   pub own : given new.files.extra ≤ given old.files.extra + operations
   pub sessions : new.sessions.sessions ≡ old.sessions.sessions
   pub numbers : numbers_made new.sessions ≡ numbers_made old.sessions
+  pub landed : lands new.files.extra ≡ lands old.files.extra
 
--- What a client's end leaves as it was, the opens and the server's own apart: of these no number is given out.
-pub record LeavesRest {D X : Type 0} (given : X → ℕ) (old new : Server D X) : Type 0 where
+-- What a client's end leaves as it was, the opens and the server's own apart: of these no number is given out, and no byte of a
+-- copy lands.
+pub record LeavesRest {D X : Type 0} (given lands : X → ℕ) (old new : Server D X) : Type 0 where
   pub volume : new.files.volume ≡ old.files.volume
   pub sessions : new.sessions ≡ old.sessions
   pub opens : new.files.opens.made ≡ old.files.opens.made
   pub own : given new.files.extra ≤ given old.files.extra
+  pub landed : lands new.files.extra ≡ lands old.files.extra

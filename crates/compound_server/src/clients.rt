@@ -65,7 +65,7 @@ impl<D: Disk, X> Server<D, X> {
         ensures short { IfOk result (λ told. length told.body ≤ MOST_REPLY) }
         ensures volume { self.new.files.volume ≡ self.old.files.volume }
         ensures err { OnErr result (self.new ≡ self.old) }
-        ensures counted { IsCounted X.given self.old self.new }
+        ensures counted { IsCounted X.given X.landed self.old self.new }
     {
         match args.protection {
             Protection::Protected(_) => {
@@ -91,7 +91,7 @@ impl<D: Disk, X> Server<D, X> {
         ensures short { IfOk result (λ told. length told.body ≤ MOST_REPLY) }
         ensures volume { self.new.files.volume ≡ self.old.files.volume }
         ensures err { OnErr result (self.new ≡ self.old) }
-        ensures counted { IsCounted X.given self.old self.new }
+        ensures counted { IsCounted X.given X.landed self.old self.new }
     {
         let used = CallList::new(alloc)?;
         let page = Page::new(alloc, HEAD_ROOM + tag.len() + MOST_EXCHANGED)?;
@@ -120,7 +120,7 @@ impl<D: Disk, X> Server<D, X> {
         requires unused { used ≡ [] }
         ensures gives { given_of D.size self.new result ≡ by_exchanged answer (record { leave = X.leaves; lapse = X.lapses }) tag.now (state_of D.size self.old) }
         ensures short { length result.body ≤ HEAD_ROOM + length tag.now + MOST_EXCHANGED }
-        ensures rest { LeavesRest X.given self.old self.new }
+        ensures rest { LeavesRest X.given X.landed self.old self.new }
     {
         match answer {
             Exchanged::Refused(status) => {
@@ -160,7 +160,7 @@ impl<D: Disk, X> Server<D, X> {
         ensures short { IfOk result (λ told. length told.body ≤ MOST_REPLY) }
         ensures volume { self.new.files.volume ≡ self.old.files.volume }
         ensures err { OnErr result (self.new ≡ self.old) }
-        ensures counted { IsCounted X.given self.old self.new }
+        ensures counted { IsCounted X.given X.landed self.old self.new }
     {
         let used = CallList::new(alloc)?;
         let page = Page::new(alloc, HEAD_ROOM + tag.len() + MOST_CREATED)?;
@@ -192,7 +192,7 @@ impl<D: Disk, X> Server<D, X> {
         requires unused { used ≡ [] }
         ensures gives { given_of D.size self.new result ≡ by_created answer (record { leave = X.leaves; lapse = X.lapses }) tag.now (state_of D.size self.old) }
         ensures short { length result.body ≤ HEAD_ROOM + length tag.now + MOST_CREATED }
-        ensures rest { LeavesRest X.given self.old self.new }
+        ensures rest { LeavesRest X.given X.landed self.old self.new }
     {
         match answer {
             Created::Refused(status) => {
@@ -231,7 +231,7 @@ impl<D: Disk, X> Server<D, X> {
         ensures short { IfOk result (λ told. length told.body ≤ MOST_REPLY) }
         ensures volume { self.new.files.volume ≡ self.old.files.volume }
         ensures err { OnErr result (self.new ≡ self.old) }
-        ensures counted { IsCounted X.given self.old self.new }
+        ensures counted { IsCounted X.given X.landed self.old self.new }
     {
         let used = CallList::new(alloc)?;
         let mut page = Page::new(alloc, HEAD_ROOM + tag.len() + REFUSAL_ROOM)?;
@@ -260,7 +260,7 @@ impl<D: Disk, X> Server<D, X> {
         ensures short { IfOk result (λ told. length told.body ≤ MOST_REPLY) }
         ensures volume { self.new.files.volume ≡ self.old.files.volume }
         ensures err { OnErr result (self.new ≡ self.old) }
-        ensures counted { IsCounted X.given self.old self.new }
+        ensures counted { IsCounted X.given X.landed self.old self.new }
     {
         let used = CallList::new(alloc)?;
         let mut page = Page::new(alloc, HEAD_ROOM + tag.len() + REFUSAL_ROOM)?;
@@ -279,7 +279,7 @@ impl<D: Disk, X> Server<D, X> {
     where
         X: Serving<C>,
         ensures left { state_of D.size self.new ≡ left_if ended (record { leave = X.leaves; lapse = X.lapses }) client (state_of D.size self.old) }
-        ensures rest { LeavesRest X.given self.old self.new }
+        ensures rest { LeavesRest X.given X.landed self.old self.new }
     {
         if ended {
             self.end_client(client, ClientEnd::Gone);
@@ -290,7 +290,7 @@ impl<D: Disk, X> Server<D, X> {
     where
         X: Serving<C>,
         ensures left { state_of D.size self.new ≡ without_one (record { leave = X.leaves; lapse = X.lapses }) why client (state_of D.size self.old) }
-        ensures rest { LeavesRest X.given self.old self.new }
+        ensures rest { LeavesRest X.given X.landed self.old self.new }
     {
         self.files.opens.end(client);
         self.files.extra.leave(client, why);
@@ -301,7 +301,7 @@ impl<D: Disk, X> Server<D, X> {
     where
         X: Serving<C>,
         ensures left { state_of D.size self.new ≡ without_all (record { leave = X.leaves; lapse = X.lapses }) why clients.now (state_of D.size self.old) }
-        ensures rest { LeavesRest X.given self.old self.new }
+        ensures rest { LeavesRest X.given X.landed self.old self.new }
     {
         if let [client, rest @ ..] = clients {
             self.end_client(*client, why);
@@ -314,7 +314,7 @@ impl<D: Disk, X> Server<D, X> {
     where
         X: Serving<C>,
         ensures left { state_of D.size self.new ≡ without_all (record { leave = X.leaves; lapse = X.lapses }) Gone (option_to_list client) (state_of D.size self.old) }
-        ensures rest { LeavesRest X.given self.old self.new }
+        ensures rest { LeavesRest X.given X.landed self.old self.new }
     {
         if let Some(client) = client {
             self.end_client(client, ClientEnd::Gone);

@@ -65,7 +65,7 @@ impl<D: Disk, X> Server<D, X> {
         ensures short { IfOk result (λ told. length told.body ≤ MOST_REPLY) }
         ensures ran { IfOk result (λ told. Counted D.Told (seat_of D.size D.fuse D.timeline D.faults self.old.files.volume) (seat_of D.size D.fuse D.timeline D.faults self.new.files.volume) [] told.used) }
         ensures err { OnErr result (self.new ≡ self.old) }
-        ensures counted { IsCounted X.given self.old self.new }
+        ensures counted { IsCounted X.given X.landed self.old self.new }
     {
         let Compound {
             tag,
@@ -102,7 +102,7 @@ impl<D: Disk, X> Server<D, X> {
         ensures short { IfOk result (λ told. length told.body ≤ MOST_REPLY) }
         ensures volume { self.new.files.volume ≡ self.old.files.volume }
         ensures err { OnErr result (self.new ≡ self.old) }
-        ensures counted { IsCounted X.given self.old self.new }
+        ensures counted { IsCounted X.given X.landed self.old self.new }
     {
         let used = CallList::new(alloc)?;
         let mut page = Page::new(alloc, HEAD_ROOM + tag.len())?;
@@ -130,7 +130,7 @@ impl<D: Disk, X> Server<D, X> {
         ensures short { IfOk result (λ told. length told.body ≤ MOST_REPLY) }
         ensures volume { self.new.files.volume ≡ self.old.files.volume }
         ensures err { OnErr result (self.new ≡ self.old) }
-        ensures counted { IsCounted X.given self.old self.new }
+        ensures counted { IsCounted X.given X.landed self.old self.new }
     {
         let used = CallList::new(alloc)?;
         let mut page = Page::new(alloc, HEAD_ROOM + tag.len() + REFUSAL_ROOM)?;
@@ -165,7 +165,7 @@ impl<D: Disk, X> Server<D, X> {
         ensures short { IfOk result (λ told. length told.body ≤ MOST_REPLY) }
         ensures ran { IfOk result (λ told. Counted D.Told (seat_of D.size D.fuse D.timeline D.faults self.old.files.volume) (seat_of D.size D.fuse D.timeline D.faults self.new.files.volume) [] told.used) }
         ensures err { OnErr result (self.new ≡ self.old) }
-        ensures counted { IsCounted X.given self.old self.new }
+        ensures counted { IsCounted X.given X.landed self.old self.new }
     {
         if ops.is_empty() {
             return self.at_tail(alloc, who, tag.as_slice(), tail);
@@ -188,7 +188,7 @@ impl<D: Disk, X> Server<D, X> {
         ensures short { IfOk result (λ told. length told.body ≤ MOST_REPLY) }
         ensures volume { self.new.files.volume ≡ self.old.files.volume }
         ensures err { OnErr result (self.new ≡ self.old) }
-        ensures counted { IsCounted X.given self.old self.new }
+        ensures counted { IsCounted X.given X.landed self.old self.new }
     {
         match tail_refusal(tail) {
             Some(refusal) => self.refuse(alloc, who, tag, refusal.op, refusal.status),
@@ -205,7 +205,7 @@ impl<D: Disk, X> Server<D, X> {
         ensures short { IfOk result (λ told. length told.body ≤ MOST_REPLY) }
         ensures volume { self.new.files.volume ≡ self.old.files.volume }
         ensures err { OnErr result (self.new ≡ self.old) }
-        ensures counted { IsCounted X.given self.old self.new }
+        ensures counted { IsCounted X.given X.landed self.old self.new }
     {
         let used = CallList::new(alloc)?;
         let mut page = Page::new(alloc, HEAD_ROOM + tag.len())?;
@@ -236,7 +236,7 @@ impl<D: Disk, X> Server<D, X> {
         ensures short { IfOk result (λ told. length told.body ≤ MOST_REPLY) }
         ensures volume { self.new.files.volume ≡ self.old.files.volume }
         ensures err { OnErr result (self.new ≡ self.old) }
-        ensures counted { IsCounted X.given self.old self.new }
+        ensures counted { IsCounted X.given X.landed self.old self.new }
     {
         let number = op.number();
         if !stands_alone(number) {
@@ -312,7 +312,7 @@ impl<D: Disk, X> Server<D, X> {
         ensures short { IfOk result (λ told. length told.body ≤ MOST_REPLY) }
         ensures ran { IfOk result (λ told. Counted D.Told (seat_of D.size D.fuse D.timeline D.faults self.old.files.volume) (seat_of D.size D.fuse D.timeline D.faults self.new.files.volume) [] told.used) }
         ensures err { OnErr result (self.new ≡ self.old) }
-        ensures counted { IsCounted X.given self.old self.new }
+        ensures counted { IsCounted X.given X.landed self.old self.new }
     {
         let tag_bytes = tag.as_slice();
         match self
@@ -356,7 +356,7 @@ impl<D: Disk, X> Server<D, X> {
         ensures short { IfOk result (λ told. length told.body ≤ MOST_REPLY) }
         ensures volume { self.new.files.volume ≡ self.old.files.volume }
         ensures err { OnErr result (self.new ≡ self.old) }
-        ensures counted { IsCounted X.given self.old self.new }
+        ensures counted { IsCounted X.given X.landed self.old self.new }
     {
         let used = CallList::new(alloc)?;
         let body = Octets::from_slice(alloc, self.sessions.kept(place))?;
@@ -388,7 +388,7 @@ impl<D: Disk, X> Server<D, X> {
         ensures short { IfOk result (λ told. length told.body ≤ MOST_REPLY) }
         ensures ran { IfOk result (λ told. Counted D.Told (seat_of D.size D.fuse D.timeline D.faults self.old.files.volume) (seat_of D.size D.fuse D.timeline D.faults self.new.files.volume) [] told.used) }
         ensures err { OnErr result (self.new ≡ self.old) }
-        ensures counted { IsCounted X.given self.old self.new }
+        ensures counted { IsCounted X.given X.landed self.old self.new }
     {
         let prepared = prepare(alloc, &self.files.extra, carry, ops)?;
         let p = Progress::new(alloc, MOST_OPERATIONS)?;
@@ -439,7 +439,7 @@ impl<D: Disk, X> Server<D, X> {
         ensures gives { D.Told → Gives (λ choice. executed who.now place tag.now args.now (walk (record { gate = X.gated; serve = X.serves }) choice caller.now carry.now tail (map op_of ops) (begun (state_of D.size self.old)))) (state_of D.size self.new) result.used result.body }
         ensures short { length result.body ≤ MOST_REPLY }
         ensures ran { Counted D.Told (seat_of D.size D.fuse D.timeline D.faults self.old.files.volume) (seat_of D.size D.fuse D.timeline D.faults self.new.files.volume) [] result.used }
-        ensures counted { IsCounted X.given self.old self.new }
+        ensures counted { IsCounted X.given X.landed self.old self.new }
     {
         let done = self.evaluate(caller, carry, ops, tail, 1, &mut p);
         put_head(&mut body, done.status, tag, done.count);

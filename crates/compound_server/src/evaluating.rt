@@ -52,7 +52,7 @@ impl<D: Disk, X> Server<D, X> {
         ensures room { p.new.page.room ≡ p.old.page.room }
         ensures fits { length p.new.page.bytes ≤ p.old.page.room }
         ensures ran { Counted D.Told (seat_of D.size D.fuse D.timeline D.faults self.old.files.volume) (seat_of D.size D.fuse D.timeline D.faults self.new.files.volume) p.old.used p.new.used }
-        ensures counted { AreCounted X.given (length ops) self.old self.new }
+        ensures counted { AreCounted X.given X.landed (length ops) self.old self.new }
     {
         let mut rest = ops.into_deque();
         let mut count = count;

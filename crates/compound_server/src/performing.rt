@@ -42,7 +42,7 @@ impl<D: Disk, X> Server<D, X> {
         ensures performs { D.Told → Performs (λ choice. perform (record { gate = X.gated; serve = X.serves }) choice caller.now carry.now next (op_of one) (course_of D.size self.old p.old)) p.old.page.bytes (course_of D.size self.new p.new) p.new.page.bytes result.number }
         ensures keeps { Keeps p.old p.new }
         ensures ran { Counted D.Told (seat_of D.size D.fuse D.timeline D.faults self.old.files.volume) (seat_of D.size D.fuse D.timeline D.faults self.new.files.volume) p.old.used p.new.used }
-        ensures counted { AreCounted X.given 1 self.old self.new }
+        ensures counted { AreCounted X.given X.landed 1 self.old self.new }
     {
         let op = one.number();
         match place_refusal(op) {
@@ -68,7 +68,7 @@ impl<D: Disk, X> Server<D, X> {
         ensures performs { D.Told → Performs (λ choice. gated (asks_later (op_number (op_of one))) (record { gate = X.gated; serve = X.serves }) choice caller.now carry.now next (op_of one) (course_of D.size self.old p.old)) p.old.page.bytes (course_of D.size self.new p.new) p.new.page.bytes result.number }
         ensures keeps { Keeps p.old p.new }
         ensures ran { Counted D.Told (seat_of D.size D.fuse D.timeline D.faults self.old.files.volume) (seat_of D.size D.fuse D.timeline D.faults self.new.files.volume) p.old.used p.new.used }
-        ensures counted { AreCounted X.given 1 self.old self.new }
+        ensures counted { AreCounted X.given X.landed 1 self.old self.new }
     {
         let op = one.number();
         if asks_later(op) {
@@ -102,7 +102,7 @@ impl<D: Disk, X> Server<D, X> {
         ensures performs { D.Told → Performs (λ choice. done (record { gate = X.gated; serve = X.serves }) choice caller.now carry.now next (op_of one) (course_of D.size self.old p.old)) p.old.page.bytes (course_of D.size self.new p.new) p.new.page.bytes result.number }
         ensures keeps { Keeps p.old p.new }
         ensures ran { Counted D.Told (seat_of D.size D.fuse D.timeline D.faults self.old.files.volume) (seat_of D.size D.fuse D.timeline D.faults self.new.files.volume) p.old.used p.new.used }
-        ensures counted { AreCounted X.given 1 self.old self.new }
+        ensures counted { AreCounted X.given X.landed 1 self.old self.new }
     {
         match one {
             Prepared::File(arg) => self.file_done(caller, carry, next, arg, p),
@@ -126,7 +126,7 @@ impl<D: Disk, X> Server<D, X> {
         ensures performs { D.Told → Performs (λ choice. file_done (record { gate = X.gated; serve = X.serves }) choice caller.now carry.now next arg (course_of D.size self.old p.old)) p.old.page.bytes (course_of D.size self.new p.new) p.new.page.bytes result.number }
         ensures keeps { Keeps p.old p.new }
         ensures ran { Counted D.Told (seat_of D.size D.fuse D.timeline D.faults self.old.files.volume) (seat_of D.size D.fuse D.timeline D.faults self.new.files.volume) p.old.used p.new.used }
-        ensures counted { AreCounted X.given 1 self.old self.new }
+        ensures counted { AreCounted X.given X.landed 1 self.old self.new }
     {
         match arg {
             FileArg::Close(args) => self.files.close(&args, p),

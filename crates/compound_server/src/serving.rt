@@ -49,6 +49,9 @@ pub trait Serving<C>: Extension<Option<C>> + Drop {
     // How many numbers were given out.
     ghost given: { Self → ℕ };
 
+    // How many bytes of copies landed.
+    ghost landed: { Self → ℕ };
+
     /// Takes the memory that an operation wants.
     fn room(&self, alloc: Global, carry: &Option<C>, op: &CopyArg) -> Mem<Self::Room>
         ensures { IfOk result (λ room. suits room carry.now op.now) };
@@ -69,7 +72,8 @@ pub trait Serving<C>: Extension<Option<C>> + Drop {
         ensures keeps { Keeps p.old p.new }
         ensures ran { Counted D.Told (seat_of D.size D.fuse D.timeline D.faults files.old.volume) (seat_of D.size D.fuse D.timeline D.faults files.new.volume) p.old.used p.new.used }
         ensures opens { files.new.opens ≡ files.old.opens }
-        ensures given { given files.new.extra ≤ given files.old.extra + 1 };
+        ensures given { given files.new.extra ≤ given files.old.extra + 1 }
+        ensures landed { landed files.new.extra ≡ landed files.old.extra };
 
     /// A client has ended.
     fn leave(&mut self, client: u64, why: ClientEnd)
@@ -90,4 +94,11 @@ pub trait Serving<C>: Extension<Option<C>> + Drop {
     ghost by_leaving: { (client : ℕ) (why : ClientEnd) (x : Self) → given (leaves client why x) ≤ given x };
 
     ghost by_lapsing: { (second : ℕ) (x : Self) → given (lapses second x) ≤ given x };
+
+    // None of these lands a byte.
+    ghost gate_lands: { (x : Self) (caller : Caller) (carry : Option C) (ask : Ask) → landed (Self.gated x caller carry ask).0 ≡ landed x };
+
+    ghost leaving_lands: { (client : ℕ) (why : ClientEnd) (x : Self) → landed (leaves client why x) ≡ landed x };
+
+    ghost lapsing_lands: { (second : ℕ) (x : Self) → landed (lapses second x) ≡ landed x };
 }

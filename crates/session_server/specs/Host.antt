@@ -1,5 +1,5 @@
 -- A server with its contexts, as plain data, and what a step of it gives.
-use Rattle.std.specs.Prelude.{ℕ, ◌*◌, ◌≤◌, List, Option}
+use Rattle.std.specs.Prelude.{◌≡◌, ℕ, ◌*◌, ◌≤◌, List, Option}
 use Rattle.copy_ops.specs.declared.arg.CopyArg.{CopyArg}
 use Rattle.file_server.specs.declared.extension.Ask.{Ask}
 use Rattle.file_server.specs.declared.extension.Caller.{Caller}
@@ -58,6 +58,11 @@ pub record IsCountedBy {D X C : Type 0} (given : X → ℕ) (steps : ℕ) (h : H
 -- in those that were made
 abbrev pub IsCounted : {D X C : Type 0} → (X → ℕ) → Host D X C → Type 0
 IsCounted given h = IsCountedBy given h.steps h
+
+-- A step of the server's own lands no byte of a copy, and leaves no more untold.
+pub record KeepsOwn {D X C : Type 0} (lands owes : X → ℕ) (old new : Host D X C) : Type 0 where
+  pub landed : lands new.server.files.extra ≡ lands old.server.files.extra
+  pub untold : owes new.server.files.extra ≤ owes old.server.files.extra
 
 abbrev pub rules_of : {X C : Type 0} → (X → Caller → Option C → Ask → X × Gate) → (Choice → Caller → Option C → CopyArg → Going X → Served X)
     → (ℕ → ClientEnd → X → X) → (ℕ → X → X) → (ℕ → ContextTable C → ℕ → List ℕ → List ℕ → X → Judgement C) → (X → List Note) → (X → X) → Rules X C

@@ -6,7 +6,7 @@ ghost use Rattle.rpc_msg.specs.Heads.{denial, stat};
 ghost use Rattle.rpc_calls.specs.Answers.{counted};
 ghost use Rattle.rpc_calls.specs.Judging.{HasSpelling, IsThere, MayHaveChild};
 ghost use Rattle.session_server.specs.declared.host.TheConstants.{MOST_STEPS};
-ghost use Rattle.session_server.specs.Host.{host_of, rules_of, stepped_of, IsCounted};
+ghost use Rattle.session_server.specs.Host.{host_of, rules_of, stepped_of, IsCounted, KeepsOwn};
 ghost use Rattle.session_server.specs.Labels.{drop_cause};
 ghost use Rattle.session_server.specs.Lengths.{AreShort};
 ghost use Rattle.session_server.specs.Steps.{IsInit, denied, dropped, failed, going_back, granted, on_create, on_destroy, on_null, reply_seal, with_note};
@@ -50,6 +50,7 @@ impl<D: Disk, X, C: Drop> Host<D, X, C> {
         ensures steps { IfOk result (λ _. self.new.steps ≡ self.old.steps + 1) }
         ensures err { OnErr result (self.new ≡ self.old) }
         ensures counted { IsCounted X.given self.new }
+        ensures own { KeepsOwn X.landed X.untold self.old self.new }
     {
         let room = Room::new(alloc)?;
         count(&mut self.contexts, call, second);
@@ -80,6 +81,7 @@ impl<D: Disk, X, C: Drop> Host<D, X, C> {
         ensures steps { IfOk result (λ _. self.new.steps ≡ self.old.steps + 1) }
         ensures err { OnErr result (self.new ≡ self.old) }
         ensures counted { IsCounted X.given self.new }
+        ensures own { KeepsOwn X.landed X.untold self.old self.new }
     {
         let room = Room::new(alloc)?;
         let accepted = call.accepted(&self.contexts);
@@ -112,6 +114,7 @@ impl<D: Disk, X, C: Drop> Host<D, X, C> {
         ensures steps { IfOk result (λ _. self.new.steps ≡ self.old.steps + 1) }
         ensures err { OnErr result (self.new ≡ self.old) }
         ensures counted { IsCounted X.given self.new }
+        ensures own { KeepsOwn X.landed X.untold self.old self.new }
     {
         let room = Room::new(alloc)?;
         let accepted = call.accepted(&self.contexts);
@@ -151,6 +154,7 @@ impl<D: Disk, X, C: Drop> Host<D, X, C> {
         ensures steps { IfOk result (λ _. self.new.steps ≡ self.old.steps + 1) }
         ensures err { OnErr result (self.new ≡ self.old) }
         ensures counted { IsCounted X.given self.new }
+        ensures own { KeepsOwn X.landed X.untold self.old self.new }
     {
         let room = Room::new(alloc)?;
         let accepted = call.accepted(&self.contexts);
@@ -190,6 +194,7 @@ impl<D: Disk, X, C: Drop> Host<D, X, C> {
         ensures steps { IfOk result (λ _. self.new.steps ≡ self.old.steps + 1) }
         ensures err { OnErr result (self.new ≡ self.old) }
         ensures counted { IsCounted X.given self.new }
+        ensures own { KeepsOwn X.landed X.untold self.old self.new }
     {
         let room = Room::new(alloc)?;
         let accepted = call.accepted(&self.contexts);
@@ -228,6 +233,7 @@ impl<D: Disk, X, C: Drop> Host<D, X, C> {
         ensures steps { IfOk result (λ _. self.new.steps ≡ self.old.steps + 1) }
         ensures err { OnErr result (self.new ≡ self.old) }
         ensures counted { IsCounted X.given self.new }
+        ensures own { KeepsOwn X.landed X.untold self.old self.new }
         ensures later { W.faults draws.old ≤ W.faults draws.new }
         ensures undrawn { IfOk result (λ out. out.undrawn ≡ true → Rose (W.faults draws.old) (W.faults draws.new)) }
         ensures failing { W.failing draws.new ≡ W.failing draws.old }
@@ -279,6 +285,7 @@ impl<D: Disk, X, C: Drop> Host<D, X, C> {
         ensures steps { IfOk result (λ _. self.new.steps ≡ self.old.steps + 1) }
         ensures err { OnErr result (self.new ≡ self.old) }
         ensures counted { IsCounted X.given self.new }
+        ensures own { KeepsOwn X.landed X.untold self.old self.new }
     {
         let number = call.under.unwrap().number;
         let judgement = self
@@ -315,6 +322,7 @@ impl<D: Disk, X, C: Drop> Host<D, X, C> {
         ensures steps { IfOk result (λ _. self.new.steps ≡ self.old.steps + 1) }
         ensures err { OnErr result (self.new ≡ self.old) }
         ensures counted { IsCounted X.given self.new }
+        ensures own { KeepsOwn X.landed X.untold self.old self.new }
     {
         let room = Room::new(alloc)?;
         let accepted = call.accepted(&self.contexts);

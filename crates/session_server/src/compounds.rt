@@ -7,7 +7,7 @@ ghost use Rattle.rpc_calls.specs.Judging.{HasSpelling, IsAdmitted, IsThere};
 ghost use Rattle.server_volume.specs.Moments.{Counted};
 ghost use Rattle.server_volume.specs.Store.{seat_of};
 ghost use Rattle.session_server.specs.declared.host.TheConstants.{MOST_STEPS};
-ghost use Rattle.session_server.specs.Host.{host_of, rules_of, stepped_of, IsCounted};
+ghost use Rattle.session_server.specs.Host.{host_of, rules_of, stepped_of, IsCounted, KeepsOwn};
 ghost use Rattle.session_server.specs.Lengths.{AreShort};
 ghost use Rattle.session_server.specs.Steps.{IsCompoundTurn, who_calls};
 
@@ -52,6 +52,7 @@ impl<D: Disk, X, C: Drop> Host<D, X, C> {
         ensures steps { IfOk result (λ _. self.new.steps ≡ self.old.steps + 1) }
         ensures err { OnErr result (self.new ≡ self.old) }
         ensures counted { IsCounted X.given self.new }
+        ensures own { KeepsOwn X.landed X.untold self.old self.new }
     {
         match read_compound(alloc, args)? {
             Ok(compound) => self.evaluate(alloc, conn, call, compound, second),
@@ -84,6 +85,7 @@ impl<D: Disk, X, C: Drop> Host<D, X, C> {
         ensures steps { IfOk result (λ _. self.new.steps ≡ self.old.steps + 1) }
         ensures err { OnErr result (self.new ≡ self.old) }
         ensures counted { IsCounted X.given self.new }
+        ensures own { KeepsOwn X.landed X.untold self.old self.new }
     {
         let room = Room::new(alloc)?;
         let accepted = call.accepted(&self.contexts);

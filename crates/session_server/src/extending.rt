@@ -47,6 +47,9 @@ pub trait Extending<C>: Serving<C> {
 
     ghost silent: { Self → Self };
 
+    // How many of the bytes that landed came since the last step of which was told.
+    ghost untold: { Self → ℕ };
+
     fn mech(&self) -> &Self::Mech
         ensures { result.now ≡ mech_of self.now };
 
@@ -69,6 +72,12 @@ pub trait Extending<C>: Serving<C> {
         ensures notes { notes.new ≡ tells self.old }
         ensures silent { self.new ≡ silent self.old };
 
-    // To tell gives no number out.
+    // To tell gives no number out, and lands no byte. Then nothing is left to tell, and a second adds nothing.
     ghost by_telling: { (x : Self) → Self.given (silent x) ≤ Self.given x };
+
+    ghost telling_lands: { (x : Self) → Self.landed (silent x) ≡ Self.landed x };
+
+    ghost all_told: { (x : Self) → untold (silent x) ≡ 0 };
+
+    ghost lapsing_told: { (second : ℕ) (x : Self) → untold (Self.lapses second x) ≡ untold x };
 }

@@ -5,7 +5,7 @@ ghost use Rattle.outcome.specs.Causes.{Rose};
 ghost use Rattle.rpc_calls.specs.Judging.{IsSound, IsSoundWhere, judged_of};
 ghost use Rattle.server_volume.specs.Moments.{Counted};
 ghost use Rattle.server_volume.specs.Store.{seat_of};
-ghost use Rattle.session_server.specs.Host.{host_of, rules_of, stepped_of, IsCounted, IsCountedBy};
+ghost use Rattle.session_server.specs.Host.{host_of, rules_of, stepped_of, IsCounted, IsCountedBy, KeepsOwn};
 ghost use Rattle.session_server.specs.Lengths.{AreShort};
 ghost use Rattle.session_server.specs.Steps.{IsTurn, IsCallTurn, dropped, rested};
 
@@ -84,6 +84,7 @@ impl<D: Disk, X, C: Drop> Host<D, X, C> {
         ensures steps { IfOk result (λ _. self.new.steps ≡ self.old.steps + 1) }
         ensures err { OnErr result (self.new ≡ self.old) }
         ensures counted { IsCounted X.given self.new }
+        ensures own { KeepsOwn X.landed X.untold self.old self.new }
         ensures later { W.faults draws.old ≤ W.faults draws.new }
         ensures failing { W.failing draws.new ≡ W.failing draws.old }
     {
@@ -118,6 +119,7 @@ impl<D: Disk, X, C: Drop> Host<D, X, C> {
         ensures steps { IfOk result (λ _. self.new.steps ≡ self.old.steps + 1) }
         ensures err { OnErr result (self.new ≡ self.old) }
         ensures counted { IsCounted X.given self.new }
+        ensures own { KeepsOwn X.landed X.untold self.old self.new }
         ensures later { W.faults draws.old ≤ W.faults draws.new }
         ensures failing { W.failing draws.new ≡ W.failing draws.old }
     {
@@ -191,6 +193,7 @@ impl<D: Disk, X, C: Drop> Host<D, X, C> {
         ensures steps { IfOk result (λ _. self.new.steps ≡ self.old.steps + 1) }
         ensures err { OnErr result (self.new ≡ self.old) }
         ensures counted { IsCounted X.given self.new }
+        ensures own { KeepsOwn X.landed X.untold self.old self.new }
     {
         let room = Room::new(alloc)?;
         self.rest(second);

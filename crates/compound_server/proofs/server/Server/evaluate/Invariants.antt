@@ -21,6 +21,7 @@ invariant-operations g l = record {
   gave : g.X.Serving.given l.self.files.extra + length l.rest.items ≤ g.X.Serving.given l.initial.self.files.extra + length l.initial.rest.items;
   seats : l.self.sessions.sessions ≡ l.initial.self.sessions.sessions;
   numbers : numbers_made l.self.sessions ≡ numbers_made l.initial.self.sessions;
+  landed : g.X.Serving.landed l.self.files.extra ≡ g.X.Serving.landed l.initial.self.files.extra;
   room : l.p.page.room ≡ l.initial.p.page.room;
   ran : Counted g.D.Disk.Told (seat_of g.D.Disk.size g.D.Disk.fuse g.D.Disk.timeline g.D.Disk.faults l.initial.self.files.volume) (seat_of g.D.Disk.size g.D.Disk.fuse g.D.Disk.timeline g.D.Disk.faults l.self.files.volume) l.initial.p.used l.p.used;
   walks : g.D.Disk.Told → (choice : Choice) → Agrees choice l.p.used

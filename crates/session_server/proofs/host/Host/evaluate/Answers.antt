@@ -60,3 +60,13 @@ returns-clause-counted g c =
       own = own_counted _ _ _ _ (rw silent by_telling) told.own c.requires.counted.own;
       clients = let few = c.requires.counted.clients in let more = told.clients in omega arith;
     }
+
+pub returns-clause-own : goal.returns-clause-own
+returns-clause-own g c =
+    let left = c.on_compound.new.self.files.extra in
+    let silent = c.tell.ensures.silent in
+    let none = ap g.X.Extending.untold silent ∙ g.met.X.Extending.all_told left in
+    record {
+      landed = ap g.X.Serving.landed silent ∙ g.met.X.Extending.telling_lands left ∙ c.on_compound.ensures.counted.landed;
+      untold = omega (arith, none);
+    }
