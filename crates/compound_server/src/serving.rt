@@ -96,9 +96,9 @@ pub trait Serving<C>: Extension<Option<C>> + Drop {
     ghost by_lapsing: { (second : ℕ) (x : Self) → given (lapses second x) ≤ given x };
 
     // None of these lands a byte.
-    ghost gate_lands: { (x : Self) (caller : Caller) (carry : Option C) (ask : Ask) → landed (Self.gated x caller carry ask).0 ≡ landed x };
+    ghost gate_lands_none: { (x : Self) (caller : Caller) (carry : Option C) (ask : Ask) → landed (Self.gated x caller carry ask).0 ≡ landed x };
 
-    ghost leaving_lands: { (client : ℕ) (why : ClientEnd) (x : Self) → landed (leaves client why x) ≡ landed x };
+    ghost leaving_lands_none: { (client : ℕ) (why : ClientEnd) (x : Self) → landed (leaves client why x) ≡ landed x };
 
-    ghost lapsing_lands: { (second : ℕ) (x : Self) → landed (lapses second x) ≡ landed x };
+    ghost lapsing_lands_none: { (second : ℕ) (x : Self) → landed (lapses second x) ≡ landed x };
 }

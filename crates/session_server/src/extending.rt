@@ -72,11 +72,12 @@ pub trait Extending<C>: Serving<C> {
         ensures notes { notes.new ≡ tells self.old }
         ensures silent { self.new ≡ silent self.old };
 
-    // To tell gives no number out, and lands no byte. Then nothing is left to tell, and a second adds nothing.
+    // To tell gives no number out, and lands no byte.
     ghost by_telling: { (x : Self) → Self.given (silent x) ≤ Self.given x };
 
-    ghost telling_lands: { (x : Self) → Self.landed (silent x) ≡ Self.landed x };
+    ghost telling_lands_none: { (x : Self) → Self.landed (silent x) ≡ Self.landed x };
 
+    // Nothing is left to tell then, and a second adds nothing to that.
     ghost all_told: { (x : Self) → untold (silent x) ≡ 0 };
 
     ghost lapsing_told: { (second : ℕ) (x : Self) → untold (Self.lapses second x) ≡ untold x };

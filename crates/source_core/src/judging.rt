@@ -22,6 +22,7 @@ use std::alloc::Global;
 use wire_xdr::Octets;
 
 impl<M: Mechanism> Extending<Carried> for Source<M> {
+    ghost use Rattle.std.specs.Prelude.{refl};
     ghost use Rattle.source_core.specs.Judging.{judges, silent, tells};
     ghost use Rattle.source_core.specs.Laws.{none_given};
 
@@ -34,6 +35,8 @@ impl<M: Mechanism> Extending<Carried> for Source<M> {
     ghost tells = { tells };
 
     ghost silent = { silent };
+
+    ghost untold = { λ _. 0 };
 
     fn mech(&self) -> &M {
         &self.mech
@@ -69,6 +72,12 @@ impl<M: Mechanism> Extending<Carried> for Source<M> {
     }
 
     ghost by_telling = { λ x. none_given x };
+
+    ghost telling_lands_none = { λ x. refl };
+
+    ghost all_told = { λ x. refl };
+
+    ghost lapsing_told = { λ second x. refl };
 }
 
 impl<M: Mechanism> Source<M> {

@@ -42,6 +42,8 @@ impl<M: Mechanism> Serving<Carried> for Source<M> {
 
     ghost given = { given };
 
+    ghost landed = { λ _. 0 };
+
     fn room(&self, alloc: Global, carry: &Option<Carried>, op: &CopyArg) -> Mem<GrantStrings> {
         match op {
             CopyArg::CopyNotify(_) => strings_of(alloc, carry),
@@ -82,6 +84,12 @@ impl<M: Mechanism> Serving<Carried> for Source<M> {
     ghost by_leaving = { λ client why x. none_given x };
 
     ghost by_lapsing = { λ second x. none_given x };
+
+    ghost gate_lands_none = { λ x caller carry ask. refl };
+
+    ghost leaving_lands_none = { λ client why x. refl };
+
+    ghost lapsing_lands_none = { λ second x. refl };
 }
 
 /// Copies what a grant keeps of a privilege.

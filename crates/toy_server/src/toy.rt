@@ -138,6 +138,7 @@ impl Toy {
 }
 
 impl Serving<u32> for Toy {
+    ghost use Rattle.std.specs.Prelude.{refl};
     ghost use Rattle.toy_server.specs.Laws.{gates_give_none, none_given, same_gate, still};
     ghost use Rattle.toy_server.specs.Toy.{given, lapses, leaves, serves, suits};
 
@@ -152,6 +153,8 @@ impl Serving<u32> for Toy {
     ghost lapses = { lapses };
 
     ghost given = { given };
+
+    ghost landed = { λ _. 0 };
 
     fn room(&self, alloc: Global, carry: &Option<u32>, op: &CopyArg) -> Mem<()> {
         Ok(())
@@ -194,6 +197,12 @@ impl Serving<u32> for Toy {
     ghost by_leaving = { λ client why x. none_given x };
 
     ghost by_lapsing = { λ second x. none_given x };
+
+    ghost gate_lands_none = { λ x caller carry ask. refl };
+
+    ghost leaving_lands_none = { λ client why x. refl };
+
+    ghost lapsing_lands_none = { λ second x. refl };
 }
 
 /// What stands before that name in the result of COPY_NOTIFY (RFC 7862 section 15.3.2): the operation's number, status 0,
@@ -216,6 +225,7 @@ fn say_wide(p: &mut Progress, wide: &[u8; WIDE]) -> Status
 }
 
 impl Extending<u32> for Toy {
+    ghost use Rattle.std.specs.Prelude.{refl};
     ghost use Rattle.toy_server.specs.Laws.{none_given};
     ghost use Rattle.toy_server.specs.Toy.{judges, silent, tells};
 
@@ -228,6 +238,8 @@ impl Extending<u32> for Toy {
     ghost tells = { tells };
 
     ghost silent = { silent };
+
+    ghost untold = { λ _. 0 };
 
     fn mech(&self) -> &Realm {
         &self.mech
@@ -255,6 +267,12 @@ impl Extending<u32> for Toy {
     }
 
     ghost by_telling = { λ x. none_given x };
+
+    ghost telling_lands_none = { λ x. refl };
+
+    ghost all_told = { λ x. refl };
+
+    ghost lapsing_told = { λ second x. refl };
 }
 
 /// The privilege `toy` has one byte, the number of a file.

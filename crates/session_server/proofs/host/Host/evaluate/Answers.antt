@@ -67,6 +67,6 @@ returns-clause-own g c =
     let silent = c.tell.ensures.silent in
     let none = ap g.X.Extending.untold silent ∙ g.met.X.Extending.all_told left in
     record {
-      landed = ap g.X.Serving.landed silent ∙ g.met.X.Extending.telling_lands left ∙ c.on_compound.ensures.counted.landed;
+      landed = ap g.X.Serving.landed silent ∙ g.met.X.Extending.telling_lands_none left ∙ c.on_compound.ensures.counted.landed;
       untold = omega (arith, none);
     }
