@@ -9,7 +9,7 @@ ghost use Rattle.dest_steps.specs.Failing.{failing};
 ghost use Rattle.dest_steps.specs.Landing.{doing_of, Does};
 ghost use Rattle.dest_steps.specs.Hearing.{heard_client};
 ghost use Rattle.dest_steps.specs.Replying.{effect_done, IsHeard};
-ghost use Rattle.dest_steps.specs.Short.{EffectIsShort, FailingIsShort, TurnIsShort};
+ghost use Rattle.dest_steps.specs.Sending.{EffectMaySend, FailingMaySend, TurnMaySend};
 ghost use Rattle.dest_steps.specs.Ticking.{again};
 ghost use Rattle.dest_steps.specs.Turning.{IsTurnOf};
 ghost use Rattle.dest_steps.specs.Working.{turn_made};
@@ -110,7 +110,7 @@ fn turn_due<D: Disk, M: Mechanism, W: Draws>(
 ) -> Mem<Turn>
     requires place { place < WORKERS }
     ensures turn { IfOk result (λ turn. IsTurnOf W.gives (M.started server.old.files.extra.mech) (record { mic = M.mic_of; derived = M.derived }) (around_in second server.old) place server.old.files.extra.copier draws.old draws.new (turn, server.new.files.extra.copier)) }
-    ensures short { IfOk result TurnIsShort }
+    ensures short { IfOk result TurnMaySend }
     ensures undrawn { IfOk result (λ turn. turn ≡ turns.Undrawn → Rose (W.faults draws.old) (W.faults draws.new)) }
     ensures same { server.new ≡ put_copier server.new.files.extra.copier server.old }
     ensures given { server.new.files.extra.copier.copies.book.table.made ≡ server.old.files.extra.copier.copies.book.table.made }
@@ -134,7 +134,7 @@ fn make_turn<D: Disk, M: Mechanism>(
     requires few { host.old.steps < MOST_STEPS }
     requires counted { IsCounted given host.old }
     requires place { place < WORKERS }
-    requires short { TurnIsShort turn }
+    requires short { TurnMaySend turn }
     ensures short { AreShort result.sent }
     ensures is { D.Told → (choice : Choice) → Agrees choice result.used → stepped_of D.size host.new result ≡ turn_step choice place now turn (host_of D.size host.old) }
     ensures ran { Counted D.Told (seat_of D.size D.fuse D.timeline D.faults host.old.server.files.volume) (seat_of D.size D.fuse D.timeline D.faults host.new.server.files.volume) [] result.used }
@@ -169,7 +169,7 @@ fn make_turn_on<D: Disk, M>(
     room: Vec<Outgoing>,
 ) -> Items<Outgoing>
     requires place { place < WORKERS }
-    requires short { TurnIsShort turn }
+    requires short { TurnMaySend turn }
     requires calls { used.old ≡ [] }
     requires room { room.items ≡ [] }
     requires one { 1 ≤ vec_capacity room }
@@ -250,7 +250,7 @@ fn hear<D: Disk, M: Mechanism>(
     second: u64,
 ) -> Mem<Heard>
     requires place { place < WORKERS }
-    ensures short { IfOk result (λ heard. EffectIsShort heard.effect) }
+    ensures short { IfOk result (λ heard. EffectMaySend heard.effect) }
     ensures heard { IfOk result (λ heard. IsHeard (record { mic = M.mic_of; derived = M.derived }) (M.finished server.old.files.extra.mech server.old.files.extra.copier.principal) (around_in second server.old) place record_.now server.old.files.extra.copier heard server.new.files.extra.copier) }
     ensures same { server.new ≡ put_copier server.new.files.extra.copier server.old }
     ensures given { server.new.files.extra.copier.copies.book.table.made ≡ server.old.files.extra.copier.copies.book.table.made }
@@ -272,7 +272,7 @@ fn make_effect<D: Disk, M: Mechanism>(
     requires few { host.old.steps < MOST_STEPS }
     requires counted { IsCounted given host.old }
     requires place { place < WORKERS }
-    requires short { EffectIsShort heard.effect }
+    requires short { EffectMaySend heard.effect }
     ensures short { AreShort result.sent }
     ensures is { D.Told → (choice : Choice) → Agrees choice result.used → stepped_of D.size host.new result ≡ reply_step choice place now heard (host_of D.size host.old) }
     ensures ran { Counted D.Told (seat_of D.size D.fuse D.timeline D.faults host.old.server.files.volume) (seat_of D.size D.fuse D.timeline D.faults host.new.server.files.volume) [] result.used }
@@ -299,7 +299,7 @@ fn make_effect_on<D: Disk, M>(
     room: Vec<Outgoing>,
 ) -> Items<Outgoing>
     requires place { place < WORKERS }
-    requires short { EffectIsShort effect }
+    requires short { EffectMaySend effect }
     requires calls { used.old ≡ [] }
     requires room { room.items ≡ [] }
     ensures does { D.Told → Does (λ choice. effect_done choice place effect (doing_of files.old.extra.copier (store_of D.size files.old.volume) used.old)) files.new.extra.copier (store_of D.size files.new.volume) used.new result }
@@ -348,7 +348,7 @@ fn failing<D: Disk, M: Mechanism>(
     second: u64,
 ) -> Mem<Failing>
     requires { place < WORKERS }
-    ensures short { IfOk result FailingIsShort }
+    ensures short { IfOk result FailingMaySend }
     ensures told { IfOk result (λ told. told ≡ failing (record { mic = M.mic_of; derived = M.derived }) (around_in second server.now) place server.now.files.extra.copier) }
 {
     let extra = &server.files.extra;

@@ -10,7 +10,7 @@ use Rattle.outbox.specs.declared.outgoing.Outgoing.{Outgoing}
 use Rattle.server_volume.specs.Choices.{Grows}
 use Rattle.server_volume.specs.Store.{Store}
 use Rattle.server_volume.specs.declared.used.Used.{Used}
-use Rattle.dest_steps.specs.Landing.{Doing, Done, doing_of}
+use Rattle.dest_steps.specs.Landing.{Done, doing_of}
 use Rattle.dest_steps.specs.declared.copier.Copier.{Copier}
 
 abbrev pub done_of : Copier → Store → List Used → List Outgoing → Done

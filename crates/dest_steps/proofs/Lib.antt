@@ -1,4 +1,6 @@
+pub mod Claims
 pub mod Doing
 pub mod Jobs
+pub mod Keeping
 pub mod Quiet
 pub mod Turns

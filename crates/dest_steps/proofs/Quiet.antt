@@ -13,7 +13,6 @@ use Rattle.dest_work.specs.declared.work.Due.TheVariants as dues
 use Rattle.dest_work.specs.declared.work.Work.{Work}
 use Rattle.gss_ctx.specs.Seals.{Mic}
 use Rattle.job_book.specs.Book.{BookView, named}
-use Rattle.job_log.specs.declared.chunk.Chunk.{Chunk}
 use Rattle.job_table.specs.declared.job.Plan.{Plan}
 use Rattle.mount.specs.State.{Mounted, awaited_at, has_numbers, is_setting_up}
 use Rattle.mount.specs.declared.machine.SendAt.{SendAt}

@@ -4,7 +4,7 @@ pub mod Failing
 pub mod Hearing
 pub mod Landing
 pub mod Replying
-pub mod Short
+pub mod Sending
 pub mod Telling
 pub mod Ticking
 pub mod Turning

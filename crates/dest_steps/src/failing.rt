@@ -1,7 +1,9 @@
 //! A worker's link that failed.
 
-ghost use Rattle.dest_steps.specs.Short.{AreShort, FailingIsShort};
-ghost use Rattle.std.specs.Prelude.{◌≡◌, ◌<◌, [], IfOk, Some};
+ghost use Rattle.dest_steps.specs.Sending.{AreShort, FailingMaySend};
+ghost use Rattle.std.specs.Prelude.{◌≡◌, ◌+◌, ◌<◌, [], IfOk, Some};
+ghost use Rattle.outbox.specs.Counting.{records_to};
+ghost use Rattle.dest_jobs.specs.Counting.{KeepsLanded};
 ghost use Rattle.dest_steps.specs.Failing.{failing, failing_for, link_failed};
 ghost use Rattle.dest_tasks.specs.declared.workers.TheConstants.{WORKERS};
 ghost use Rattle.dest_steps.specs.Copier.{around_of};
@@ -39,7 +41,7 @@ impl Copier {
         mech: &M,
     ) -> Mem<Failing>
         requires { place < WORKERS }
-        ensures short { IfOk result FailingIsShort }
+        ensures short { IfOk result FailingMaySend }
         ensures told { IfOk result (λ told. told ≡ failing (record { mic = M.mic_of; derived = M.derived }) (around_of sessions.now here) place self.now) }
     {
         match self.work.workers.job(place) {
@@ -56,7 +58,7 @@ impl Copier {
         here: Here,
         mech: &M,
     ) -> Mem<Failing>
-        ensures short { IfOk result FailingIsShort }
+        ensures short { IfOk result FailingMaySend }
         ensures told { IfOk result (λ told. told ≡ failing_for (record { mic = M.mic_of; derived = M.derived }) (around_of sessions.now here) (Some job) self.now) }
     {
         if !self.copies.book.is_running(job) {
@@ -76,11 +78,13 @@ pub fn take_failing(
 ) -> Items<Outgoing>
     requires place { place < WORKERS }
     requires room { room.items ≡ [] }
-    requires short { FailingIsShort failing }
+    requires short { FailingMaySend failing }
     ensures short { AreShort result }
+    ensures none { records_to (place + 1) result ≡ 0 }
     ensures after { copier.new ≡ (link_failed place failing copier.old).0 }
     ensures sent { result ≡ (link_failed place failing copier.old).1 }
     ensures given { copier.new.copies.book.table.made ≡ copier.old.copies.book.table.made }
+    ensures keeps { KeepsLanded copier.old.copies copier.new.copies }
 {
     copier.work.link_failed(place);
     match failing {

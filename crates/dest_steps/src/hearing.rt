@@ -1,6 +1,7 @@
 //! Clients' answers to callbacks.
 
 ghost use Rattle.std.specs.Prelude.{◌≡◌, IfOk};
+ghost use Rattle.dest_jobs.specs.Counting.{KeepsLanded};
 ghost use Rattle.dest_steps.specs.Hearing.{hearing_done, heard_client, is_there, of_book};
 
 use crate::copier::Copier;
@@ -62,6 +63,7 @@ pub fn take_hearing(copier: &mut Copier, boot: u32, hearing: Hearing) -> Option<
     ensures after { copier.new ≡ (hearing_done boot hearing copier.old).0 }
     ensures accepted { result ≡ (hearing_done boot hearing copier.old).1 }
     ensures given { copier.new.copies.book.table.made ≡ copier.old.copies.book.table.made }
+    ensures keeps { KeepsLanded copier.old.copies copier.new.copies }
 {
     match hearing {
         Hearing::Unmatched => {

@@ -1,6 +1,6 @@
 //! How a chunk lands.
 
-ghost use Rattle.dest_steps.specs.Short.{AreShort, LandingIsShort};
+ghost use Rattle.dest_steps.specs.Sending.{AreShort, GoBack, LandingMaySend};
 ghost use Rattle.std.specs.Prelude.{◌≡◌, ◌<◌, ◌≤◌, ◌+◌, [], length, IfOk, IfSome, None};
 ghost use Rattle.block_file.specs.Opened.{SameOpening};
 ghost use Rattle.server_volume.specs.Choices.{Grows};
@@ -8,6 +8,7 @@ ghost use Rattle.server_volume.specs.Moments.{Counted};
 ghost use Rattle.server_volume.specs.Store.{seat_of, store_of};
 ghost use Rattle.server_volume.specs.declared.used.TheConstants.{MOST_CALLS};
 ghost use Rattle.dest_tasks.specs.declared.workers.TheConstants.{WORKERS};
+ghost use Rattle.dest_jobs.specs.Counting.{Lands};
 ghost use Rattle.dest_steps.specs.Landing.{doing_of, landed, late, target, target_off, waits, written_at, written_to, Does};
 ghost use Rattle.dest_steps.specs.Turning.{landing_for};
 ghost use Rattle.job_book.specs.Book.{id_of, named};
@@ -50,7 +51,7 @@ impl Copier {
         here: Here,
         mech: &M,
     ) -> Mem<Option<Landing>>
-        ensures short { IfOk result (λ told. LandingIsShort told) }
+        ensures short { IfOk result (λ told. LandingMaySend told) }
         ensures told { IfOk result (λ told. told ≡ landing_for (record { mic = M.mic_of; derived = M.derived }) (around_of sessions.now here) job self.now) }
     {
         if !self.copies.book.is_running(job) {
@@ -100,7 +101,7 @@ pub(crate) fn land<D: Disk>(
     used: &mut CallList,
     room: Vec<Outgoing>,
 ) -> Items<Outgoing>
-    requires short { LandingIsShort told }
+    requires short { LandingMaySend told }
     requires place { place < WORKERS }
     requires calls { length used.old < MOST_CALLS }
     requires room { room.items ≡ [] }
@@ -108,6 +109,8 @@ pub(crate) fn land<D: Disk>(
     ensures ran { Counted D.Told (seat_of D.size D.fuse D.timeline D.faults volume.old) (seat_of D.size D.fuse D.timeline D.faults volume.new) used.old used.new }
     ensures grows { Grows used.old used.new }
     ensures short { AreShort result }
+    ensures back { GoBack result }
+    ensures lands { Lands copier.old.copies copier.new.copies }
     ensures once { length used.new ≤ length used.old + 1 }
     ensures opening { SameOpening volume.old.volume volume.new.volume }
     ensures tag { volume.new.tag ≡ volume.old.tag }
@@ -140,7 +143,7 @@ fn write<D: Disk>(
     used: &mut CallList,
     room: Vec<Outgoing>,
 ) -> Items<Outgoing>
-    requires short { LandingIsShort (Some told) }
+    requires short { LandingMaySend (Some told) }
     requires takes { table_landing copier.old.copies.book.table (id_of job) chunk ≡ takes.Landed }
     requires calls { length used.old < MOST_CALLS }
     requires room { room.items ≡ [] }
@@ -148,6 +151,8 @@ fn write<D: Disk>(
     ensures ran { Counted D.Told (seat_of D.size D.fuse D.timeline D.faults volume.old) (seat_of D.size D.fuse D.timeline D.faults volume.new) used.old used.new }
     ensures grows { Grows used.old used.new }
     ensures short { AreShort result }
+    ensures back { GoBack result }
+    ensures lands { Lands copier.old.copies copier.new.copies }
     ensures once { length used.new ≤ length used.old + 1 }
     ensures opening { SameOpening volume.old.volume volume.new.volume }
     ensures tag { volume.new.tag ≡ volume.old.tag }
@@ -175,7 +180,7 @@ fn write_at<D: Disk>(
     used: &mut CallList,
     room: Vec<Outgoing>,
 ) -> Items<Outgoing>
-    requires short { LandingIsShort (Some told) }
+    requires short { LandingMaySend (Some told) }
     requires takes { table_landing copier.old.copies.book.table (id_of job) chunk ≡ takes.Landed }
     requires no_root { 1 ≤ file }
     requires there { file < length volume.old.volume.files }
@@ -186,6 +191,8 @@ fn write_at<D: Disk>(
     ensures ran { Counted D.Told (seat_of D.size D.fuse D.timeline D.faults volume.old) (seat_of D.size D.fuse D.timeline D.faults volume.new) used.old used.new }
     ensures grows { Grows used.old used.new }
     ensures short { AreShort result }
+    ensures back { GoBack result }
+    ensures lands { Lands copier.old.copies copier.new.copies }
     ensures once { length used.new ≤ length used.old + 1 }
     ensures opening { SameOpening volume.old.volume volume.new.volume }
     ensures tag { volume.new.tag ≡ volume.old.tag }

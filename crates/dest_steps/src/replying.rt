@@ -1,6 +1,6 @@
 //! The source's answers.
 
-ghost use Rattle.dest_steps.specs.Short.{AreShort, EffectIsShort};
+ghost use Rattle.dest_steps.specs.Sending.{AreShort, EffectMaySend};
 ghost use Rattle.std.specs.Prelude.{◌≡◌, ◌<◌, ◌≤◌, ◌+◌, [], length, IfOk, IfSome, IsSome, None};
 ghost use Rattle.block_file.specs.Opened.{SameOpening};
 ghost use Rattle.server_volume.specs.Choices.{Grows};
@@ -11,8 +11,10 @@ ghost use Rattle.dest_tasks.specs.declared.workers.TheConstants.{WORKERS};
 ghost use Rattle.std.specs.Prelude.{OnErr};
 ghost use Rattle.dest_steps.specs.Landing.{doing_of, Does};
 ghost use Rattle.dest_steps.specs.Replying.{bytes_due, dropped, effect_done, is_read, len_for, may_size, stop_due, with_denial, IsFound, IsHeard, IsHeardAs, IsSizedIf, IsSizing};
+ghost use Rattle.dest_jobs.specs.Counting.{KeepsLanded, Lands};
 ghost use Rattle.dest_jobs.specs.Progress.{MaySize};
 ghost use Rattle.job_book.specs.Book.{named};
+ghost use Rattle.outbox.specs.Counting.{records_to};
 ghost use Rattle.outbox.specs.declared.note.Dropped.TheVariants.{Unmatched, Unread};
 ghost use Rattle.dest_steps.specs.declared.replying.Effect.TheVariants as effects;
 ghost use Rattle.dest_steps.specs.Copier.{around_of};
@@ -74,9 +76,11 @@ impl Copier {
         mech: &M,
     ) -> Mem<Heard>
         requires { place < WORKERS }
-        ensures short { IfOk result (λ heard. EffectIsShort heard.effect) }
+        ensures short { IfOk result (λ heard. EffectMaySend heard.effect) }
         ensures heard { IfOk result (λ heard. IsHeard (record { mic = M.mic_of; derived = M.derived }) (M.finished mech.now self.old.principal) (around_of sessions.now here) place record_.now self.old heard self.new) }
         ensures given { self.new.copies.book.table.made ≡ self.old.copies.book.table.made }
+        ensures keeps { KeepsLanded self.old.copies self.new.copies }
+        ensures notes { length self.new.copies.told ≤ length self.old.copies.told + 1 }
         ensures err { OnErr result (self.new ≡ self.old) }
     {
         if !is_read(alloc, record_)? {
@@ -104,9 +108,11 @@ impl Copier {
         here: Here,
         mech: &M,
     ) -> Mem<Heard>
-        ensures short { IfOk result (λ heard. EffectIsShort heard.effect) }
+        ensures short { IfOk result (λ heard. EffectMaySend heard.effect) }
         ensures heard { IfOk result (λ heard. IsHeardAs (record { mic = M.mic_of; derived = M.derived }) (around_of sessions.now here) taken self.old heard self.new) }
         ensures given { self.new.copies.book.table.made ≡ self.old.copies.book.table.made }
+        ensures keeps { KeepsLanded self.old.copies self.new.copies }
+        ensures notes { length self.new.copies.told ≤ length self.old.copies.told + 1 }
         ensures err { OnErr result (self.new ≡ self.old) }
     {
         let Taken {
@@ -131,9 +137,11 @@ impl Copier {
         here: Here,
         mech: &M,
     ) -> Mem<Effect>
-        ensures short { IfOk result EffectIsShort }
+        ensures short { IfOk result EffectMaySend }
         ensures found { IfOk result (λ effect. IsFound (record { mic = M.mic_of; derived = M.derived }) (around_of sessions.now here) job errand finding mount self.old effect self.new) }
         ensures given { self.new.copies.book.table.made ≡ self.old.copies.book.table.made }
+        ensures keeps { KeepsLanded self.old.copies self.new.copies }
+        ensures notes { length self.new.copies.told ≤ length self.old.copies.told + 1 }
         ensures err { OnErr result (self.new ≡ self.old) }
     {
         match finding {
@@ -159,7 +167,7 @@ impl Copier {
         here: Here,
         mech: &M,
     ) -> Mem<Effect>
-        ensures short { IfOk result EffectIsShort }
+        ensures short { IfOk result EffectMaySend }
         ensures effect { IfOk result (λ effect. effect ≡ bytes_due (record { mic = M.mic_of; derived = M.derived }) (around_of sessions.now here) job errand bytes mount self.now) }
     {
         match errand {
@@ -184,7 +192,7 @@ impl Copier {
         here: Here,
         mech: &M,
     ) -> Mem<Effect>
-        ensures short { IfOk result EffectIsShort }
+        ensures short { IfOk result EffectMaySend }
         ensures effect { IfOk result (λ effect. effect ≡ stop_due (record { mic = M.mic_of; derived = M.derived }) (around_of sessions.now here) job cause mount self.now) }
     {
         if !self.copies.book.is_running(job) {
@@ -205,9 +213,11 @@ impl Copier {
         here: Here,
         mech: &M,
     ) -> Mem<Effect>
-        ensures short { IfOk result EffectIsShort }
+        ensures short { IfOk result EffectMaySend }
         ensures sized { IfOk result (λ effect. IsSizedIf (may_size job self.old) (record { mic = M.mic_of; derived = M.derived }) (around_of sessions.now here) job size mount self.old effect self.new) }
         ensures given { self.new.copies.book.table.made ≡ self.old.copies.book.table.made }
+        ensures keeps { KeepsLanded self.old.copies self.new.copies }
+        ensures notes { length self.new.copies.told ≤ length self.old.copies.told + 1 }
         ensures err { OnErr result (self.new ≡ self.old) }
     {
         if !self.may_size(job) {
@@ -236,12 +246,15 @@ impl Copier {
         }
     }
 
+    #[tactic(auto, using(dest_jobs::specs::LandedLaws::sizing_lands_none))]
     fn size_to(&mut self, job: JobName, len: u64, mount: Mount) -> Mem<Effect>
         requires there { IsSome (named self.old.copies.book.table job) }
         requires may { IfSome (named self.old.copies.book.table job) (MaySize self.old.copies.book.table.capacity len) }
-        ensures short { IfOk result EffectIsShort }
+        ensures short { IfOk result EffectMaySend }
         ensures sized { IfOk result (λ effect. IsSizing len job mount self.old effect self.new) }
         ensures given { self.new.copies.book.table.made ≡ self.old.copies.book.table.made }
+        ensures keeps { KeepsLanded self.old.copies self.new.copies }
+        ensures notes { length self.new.copies.told ≤ length self.old.copies.told + 1 }
         ensures err { OnErr result (self.new ≡ self.old) }
     {
         self.copies.size(job, len)?;
@@ -294,7 +307,7 @@ pub fn take_effect<D: Disk>(
     used: &mut CallList,
     room: Vec<Outgoing>,
 ) -> Items<Outgoing>
-    requires short { EffectIsShort effect }
+    requires short { EffectMaySend effect }
     requires place { place < WORKERS }
     requires calls { length used.old < MOST_CALLS }
     requires room { room.items ≡ [] }
@@ -302,6 +315,8 @@ pub fn take_effect<D: Disk>(
     ensures ran { Counted D.Told (seat_of D.size D.fuse D.timeline D.faults volume.old) (seat_of D.size D.fuse D.timeline D.faults volume.new) used.old used.new }
     ensures grows { Grows used.old used.new }
     ensures short { AreShort result }
+    ensures one { records_to (place + 1) result ≤ 1 }
+    ensures lands { Lands copier.old.copies copier.new.copies }
     ensures once { length used.new ≤ length used.old + 1 }
     ensures opening { SameOpening volume.old.volume volume.new.volume }
     ensures tag { volume.new.tag ≡ volume.old.tag }

@@ -1,6 +1,6 @@
 //! What is sent where a job ends (RFC 7862 section 16.1).
 
-ghost use Rattle.dest_steps.specs.Short.{AreShort};
+ghost use Rattle.dest_steps.specs.Sending.{AreShort, GoBack};
 ghost use Rattle.std.specs.Prelude.{◌≡◌, ◌<◌, IfOk};
 ghost use Rattle.dest_back.specs.Telling.{FitsRecord};
 ghost use Rattle.dest_jobs.specs.Copying.{offload_id};
@@ -41,6 +41,7 @@ impl Copier {
         mech: &M,
     ) -> Mem<Telling>
         ensures short { IfOk result (λ told. AreShort told.sent) }
+        ensures back { IfOk result (λ told. GoBack told.sent) }
         ensures told { IfOk result (λ told. told ≡ stop_telling (record { mic = M.mic_of; derived = M.derived }) (around_of sessions.now here) name cause self.now) }
     {
         match stop_status(cause) {
@@ -79,6 +80,7 @@ impl Copier {
         mech: &M,
     ) -> Mem<Telling>
         ensures short { IfOk result (λ told. AreShort told.sent) }
+        ensures back { IfOk result (λ told. GoBack told.sent) }
         ensures told { IfOk result (λ told. told ≡ commit_telling (record { mic = M.mic_of; derived = M.derived }) (around_of sessions.now here) name self.now) }
     {
         let response = WriteResponse {
@@ -99,6 +101,7 @@ impl Copier {
 
     fn tell_nothing(&self, alloc: Global) -> Mem<Telling>
         ensures short { IfOk result (λ told. AreShort told.sent) }
+        ensures back { IfOk result (λ told. GoBack told.sent) }
         ensures told { IfOk result (λ told. told ≡ telling_nothing self.now) }
     {
         Ok(Telling {
@@ -117,6 +120,7 @@ impl Copier {
         mech: &M,
     ) -> Mem<Telling>
         ensures short { IfOk result (λ told. AreShort told.sent) }
+        ensures back { IfOk result (λ told. GoBack told.sent) }
         ensures told { IfOk result (λ told. told ≡ telling (record { mic = M.mic_of; derived = M.derived }) (around_of sessions.now here) name end self.now) }
     {
         let Some(xid) = self.next_xid() else {
@@ -153,6 +157,7 @@ impl Copier {
     ) -> Mem<Telling>
         requires { at.seat < SEATS }
         ensures short { IfOk result (λ told. AreShort told.sent) }
+        ensures back { IfOk result (λ told. GoBack told.sent) }
         ensures told { IfOk result (λ told. told ≡ telling_at (record { mic = M.mic_of; derived = M.derived }) (around_of sessions.now here) at ended.now self.now) }
     {
         let mut back = self.back.copy(alloc)?;
@@ -166,6 +171,7 @@ impl Copier {
 fn one_call(alloc: Global, call: Option<Sent>) -> Mem<Items<Outgoing>>
     requires { FitsRecord call }
     ensures short { IfOk result (λ sent. AreShort sent) }
+    ensures back { IfOk result (λ sent. GoBack sent) }
     ensures sent { IfOk result (λ sent. sent ≡ callbacks call) }
 {
     let mut sent = Items::new(alloc);

@@ -1,6 +1,6 @@
 //! What goes out again when a second comes by itself.
 
-ghost use Rattle.dest_steps.specs.Short.{AreShort};
+ghost use Rattle.dest_steps.specs.Sending.{AreShort};
 ghost use Rattle.std.specs.Prelude.{◌≡◌, ◌<◌, ◌≤◌, ◌+◌, IfOk, OnOk, Some};
 ghost use Rattle.dest_steps.specs.Ticking.{again, call_again, call_for, calls_from, job_again, jobs_from, told_at, with_again};
 ghost use Rattle.dest_tasks.specs.Tasks.{is_gone};

@@ -1,8 +1,9 @@
 //! What is due in a worker's turn.
 
-ghost use Rattle.dest_steps.specs.Short.{TurnIsShort};
+ghost use Rattle.dest_steps.specs.Sending.{TurnMaySend};
 ghost use Rattle.std.specs.Prelude.{◌≡◌, ◌<◌, ◌≤◌, IfOk, OnErr, length, false, true, None};
 ghost use Rattle.dest_steps.specs.Turning.{asked_turn, begun_turn, committing, held_landing, is_quiet, with_turn, IsDrawn, IsDue, IsTurnOf};
+ghost use Rattle.dest_jobs.specs.Counting.{KeepsLanded};
 ghost use Rattle.dest_steps.specs.Telling.{stop_telling};
 ghost use Rattle.dest_steps.specs.declared.turning.Turn.TheVariants as turns;
 ghost use Rattle.dest_tasks.specs.Posts.{job_in, post_at};
@@ -75,10 +76,12 @@ impl Copier {
         draws: &mut W,
     ) -> Mem<Turn>
         requires place { place < WORKERS }
-        ensures short { IfOk result TurnIsShort }
+        ensures short { IfOk result TurnMaySend }
         ensures turn { IfOk result (λ turn. IsTurnOf W.gives (M.started mech.now) (record { mic = M.mic_of; derived = M.derived }) (around_of sessions.now here) place self.old draws.old draws.new (turn, self.new)) }
         ensures undrawn { IfOk result (λ turn. turn ≡ turns.Undrawn → Rose (W.faults draws.old) (W.faults draws.new)) }
         ensures given { self.new.copies.book.table.made ≡ self.old.copies.book.table.made }
+        ensures keeps { KeepsLanded self.old.copies self.new.copies }
+        ensures told { self.new.copies.told ≡ self.old.copies.told }
         ensures err { OnErr result (self.new ≡ self.old) }
         ensures later { W.faults draws.old ≤ W.faults draws.new }
         ensures failing { W.failing draws.new ≡ W.failing draws.old }
@@ -115,7 +118,7 @@ impl Copier {
         requires fits { DueFits due }
         requires begins { IfBegins due (MayBegin at.place self.old.work.mount) }
         requires numbered { IfBegins due (self.old.work.mount.calls < at.xid) }
-        ensures short { IfOk result TurnIsShort }
+        ensures short { IfOk result TurnMaySend }
         ensures due { IfOk result (λ turn. IsDue W.gives (M.started mech.now) (record { mic = M.mic_of; derived = M.derived }) (around_of sessions.now here) at setup due self.old draws.old draws.new (turn, self.new)) }
         ensures undrawn { IfOk result (λ turn. turn ≡ turns.Undrawn → Rose (W.faults draws.old) (W.faults draws.new)) }
         ensures copies { self.new.copies ≡ self.old.copies }
@@ -147,6 +150,8 @@ impl Copier {
         requires me { length self.old.principal ≤ NAME_LIMIT }
         ensures begins { IfOk result (λ due. IfBegins due (MayBegin at.place self.new.work.mount)) }
         ensures given { self.new.copies.book.table.made ≡ self.old.copies.book.table.made }
+        ensures keeps { KeepsLanded self.old.copies self.new.copies }
+        ensures told { self.new.copies.told ≡ self.old.copies.told }
         ensures fits { IfOk result DueFits }
         ensures due { IfOk result (λ due. due ≡ (turn M.mic_of at self.old.principal sessions.now self.old.work self.old.copies.book).told.0) }
         ensures after { IfOk result (λ due. self.new ≡ with_turn (turn M.mic_of at self.old.principal sessions.now self.old.work self.old.copies.book) self.old) }
@@ -171,7 +176,7 @@ impl Copier {
         mech: &M,
     ) -> Mem<Turn>
         requires { place < WORKERS }
-        ensures short { IfOk result TurnIsShort }
+        ensures short { IfOk result TurnMaySend }
         ensures turn { IfOk result (λ turn. turn ≡ turns.Lands (held_landing (record { mic = M.mic_of; derived = M.derived }) (around_of sessions.now here) (job_in (post_at self.now.work.workers place)) self.now)) }
     {
         match self.work.workers.job(place) {
@@ -196,7 +201,7 @@ impl Copier {
         requires free { awaited_at self.old.work.mount at.place ≡ None }
         requires down { setup_in self.old.work.mount.standing ≡ setups.Down }
         requires alone { is_setting_up self.old.work.mount ≡ false }
-        ensures short { IfOk result TurnIsShort }
+        ensures short { IfOk result TurnMaySend }
         ensures drawn { IfOk result (λ turn. IsDrawn W.gives (M.started mech.now) (record { mic = M.mic_of; derived = M.derived }) (around_of sessions.now here) at job self.old draws.old draws.new (turn, self.new)) }
         ensures undrawn { IfOk result (λ turn. turn ≡ turns.Undrawn → Rose (W.faults draws.old) (W.faults draws.new)) }
         ensures copies { self.new.copies ≡ self.old.copies }
@@ -226,7 +231,7 @@ impl Copier {
         requires free { awaited_at self.old.work.mount at.place ≡ None }
         requires down { setup_in self.old.work.mount.standing ≡ setups.Down }
         requires alone { is_setting_up self.old.work.mount ≡ false }
-        ensures short { IfOk result TurnIsShort }
+        ensures short { IfOk result TurnMaySend }
         ensures turn { IfOk result (λ turn. turn ≡ (begun_turn (record { mic = M.mic_of; derived = M.derived }) (around_of sessions.now here) at.place job (begun_for at.place job (begun at nonce.now (M.started mech.now self.old.principal nonce.now) self.old.work.mount) self.old.work) self.old).0) }
         ensures after { IfOk result (λ turn. self.new ≡ (begun_turn (record { mic = M.mic_of; derived = M.derived }) (around_of sessions.now here) at.place job (begun_for at.place job (begun at nonce.now (M.started mech.now self.old.principal nonce.now) self.old.work.mount) self.old.work) self.old).1) }
         ensures drawn { IfOk result (λ turn. turn ≡ turns.Undrawn → ⊥) }
@@ -258,7 +263,7 @@ impl Copier {
         here: Here,
         mech: &M,
     ) -> Mem<Turn>
-        ensures short { IfOk result TurnIsShort }
+        ensures short { IfOk result TurnMaySend }
         ensures turn { IfOk result (λ turn. turn ≡ turns.Stops job cause (stop_telling (record { mic = M.mic_of; derived = M.derived }) (around_of sessions.now here) job cause self.now)) }
     {
         let told = self.tell_stop(alloc, job, cause, sessions, here, mech)?;
@@ -273,7 +278,7 @@ impl Copier {
         here: Here,
         mech: &M,
     ) -> Mem<Turn>
-        ensures short { IfOk result TurnIsShort }
+        ensures short { IfOk result TurnMaySend }
         ensures turn { IfOk result (λ turn. turn ≡ turns.Commits job (committing (record { mic = M.mic_of; derived = M.derived }) (around_of sessions.now here) job self.now)) }
     {
         let done = self.tell_commit(alloc, job, sessions, here, mech)?;
@@ -285,7 +290,7 @@ impl Copier {
 fn asked(place: u32, label: CallLabel, sent: Sent) -> Turn
     requires place { place < WORKERS }
     requires short { length sent.bytes ≤ RECORD_LIMIT }
-    ensures short { TurnIsShort result }
+    ensures short { TurnMaySend result }
     ensures turn { result ≡ asked_turn place label sent }
 {
     Turn::Sent(workers_call(place, label, sent))

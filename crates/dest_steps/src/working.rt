@@ -1,6 +1,6 @@
 //! A worker's turn is made.
 
-ghost use Rattle.dest_steps.specs.Short.{AreShort, LandingIsShort, TurnIsShort};
+ghost use Rattle.dest_steps.specs.Sending.{AreShort, GoBack, IsTelling, LandingMaySend, TurnMaySend};
 ghost use Rattle.std.specs.Prelude.{◌≡◌, ◌<◌, ◌≤◌, ◌+◌, [], length, IfSome, None, vec_capacity};
 ghost use Rattle.block_file.specs.Opened.{SameOpening};
 ghost use Rattle.server_volume.specs.Calls.{commit_call};
@@ -12,10 +12,12 @@ ghost use Rattle.dest_tasks.specs.declared.workers.TheConstants.{WORKERS};
 ghost use Rattle.copy_model.specs.Job.{AllowsCommit};
 ghost use Rattle.dest_steps.specs.Landing.{doing_of, stopped_in, target_file, Does};
 ghost use Rattle.dest_steps.specs.Working.{commit_by, commit_if, held_landed, may_commit, turn_made};
+ghost use Rattle.dest_jobs.specs.Counting.{KeepsLanded, Lands};
 ghost use Rattle.dest_jobs.specs.Progress.{commits};
 ghost use Rattle.dest_tasks.specs.Posts.{post_at};
 ghost use Rattle.job_book.specs.Book.{id_of, named};
 ghost use Rattle.job_table.specs.Table.{is_running};
+ghost use Rattle.outbox.specs.Counting.{records_to};
 ghost use Rattle.std.specs.Prelude.{true, ◌∷◌};
 
 use crate::copier::Copier;
@@ -40,7 +42,7 @@ pub fn take_turn<D: Disk>(
     used: &mut CallList,
     room: Vec<Outgoing>,
 ) -> Items<Outgoing>
-    requires short { TurnIsShort turn }
+    requires short { TurnMaySend turn }
     requires place { place < WORKERS }
     requires calls { length used.old < MOST_CALLS }
     requires room { room.items ≡ [] }
@@ -49,6 +51,8 @@ pub fn take_turn<D: Disk>(
     ensures ran { Counted D.Told (seat_of D.size D.fuse D.timeline D.faults volume.old) (seat_of D.size D.fuse D.timeline D.faults volume.new) used.old used.new }
     ensures grows { Grows used.old used.new }
     ensures short { AreShort result }
+    ensures one { records_to (place + 1) result ≤ 1 }
+    ensures lands { Lands copier.old.copies copier.new.copies }
     ensures once { length used.new ≤ length used.old + 1 }
     ensures opening { SameOpening volume.old.volume volume.new.volume }
     ensures tag { volume.new.tag ≡ volume.old.tag }
@@ -81,6 +85,7 @@ impl Copier {
         ensures after { self.new ≡ stopped_in job cause told self.old }
         ensures sent { result ≡ told.sent }
         ensures given { self.new.copies.book.table.made ≡ self.old.copies.book.table.made }
+        ensures keeps { KeepsLanded self.old.copies self.new.copies }
     {
         let Telling { back, sent } = told;
         self.copies.stop(job, cause);
@@ -95,6 +100,7 @@ impl Copier {
         ensures after { self.new ≡ record self.old { copies = commits job self.old.copies; back = told.back } }
         ensures sent { result ≡ told.sent }
         ensures given { self.new.copies.book.table.made ≡ self.old.copies.book.table.made }
+        ensures keeps { KeepsLanded self.old.copies self.new.copies }
     {
         let Telling { back, sent } = told;
         self.copies.commit(job);
@@ -113,7 +119,7 @@ fn land_held<D: Disk>(
     used: &mut CallList,
     room: Vec<Outgoing>,
 ) -> Items<Outgoing>
-    requires short { LandingIsShort told }
+    requires short { LandingMaySend told }
     requires place { place < WORKERS }
     requires calls { length used.old < MOST_CALLS }
     requires room { room.items ≡ [] }
@@ -121,6 +127,8 @@ fn land_held<D: Disk>(
     ensures ran { Counted D.Told (seat_of D.size D.fuse D.timeline D.faults volume.old) (seat_of D.size D.fuse D.timeline D.faults volume.new) used.old used.new }
     ensures grows { Grows used.old used.new }
     ensures short { AreShort result }
+    ensures back { GoBack result }
+    ensures lands { Lands copier.old.copies copier.new.copies }
     ensures once { length used.new ≤ length used.old + 1 }
     ensures opening { SameOpening volume.old.volume volume.new.volume }
     ensures tag { volume.new.tag ≡ volume.old.tag }
@@ -148,14 +156,16 @@ fn commit<D: Disk>(
     used: &mut CallList,
     room: Vec<Outgoing>,
 ) -> Items<Outgoing>
-    requires done { AreShort told.done.sent }
-    requires fault { AreShort told.fault.sent }
+    requires done { IsTelling told.done.sent }
+    requires fault { IsTelling told.fault.sent }
     requires calls { length used.old < MOST_CALLS }
     requires room { room.items ≡ [] }
     ensures does { D.Told → Does (λ choice. commit_if (may_commit job copier.old) choice job told (doing_of copier.old (store_of D.size volume.old) used.old)) copier.new (store_of D.size volume.new) used.new result }
     ensures ran { Counted D.Told (seat_of D.size D.fuse D.timeline D.faults volume.old) (seat_of D.size D.fuse D.timeline D.faults volume.new) used.old used.new }
     ensures grows { Grows used.old used.new }
     ensures short { AreShort result }
+    ensures back { GoBack result }
+    ensures keeps { KeepsLanded copier.old.copies copier.new.copies }
     ensures once { length used.new ≤ length used.old + 1 }
     ensures opening { SameOpening volume.old.volume volume.new.volume }
     ensures tag { volume.new.tag ≡ volume.old.tag }
@@ -179,8 +189,8 @@ fn commit_file<D: Disk>(
     told: Committing,
     used: &mut CallList,
 ) -> Items<Outgoing>
-    requires done { AreShort told.done.sent }
-    requires fault { AreShort told.fault.sent }
+    requires done { IsTelling told.done.sent }
+    requires fault { IsTelling told.fault.sent }
     requires running { is_running copier.old.copies.book.table (id_of job) ≡ true }
     requires landed { IfSome (named copier.old.copies.book.table job) (λ job. AllowsCommit job.log.entries) }
     requires no_root { 1 ≤ file }
@@ -190,6 +200,8 @@ fn commit_file<D: Disk>(
     ensures ran { Counted D.Told (seat_of D.size D.fuse D.timeline D.faults volume.old) (seat_of D.size D.fuse D.timeline D.faults volume.new) used.old used.new }
     ensures grows { Grows used.old used.new }
     ensures short { AreShort result }
+    ensures back { GoBack result }
+    ensures keeps { KeepsLanded copier.old.copies copier.new.copies }
     ensures once { length used.new ≤ length used.old + 1 }
     ensures opening { SameOpening volume.old.volume volume.new.volume }
     ensures tag { volume.new.tag ≡ volume.old.tag }
