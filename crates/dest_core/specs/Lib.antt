@@ -3,6 +3,7 @@ pub mod CallLaws
 pub mod Copying
 pub mod Core
 pub mod Judging
+pub mod Landing
 pub mod Laws
 pub mod Serving
 pub mod Stepping

@@ -3,6 +3,7 @@
 ghost use Rattle.std.specs.Prelude.{◌≡◌, ◌+◌, ◌-◌, ◌^◌, ◌<◌, ◌≤◌, Ok};
 ghost use Rattle.compound_server.specs.Serves.{Serves};
 ghost use Rattle.file_server.specs.Answering.{Ready, Keeps, going_of, meant_id, open_refusal};
+ghost use Rattle.dest_jobs.specs.Counting.{bytes_in};
 ghost use Rattle.job_table.specs.Table.{new_log};
 ghost use Rattle.server_volume.specs.Store.{store_of};
 ghost use Rattle.state_ids.specs.declared.access.Access.TheVariants as access;
@@ -37,6 +38,7 @@ pub(crate) fn copy<D: Disk, M>(
     ensures volume { files.new.volume ≡ files.old.volume }
     ensures opens { files.new.opens ≡ files.old.opens }
     ensures given { files.new.extra.copier.copies.book.table.made ≤ files.old.extra.copier.copies.book.table.made + 1 }
+    ensures landed { bytes_in files.new.extra.copier.copies ≡ bytes_in files.old.extra.copier.copies }
 {
     match ends_of(files, &p.held) {
         Err(status) => p.refuse(OP_COPY, status),
@@ -62,6 +64,7 @@ fn copy_between<D: Disk, M>(
     ensures volume { files.new.volume ≡ files.old.volume }
     ensures opens { files.new.opens ≡ files.old.opens }
     ensures given { files.new.extra.copier.copies.book.table.made ≤ files.old.extra.copier.copies.book.table.made + 1 }
+    ensures landed { bytes_in files.new.extra.copier.copies ≡ bytes_in files.old.extra.copier.copies }
 {
     let closed = closed_for(files, &p.held.id, &args.dst_id, ends.file);
     let boot = files.volume.boot();
@@ -155,6 +158,7 @@ pub(crate) fn offload_status<D: Disk, M>(
     ensures volume { files.new.volume ≡ files.old.volume }
     ensures opens { files.new.opens ≡ files.old.opens }
     ensures given { files.new.extra.copier.copies.book.table.made ≡ files.old.extra.copier.copies.book.table.made }
+    ensures landed { bytes_in files.new.extra.copier.copies ≡ bytes_in files.old.extra.copier.copies }
 {
     let answer = files.extra.copier.copies.status(client, id);
     say_status(p, &answer)
@@ -174,6 +178,7 @@ pub(crate) fn offload_cancel<D: Disk, M>(
     ensures volume { files.new.volume ≡ files.old.volume }
     ensures opens { files.new.opens ≡ files.old.opens }
     ensures given { files.new.extra.copier.copies.book.table.made ≡ files.old.extra.copier.copies.book.table.made }
+    ensures landed { bytes_in files.new.extra.copier.copies ≡ bytes_in files.old.extra.copier.copies }
 {
     let status = files.extra.copier.copies.cancel(client, id);
     p.refuse(OP_OFFLOAD_CANCEL, status)

@@ -16,7 +16,9 @@ use session_server::{Extending, Judgement};
 use std::alloc::Global;
 
 impl<M: Mechanism> Extending<Carried> for Destination<M> {
+    ghost use Rattle.std.specs.Prelude.{refl};
     ghost use Rattle.dest_core.specs.Judging.{judges, silent, tells};
+    ghost use Rattle.dest_core.specs.Landing.{untold};
     ghost use Rattle.dest_core.specs.Laws.{same_given};
 
     type Mech = M;
@@ -28,6 +30,8 @@ impl<M: Mechanism> Extending<Carried> for Destination<M> {
     ghost tells = { tells };
 
     ghost silent = { silent };
+
+    ghost untold = { untold };
 
     fn mech(&self) -> &M {
         &self.mech
@@ -58,6 +62,12 @@ impl<M: Mechanism> Extending<Carried> for Destination<M> {
     }
 
     ghost by_telling = { λ x. same_given x };
+
+    ghost telling_lands_none = { λ x. refl };
+
+    ghost all_told = { λ x. refl };
+
+    ghost lapsing_told = { λ second x. refl };
 }
 
 impl<M> Destination<M> {

@@ -7,12 +7,14 @@ ghost use Rattle.block_file.specs.declared.faults.OpenFault.{OpenFault};
 ghost use Rattle.block_file.specs.declared.faults.ReadFault.{ReadFault};
 ghost use Rattle.copy_model.specs.Volume.{bytes_at, file_at};
 ghost use Rattle.dest_core.specs.Core.{no_copier, IsNew};
+ghost use Rattle.dest_core.specs.Landing.{landed_by, LandsTold};
 ghost use Rattle.dest_core.specs.Stepping.{failure_step, tick_step, IsRecord, IsReply, IsWork};
 ghost use Rattle.dest_tasks.specs.declared.workers.TheConstants.{WORKERS};
 ghost use Rattle.disk_model.specs.Disk.{Image, MayLeave};
 ghost use Rattle.disk_model.specs.Elapsed.{contents, present, set_to, IsOut};
 ghost use Rattle.job_book.specs.Book.{book_bytes, IsSound};
 ghost use Rattle.job_table.specs.Fits.{PlansAreFit};
+ghost use Rattle.outbox.specs.Counting.{records_to};
 ghost use Rattle.outcome.specs.Causes.{Rose};
 ghost use Rattle.server_volume.specs.Moments.{Counted};
 ghost use Rattle.server_volume.specs.Store.{seat_of};
@@ -47,7 +49,7 @@ use streams::Draws;
 use wire_xdr::Octets;
 
 /// A destination: a server that takes copies from one source as jobs. Contracts see the [`Host`] that it is, which never
-/// gave out more numbers than its steps can have.
+/// gave out more numbers than its steps can have, has told of all that landed, and landed a chunk a step at most.
 #[derive(Drop)]
 pub struct DestCore<D: Disk, M> {
     pub(crate) host: Host<D, Destination<M>, Carried>,
@@ -56,6 +58,7 @@ pub struct DestCore<D: Disk, M> {
 impl<D: Disk, M> Model for DestCore<D, M> {
     ghost use Rattle.session_server.specs.declared.host.Host.{Host};
     ghost use Rattle.session_server.specs.Host.{IsCounted};
+    ghost use Rattle.dest_core.specs.Landing.{IsSilent};
     ghost use Rattle.dest_core.specs.Serving.{given};
     ghost use Rattle.dest_jobs.specs.declared.carried.Carried.{Carried};
     ghost use Rattle.dest_core.specs.declared.destination.Destination.{Destination};
@@ -64,7 +67,7 @@ impl<D: Disk, M> Model for DestCore<D, M> {
 
     ghost view = { λ core. core.host };
 
-    ghost invariant = { λ core. IsCounted given core.host };
+    ghost invariant = { λ core. IsCounted given core.host × IsSilent core.host };
 }
 
 impl<D: Disk + Drop, M: Mechanism> DestCore<D, M> {
@@ -174,6 +177,7 @@ impl<D: Disk, M: Mechanism> DestCore<D, M> {
         ensures err { OnErr result (self.new ≡ self.old) }
         ensures later { W.faults draws.old ≤ W.faults draws.new }
         ensures failing { W.failing draws.new ≡ W.failing draws.old }
+        ensures landed { landed_by self.new ≡ landed_by self.old }
     {
         take_record(&mut self.host, alloc, conn, record_, now, draws)
     }
@@ -187,6 +191,7 @@ impl<D: Disk, M: Mechanism> DestCore<D, M> {
         ensures short { IfOk result (λ out. AreShort out.sent) }
         ensures counted { IfOk result (λ _. self.new.steps ≡ self.old.steps + 1) }
         ensures err { OnErr result (self.new ≡ self.old) }
+        ensures landed { landed_by self.new ≡ landed_by self.old }
     {
         tick(&mut self.host, alloc, now)
     }
@@ -212,6 +217,8 @@ impl<D: Disk, M: Mechanism> DestCore<D, M> {
         ensures err { OnErr result (self.new ≡ self.old) }
         ensures later { W.faults draws.old ≤ W.faults draws.new }
         ensures failing { W.failing draws.new ≡ W.failing draws.old }
+        ensures lands { IfOk result (λ out. LandsTold (landed_by self.old) (landed_by self.new) out.notes) }
+        ensures one { IfOk result (λ out. records_to worker out.sent ≤ 1) }
     {
         work(&mut self.host, alloc, u32::from(worker - 1), now, draws)
     }
@@ -233,6 +240,8 @@ impl<D: Disk, M: Mechanism> DestCore<D, M> {
         ensures short { IfOk result (λ out. AreShort out.sent) }
         ensures counted { IfOk result (λ _. self.new.steps ≡ self.old.steps + 1) }
         ensures err { OnErr result (self.new ≡ self.old) }
+        ensures lands { IfOk result (λ out. LandsTold (landed_by self.old) (landed_by self.new) out.notes) }
+        ensures one { IfOk result (λ out. records_to worker out.sent ≤ 1) }
     {
         take_reply(&mut self.host, alloc, u32::from(worker - 1), record_, now)
     }
@@ -247,6 +256,8 @@ impl<D: Disk, M: Mechanism> DestCore<D, M> {
         ensures short { IfOk result (λ out. AreShort out.sent) }
         ensures counted { IfOk result (λ _. self.new.steps ≡ self.old.steps + 1) }
         ensures err { OnErr result (self.new ≡ self.old) }
+        ensures landed { landed_by self.new ≡ landed_by self.old }
+        ensures none { IfOk result (λ out. records_to worker out.sent ≡ 0) }
     {
         fail_link(&mut self.host, alloc, u32::from(worker - 1))
     }
@@ -267,18 +278,21 @@ impl<D: Disk, M> DestCore<D, M> {
         self.host.server.files.volume.boot()
     }
 
-    /// How many bytes the jobs landed, those that aren't there any more included. Of every destination, whatever was done
+    /// How many bytes the jobs landed, those that aren't there any more included. It is less than 2^48. Of every destination, whatever was done
     /// before, each job's entries are lawful, each claim is of a chunk that hasn't landed, and the ranges of those that run
     /// are apart; the numbers of their plans are below the bounds of their types; and the disk holds the files so that a
     /// crash leaves of each what it may.
-    pub fn landed(&self) -> u128
+    pub fn landed(&self) -> u64
         ensures value { result ≡ book_bytes self.now.server.files.extra.copier.copies.book }
+        ensures same { result ≡ landed_by self.now }
         ensures sound { IsSound self.now.server.files.extra.copier.copies.book.table }
         ensures plans { PlansAreFit self.now.server.files.extra.copier.copies.book.table }
         ensures stands { D.Told → StandsFor D.timeline D.size self.now.server.files.volume }
     {
         let _broken = self.host.server.files.volume.is_broken();
-        self.host.server.files.extra.copier.copies.book.landed()
+        let _steps = self.calls();
+        let landed = self.host.server.files.extra.copier.copies.book.landed();
+        u64::try_from(landed).unwrap()
     }
 
     /// How many files there are, but for the root directory.

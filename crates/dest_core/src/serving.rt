@@ -20,7 +20,8 @@ use wire_xdr::Octets;
 
 impl<M: Mechanism> Serving<Carried> for Destination<M> {
     ghost use Rattle.std.specs.Prelude.{refl};
-    ghost use Rattle.dest_core.specs.Laws.{leaving_gives, same_given};
+    ghost use Rattle.dest_core.specs.Landing.{landed};
+    ghost use Rattle.dest_core.specs.Laws.{leaving_gives, leaving_lands_none, same_given};
     ghost use Rattle.dest_core.specs.Serving.{given, lapses, leaves, serves, suits};
 
     type Room = Option<CopyRoom>;
@@ -34,6 +35,8 @@ impl<M: Mechanism> Serving<Carried> for Destination<M> {
     ghost lapses = { lapses };
 
     ghost given = { given };
+
+    ghost landed = { landed };
 
     fn room(&self, alloc: Global, carry: &Option<Carried>, op: &CopyArg) -> Mem<Option<CopyRoom>> {
         match op {
@@ -77,6 +80,12 @@ impl<M: Mechanism> Serving<Carried> for Destination<M> {
     ghost by_leaving = { leaving_gives };
 
     ghost by_lapsing = { λ second x. same_given x };
+
+    ghost gate_lands_none = { λ x caller carry ask. refl };
+
+    ghost leaving_lands_none = { leaving_lands_none };
+
+    ghost lapsing_lands_none = { λ second x. refl };
 }
 
 /// Why the jobs of a client stop that has ended.

@@ -2,9 +2,11 @@
 
 ghost use Rattle.std.specs.Prelude.{◌≡◌, ◌≤◌, ◌<◌, ◌+◌, [], false, true, length, vec_capacity, IfOk, OnErr};
 ghost use Rattle.dest_core.specs.Core.{leases_ended};
+ghost use Rattle.dest_core.specs.Landing.{copies_in, landed_by, LandsTold};
 ghost use Rattle.dest_core.specs.Serving.{given};
 ghost use Rattle.dest_core.specs.Stepping.{answer_step, failure_step, finished, around_in, is_undrawn, put_copier, second_in, tick_step, turn_step, reply_step, without_lapsed, IsRecord, IsReply, IsWork};
 ghost use Rattle.block_file.specs.Opened.{SameOpening};
+ghost use Rattle.dest_jobs.specs.Counting.{KeepsLanded, Lands};
 ghost use Rattle.dest_steps.specs.Failing.{failing};
 ghost use Rattle.dest_steps.specs.Landing.{doing_of, Does};
 ghost use Rattle.dest_steps.specs.Hearing.{heard_client};
@@ -15,6 +17,8 @@ ghost use Rattle.dest_steps.specs.Turning.{IsTurnOf};
 ghost use Rattle.dest_steps.specs.Working.{turn_made};
 ghost use Rattle.dest_steps.specs.declared.turning.Turn.TheVariants as turns;
 ghost use Rattle.dest_tasks.specs.declared.workers.TheConstants.{WORKERS};
+ghost use Rattle.nfs_base.specs.declared.limits.TheConstants.{MOST_JOBS};
+ghost use Rattle.outbox.specs.Counting.{landed_in, records_to};
 ghost use Rattle.outcome.specs.Causes.{Rose};
 ghost use Rattle.server_volume.specs.Choices.{Agrees, Choice};
 ghost use Rattle.server_volume.specs.Moments.{Counted};
@@ -82,6 +86,7 @@ pub(crate) fn work<D: Disk, M: Mechanism, W: Draws>(
 ) -> Mem<Outbox>
     requires few { host.old.steps < MOST_STEPS }
     requires counted { IsCounted given host.old }
+    requires silent { (copies_in host.old).told ≡ [] }
     requires place { place < WORKERS }
     ensures is { D.Told → IfOk result (λ out. IsWork W.gives (M.started host.old.server.files.extra.mech) (record { mic = M.mic_of; derived = M.derived }) place now (host_of D.size host.old) draws.old draws.new (stepped_of D.size host.new out)) }
     ensures ran { IfOk result (λ out. Counted D.Told (seat_of D.size D.fuse D.timeline D.faults host.old.server.files.volume) (seat_of D.size D.fuse D.timeline D.faults host.new.server.files.volume) [] out.used) }
@@ -93,6 +98,9 @@ pub(crate) fn work<D: Disk, M: Mechanism, W: Draws>(
     ensures counted { IsCounted given host.new }
     ensures later { W.faults draws.old ≤ W.faults draws.new }
     ensures failing { W.failing draws.new ≡ W.failing draws.old }
+    ensures lands { IfOk result (λ out. LandsTold (landed_by host.old) (landed_by host.new) out.notes) }
+    ensures one { IfOk result (λ out. records_to (place + 1) out.sent ≤ 1) }
+    ensures silent { (copies_in host.new).told ≡ [] }
 {
     let room = Room::new(alloc)?;
     let second = host.second_at(now);
@@ -117,6 +125,8 @@ fn turn_due<D: Disk, M: Mechanism, W: Draws>(
     ensures err { OnErr result (server.new ≡ server.old) }
     ensures later { W.faults draws.old ≤ W.faults draws.new }
     ensures failing { W.failing draws.new ≡ W.failing draws.old }
+    ensures keeps { KeepsLanded server.old.files.extra.copier.copies server.new.files.extra.copier.copies }
+    ensures told { server.new.files.extra.copier.copies.told ≡ server.old.files.extra.copier.copies.told }
 {
     let here = here(server, second);
     let Server { files, sessions } = server;
@@ -133,6 +143,7 @@ fn make_turn<D: Disk, M: Mechanism>(
 ) -> Outbox
     requires few { host.old.steps < MOST_STEPS }
     requires counted { IsCounted given host.old }
+    requires silent { (copies_in host.old).told ≡ [] }
     requires place { place < WORKERS }
     requires short { TurnMaySend turn }
     ensures short { AreShort result.sent }
@@ -142,6 +153,9 @@ fn make_turn<D: Disk, M: Mechanism>(
     ensures steps { host.new.steps ≡ host.old.steps + 1 }
     ensures counted { IsCounted given host.new }
     ensures undrawn { result.undrawn ≡ is_undrawn turn }
+    ensures lands { LandsTold (landed_by host.old) (landed_by host.new) result.notes }
+    ensures one { records_to (place + 1) result.sent ≤ 1 }
+    ensures silent { (copies_in host.new).told ≡ [] }
 {
     let undrawn = is_undrawn(&turn);
     second_comes(host, now);
@@ -182,6 +196,8 @@ fn make_turn_on<D: Disk, M>(
     ensures opens { files.new.opens ≡ files.old.opens }
     ensures rest { files.new.extra ≡ record files.old.extra { copier = files.new.extra.copier } }
     ensures given { files.new.extra.copier.copies.book.table.made ≡ files.old.extra.copier.copies.book.table.made }
+    ensures lands { Lands files.old.extra.copier.copies files.new.extra.copier.copies }
+    ensures one { records_to (place + 1) result ≤ 1 }
 {
     let Files { volume, extra, .. } = files;
     take_turn(&mut extra.copier, volume, place, turn, used, room)
@@ -205,6 +221,9 @@ fn finish<D: Disk, M: Mechanism>(
     ensures undrawn { result.undrawn ≡ undrawn }
     ensures steps { host.new.steps ≡ host.old.steps }
     ensures counted { IsCounted given host.new }
+    ensures notes { result.notes ≡ (copies_in host.old).told }
+    ensures silent { (copies_in host.new).told ≡ [] }
+    ensures landed { landed_by host.new ≡ landed_by host.old }
 {
     let mut notes = notes;
     host.server.files.extra.tell(&mut notes);
@@ -227,6 +246,7 @@ pub(crate) fn take_reply<D: Disk, M: Mechanism>(
 ) -> Mem<Outbox>
     requires few { host.old.steps < MOST_STEPS }
     requires counted { IsCounted given host.old }
+    requires silent { (copies_in host.old).told ≡ [] }
     requires place { place < WORKERS }
     ensures is { D.Told → IfOk result (λ out. IsReply (record { mic = M.mic_of; derived = M.derived }) (M.finished host.old.server.files.extra.mech host.old.server.files.extra.copier.principal) place record_.now now (host_of D.size host.old) (stepped_of D.size host.new out)) }
     ensures ran { IfOk result (λ out. Counted D.Told (seat_of D.size D.fuse D.timeline D.faults host.old.server.files.volume) (seat_of D.size D.fuse D.timeline D.faults host.new.server.files.volume) [] out.used) }
@@ -235,6 +255,9 @@ pub(crate) fn take_reply<D: Disk, M: Mechanism>(
     ensures err { OnErr result (host.new ≡ host.old) }
     ensures steps { IfOk result (λ _. host.new.steps ≡ host.old.steps + 1) }
     ensures counted { IsCounted given host.new }
+    ensures lands { IfOk result (λ out. LandsTold (landed_by host.old) (landed_by host.new) out.notes) }
+    ensures one { IfOk result (λ out. records_to (place + 1) out.sent ≤ 1) }
+    ensures silent { (copies_in host.new).told ≡ [] }
 {
     let room = Room::new(alloc)?;
     let second = host.second_at(now);
@@ -255,6 +278,8 @@ fn hear<D: Disk, M: Mechanism>(
     ensures same { server.new ≡ put_copier server.new.files.extra.copier server.old }
     ensures given { server.new.files.extra.copier.copies.book.table.made ≡ server.old.files.extra.copier.copies.book.table.made }
     ensures err { OnErr result (server.new ≡ server.old) }
+    ensures keeps { KeepsLanded server.old.files.extra.copier.copies server.new.files.extra.copier.copies }
+    ensures notes { length server.new.files.extra.copier.copies.told ≤ length server.old.files.extra.copier.copies.told + 1 }
 {
     let here = here(server, second);
     let Server { files, sessions } = server;
@@ -271,6 +296,8 @@ fn make_effect<D: Disk, M: Mechanism>(
 ) -> Outbox
     requires few { host.old.steps < MOST_STEPS }
     requires counted { IsCounted given host.old }
+    requires note { length (copies_in host.old).told ≤ 1 }
+    requires untold { landed_in (copies_in host.old).told ≡ 0 }
     requires place { place < WORKERS }
     requires short { EffectMaySend heard.effect }
     ensures short { AreShort result.sent }
@@ -279,6 +306,9 @@ fn make_effect<D: Disk, M: Mechanism>(
     ensures once { length result.used ≤ 1 }
     ensures steps { host.new.steps ≡ host.old.steps + 1 }
     ensures counted { IsCounted given host.new }
+    ensures lands { LandsTold (landed_by host.old) (landed_by host.new) result.notes }
+    ensures one { records_to (place + 1) result.sent ≤ 1 }
+    ensures silent { (copies_in host.new).told ≡ [] }
 {
     let Heard { effect, accepted } = heard;
     host.tick(now);
@@ -311,6 +341,8 @@ fn make_effect_on<D: Disk, M>(
     ensures opens { files.new.opens ≡ files.old.opens }
     ensures rest { files.new.extra ≡ record files.old.extra { copier = files.new.extra.copier } }
     ensures given { files.new.extra.copier.copies.book.table.made ≡ files.old.extra.copier.copies.book.table.made }
+    ensures lands { Lands files.old.extra.copier.copies files.new.extra.copier.copies }
+    ensures one { records_to (place + 1) result ≤ 1 }
 {
     let Files { volume, extra, .. } = files;
     take_effect(&mut extra.copier, volume, place, effect, used, room)
@@ -324,6 +356,7 @@ pub(crate) fn fail_link<D: Disk, M: Mechanism>(
 ) -> Mem<Outbox>
     requires few { host.old.steps < MOST_STEPS }
     requires counted { IsCounted given host.old }
+    requires silent { (copies_in host.old).told ≡ [] }
     requires place { place < WORKERS }
     ensures is { IfOk result (λ out. stepped_of D.size host.new out ≡ failure_step (record { mic = M.mic_of; derived = M.derived }) place (host_of D.size host.old)) }
     ensures volume { host.new.server.files.volume ≡ host.old.server.files.volume }
@@ -331,6 +364,9 @@ pub(crate) fn fail_link<D: Disk, M: Mechanism>(
     ensures err { OnErr result (host.new ≡ host.old) }
     ensures steps { IfOk result (λ _. host.new.steps ≡ host.old.steps + 1) }
     ensures counted { IsCounted given host.new }
+    ensures landed { landed_by host.new ≡ landed_by host.old }
+    ensures none { IfOk result (λ out. records_to (place + 1) out.sent ≡ 0) }
+    ensures silent { (copies_in host.new).told ≡ [] }
 {
     let room = Room::new(alloc)?;
     let second = host.second;
@@ -376,12 +412,15 @@ pub(crate) fn tick<D: Disk, M: Mechanism>(
 ) -> Mem<Outbox>
     requires few { host.old.steps < MOST_STEPS }
     requires counted { IsCounted given host.old }
+    requires silent { (copies_in host.old).told ≡ [] }
     ensures is { IfOk result (λ out. stepped_of D.size host.new out ≡ tick_step (record { mic = M.mic_of; derived = M.derived }) now (host_of D.size host.old)) }
     ensures volume { host.new.server.files.volume ≡ host.old.server.files.volume }
     ensures short { IfOk result (λ out. AreShort out.sent) }
     ensures err { OnErr result (host.new ≡ host.old) }
     ensures steps { IfOk result (λ _. host.new.steps ≡ host.old.steps + 1) }
     ensures counted { IsCounted given host.new }
+    ensures landed { landed_by host.new ≡ landed_by host.old }
+    ensures silent { (copies_in host.new).told ≡ [] }
 {
     let room = Room::new(alloc)?;
     let second = host.second_at(now);
@@ -418,6 +457,7 @@ pub(crate) fn take_record<D: Disk, M: Mechanism, W: Draws>(
 ) -> Mem<Outbox>
     requires few { host.old.steps < MOST_STEPS }
     requires counted { IsCounted given host.old }
+    requires silent { (copies_in host.old).told ≡ [] }
     ensures turn { D.Told → IfOk result (λ out. IsRecord (record { mic = M.mic_of; derived = M.derived }) (M.accepted host.old.server.files.extra.mech) W.gives conn record_.now now (host_of D.size host.old) draws.old draws.new (stepped_of D.size host.new out)) }
     ensures ran { IfOk result (λ out. Counted D.Told (seat_of D.size D.fuse D.timeline D.faults host.old.server.files.volume) (seat_of D.size D.fuse D.timeline D.faults host.new.server.files.volume) [] out.used) }
     ensures short { IfOk result (λ out. AreShort out.sent) }
@@ -427,6 +467,8 @@ pub(crate) fn take_record<D: Disk, M: Mechanism, W: Draws>(
     ensures counted { IsCounted given host.new }
     ensures later { W.faults draws.old ≤ W.faults draws.new }
     ensures failing { W.failing draws.new ≡ W.failing draws.old }
+    ensures landed { landed_by host.new ≡ landed_by host.old }
+    ensures silent { (copies_in host.new).told ≡ [] }
 {
     let second = host.second_at(now);
     match host.judge(alloc, record_, second)? {
@@ -445,6 +487,7 @@ fn take_answer<D: Disk, M: Mechanism>(
 ) -> Mem<Outbox>
     requires few { host.old.steps < MOST_STEPS }
     requires counted { IsCounted given host.old }
+    requires silent { (copies_in host.old).told ≡ [] }
     ensures is { IfOk result (λ out. stepped_of D.size host.new out ≡ answer_step M.mic_of record_.now now (host_of D.size host.old)) }
     ensures volume { host.new.server.files.volume ≡ host.old.server.files.volume }
     ensures short { IfOk result (λ out. AreShort out.sent) }
@@ -453,6 +496,8 @@ fn take_answer<D: Disk, M: Mechanism>(
     ensures err { OnErr result (host.new ≡ host.old) }
     ensures steps { IfOk result (λ _. host.new.steps ≡ host.old.steps + 1) }
     ensures counted { IsCounted given host.new }
+    ensures landed { landed_by host.new ≡ landed_by host.old }
+    ensures silent { (copies_in host.new).told ≡ [] }
 {
     let room = Room::new(alloc)?;
     let boot = host.server.files.volume.boot();
@@ -482,6 +527,8 @@ fn second_comes<D: Disk, M: Mechanism>(host: &mut Host<D, Destination<M>, Carrie
     ensures volume { host.new.server.files.volume ≡ host.old.server.files.volume }
     ensures steps { host.new.steps ≡ host.old.steps + 1 }
     ensures counted { IsCounted given host.new }
+    ensures keeps { KeepsLanded (copies_in host.old) (copies_in host.new) }
+    ensures notes { length (copies_in host.new).told ≤ length (copies_in host.old).told + MOST_JOBS }
 {
     host.tick(now);
     end_leases(&mut host.server, host.second);

@@ -9,6 +9,8 @@ use Rattle.file_server.specs.Answering.{going_of, machine_of}
 use Rattle.nfs_base.specs.declared.status.Status.{Status}
 use Rattle.dest_core.specs.Copying.{answered_by, with_copier}
 use Rattle.compound_server.specs.SayingLaws.{serves_said}
+use Rattle.dest_jobs.specs.Counting.{bytes_in}
+use Rattle.dest_jobs.specs.LandedLaws.{copying_lands_none}
 use Rattle.dest_core.proofs.copying.copy_between.Goals as goal
 
 pub returns-clause-serves : goal.returns-clause-serves
@@ -28,3 +30,10 @@ returns-clause-serves g c = λ choice agrees.
     ∙ ap (λ (y : Copier). told_of (served (with_copier y old) (results.Copy c.copy-answer.result)) p.page.bytes) (sym c.seat.ensures.seated)
     ∙ serves_said (machine_of size (record files { extra = record files.extra { copier = c.seat.new.copier } })) (results.Copy c.copy-answer.result) p c.say_copy.new.p _ c.say_copy.result
     c.say_copy.ensures.says refl (sym c.say_copy.ensures.status)
+
+pub returns-clause-landed : goal.returns-clause-landed
+returns-clause-landed g c =
+    ap (λ (x : Copies). bytes_in x) c.seat.ensures.given
+    ∙ ap (λ (x : Copies). bytes_in x) c.copy-answer.ensures.after
+    ∙ (copying_lands_none c.args.caller.now.client c.args.carry.now c.args.args c.args.ends c.args.room c.closed_for-closed.result c.boot-boot.result
+    c.args.files.now.extra.copier.copies).bytes

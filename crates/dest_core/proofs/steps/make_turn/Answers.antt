@@ -1,9 +1,11 @@
-use Rattle.std.proofs.Common.{List, subst}
+use Rattle.std.proofs.Common.{List, subst, ◌∙◌, arith}
 use Rattle.server_volume.specs.Choices.{Agrees}
 use Rattle.server_volume.specs.Store.{seat_of}
 use Rattle.server_volume.specs.declared.used.Used.{Used}
 use Rattle.dest_core.proofs.Hosts.{still_counted}
 use Rattle.dest_core.proofs.Turns.{ran_within, turn_told}
+use Rattle.dest_core.proofs.Landings.{few_told, lands_told, none_untold}
+use Rattle.dest_core.specs.Landing.{copies_in}
 use Rattle.dest_core.proofs.steps.make_turn.Goals as goal
 
 pub finish-requires-clause-counted : goal.finish-requires-clause-counted
@@ -24,3 +26,12 @@ returns-clause-ran g c =
     let made = c.make_turn_on-sent in
     ran_within (seat_of D.size D.fuse D.timeline D.faults) c.args.host.now.server.files.volume c.second_comes.new.host.server.files.volume made.new.files.volume c.finish.new.host.server.files.volume
     _ made.new.used c.finish.result.used c.second_comes.ensures.volume c.finish.ensures.volume (cc) c.finish.ensures.used (made.ensures.ran)
+
+pub returns-clause-lands : goal.returns-clause-lands
+returns-clause-lands g c =
+    let came = copies_in c.second_comes.new.host in
+    let made = c.make_turn_on-sent in
+    let none = c.second_comes.ensures.keeps.untold ∙ none_untold (copies_in c.args.host.now) c.requires.silent in
+    let few = few_told (copies_in c.args.host.now) came 16 c.requires.silent c.second_comes.ensures.notes (omega arith) in
+    lands_told (copies_in c.args.host.now) came made.new.files.extra.copier.copies (copies_in c.finish.new.host) c.finish.result.notes none few
+    c.second_comes.ensures.keeps.bytes made.ensures.lands c.finish.ensures.notes c.finish.ensures.landed

@@ -1,8 +1,9 @@
-use Rattle.std.proofs.Common.{[], subst, sym, ◌∙◌}
+use Rattle.std.proofs.Common.{ℕ, [], subst, sym, ◌∙◌}
 use Rattle.server_volume.specs.Moments.{Counted}
 use Rattle.server_volume.specs.Store.{seat_of}
 use Rattle.dest_core.proofs.Hosts.{counted_put}
 use Rattle.dest_core.proofs.Turns.{undrawn_is, work_told}
+use Rattle.dest_core.specs.Landing.{landed_by, LandsTold}
 use Rattle.dest_core.proofs.steps.work.Goals as goal
 
 pub make_turn-requires-clause-counted : goal.make_turn-requires-clause-counted
@@ -24,3 +25,10 @@ returns-clause-ran g c =
 
 pub returns-clause-undrawn : goal.returns-clause-undrawn
 returns-clause-undrawn g c = λ drawn. c.in_ok-turn.ensures.undrawn (undrawn_is c.in_ok-turn.turn (sym c.make_turn.ensures.undrawn ∙ drawn))
+
+pub make_turn-requires-clause-silent : goal.make_turn-requires-clause-silent
+make_turn-requires-clause-silent g c = c.turn_due.ensures.told ∙ c.requires.silent
+
+pub returns-clause-lands : goal.returns-clause-lands
+returns-clause-lands g c =
+    subst (λ (n : ℕ). LandsTold n (landed_by c.make_turn.new.host) c.make_turn.result.notes) c.turn_due.ensures.keeps.bytes c.make_turn.ensures.lands
