@@ -7,6 +7,7 @@
 #![tactic(auto)]
 
 mod desk;
+mod destination;
 mod kept;
 mod machine;
 
