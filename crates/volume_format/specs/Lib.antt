@@ -1,0 +1,5 @@
+pub mod DiskWords
+pub mod Formatting
+pub mod Lines
+pub mod Puts
+pub mod Shapes
