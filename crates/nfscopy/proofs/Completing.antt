@@ -10,7 +10,8 @@ use Rattle.wire_run.specs.Run.{Did, ScheduleRuns, Volumes}
 use Rattle.wire_run.specs.Running.{faults_in}
 use Rattle.nfscopy.specs.GenEnds.{GenCarriesOut, GenCompletes, GenEndIs, GenEnds, GenRuns, gen_events}
 use Rattle.nfscopy.specs.Input.{Input}
-use Rattle.nfscopy.specs.Outside.{DiskWords, Outside}
+use Rattle.volume_format.specs.DiskWords.{DiskWords}
+use Rattle.nfscopy.specs.Outside.{Outside}
 use Rattle.nfscopy.specs.RunEnds.{Blamed, CarriesOut, Completes, IsUnhindered, PutsRun, RunEndIs, RunWords, small_of}
 use Rattle.nfscopy.specs.declared.ends.GenEnd.{GenEnd}
 use Rattle.nfscopy.specs.declared.ends.GenEnd.TheVariants as gen

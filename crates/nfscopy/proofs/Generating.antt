@@ -28,10 +28,11 @@ use Rattle.wire_schedule.specs.declared.directive.Directive.TheVariants.{Once}
 use Rattle.wire_schedule.specs.declared.directive.Entry.{Entry}
 use Rattle.wire_schedule.specs.declared.event.Event.TheVariants as kinds
 use Rattle.wire_tally.specs.Tally.{no_tally, tallied}
-use Rattle.nfscopy.specs.Ends.{Ends}
+use Rattle.nfscopy.specs.Ends.{Ends, EndsAs}
 use Rattle.nfscopy.specs.ExitStatus.{code_of, gen_status}
 use Rattle.nfscopy.specs.GenEnds.{Counts, GenCarriesOut, GenEndIs, GenEnds, IsUnread, MayDiffer, Owes, gen_events}
-use Rattle.nfscopy.specs.Outside.{DiskRose, DiskWords, Outside, disk_at}
+use Rattle.volume_format.specs.DiskWords.{DiskWords}
+use Rattle.nfscopy.specs.Outside.{DiskRose, Outside, disk_at}
 use Rattle.nfscopy.specs.RunEnds.{Blamed, RunWords, RunsKeep}
 use Rattle.nfscopy.specs.Summing.{IsSummary, IsSummed, Owing, OwedPut, Sums, owing_for}
 use Rattle.nfscopy.specs.declared.command.Command.{Command}
@@ -305,13 +306,13 @@ module _ {D M : Type 0} (w : DiskWords D) (r : RunWords M) (mebibytes : ℕ) (be
       result s.large s.ran.is s.ran.cause s.ran.tally s.is) put
 
 -- what the top call says for words that ask for it
-pub ends_gen : {D M : Type 0} (w : DiskWords D) (r : RunWords M) (mebibytes : ℕ) (command : Option Command) (before now : Outside D) (end : GenEnd) (code : ℕ)
-    → Some (Gen mebibytes) ≡ command → code ≡ code_of (gen_status end) → GenEnds w r mebibytes before now end → RunsKeep r (gen_events mebibytes)
+pub ends_gen : {D M : Type 0} (w : DiskWords D) (r : RunWords M) (mebibytes : ℕ) (command : Option Command) (before now : Outside D) (code : ℕ)
+    → Some (Gen mebibytes) ≡ command → EndsAs gen_status (GenEnds w r mebibytes before now) code → RunsKeep r (gen_events mebibytes)
     → now.left ≡ before.left → now.reads ≡ before.reads → before.writes ≤ now.writes → Ends w r command before now code
-ends_gen w r mebibytes command before now end code asked is ends kept left reads writes =
+ends_gen w r mebibytes command before now code asked ends kept left reads writes =
     subst (λ (o : Option Command). Ends w r o before now code) asked
     (record {
-      ends = (record { end = end; is = is; says = ends }, kept, record { left = left; reads = reads });
+      ends = (ends, kept, record { left = left; reads = reads });
       reads = omega (arith, reads);
       writes = writes;
     })

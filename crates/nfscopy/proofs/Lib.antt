@@ -1,4 +1,5 @@
 pub mod Completing
 pub mod Ending
+pub mod Formatted
 pub mod Generating
 pub mod Keeping

@@ -1,5 +1,7 @@
 -- The program's exit statuses, and the status of each end of a command. Own numbers.
 use Rattle.std.specs.Prelude.{ℕ}
+use Rattle.volume_format.specs.declared.formatting.FormatEnd.{FormatEnd}
+use Rattle.volume_format.specs.declared.formatting.FormatEnd.TheVariants as format
 use Rattle.nfscopy.specs.declared.exit_status.ExitStatus.{ExitStatus}
 use Rattle.nfscopy.specs.declared.exit_status.ExitStatus.TheVariants.{Done, Usage, Refused, ReadFault, WriteFault, NoMemory, DiskFault, NoVolume, Mistaken}
 use Rattle.nfscopy.specs.declared.ends.UsageEnd.{UsageEnd}
@@ -52,3 +54,10 @@ show_status show.Refused = Refused
 show_status show.ReadFault = ReadFault
 show_status show.WriteFault = WriteFault
 show_status show.NoMemory = NoMemory
+
+abbrev pub format_status : FormatEnd → ExitStatus
+format_status format.Done = Done
+format_status format.WriteFault = WriteFault
+format_status format.NoMemory = NoMemory
+format_status format.DiskFault = DiskFault
+format_status format.TooSmall = NoVolume

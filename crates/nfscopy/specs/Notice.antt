@@ -18,10 +18,6 @@ bad_line_text n = codes "bad line " ++ decimal n ++ 10 ∷ []
 abbrev pub not_volume_text : (block at : ℕ) → List ℕ
 not_volume_text block at = codes "not a volume " ++ (decimal block ++ (codes " " ++ (decimal at ++ 10 ∷ [])))
 
--- the line of a disk that is too small
-abbrev pub small_text : (need have : ℕ) → List ℕ
-small_text need have = codes "too small " ++ decimal need ++ codes " " ++ decimal have ++ 10 ∷ []
-
 -- a record that was taken by mistake
 abbrev pub mistaken_text : Mistake → List ℕ
 mistaken_text mistake = line_text (lines.Mistaken mistake.accepted mistake.sealed)

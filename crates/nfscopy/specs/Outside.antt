@@ -1,9 +1,9 @@
--- What is known of the outside at a moment, and the words in which disks of a type speak of themselves.
+-- What is known of the outside at a moment.
 use Rattle.std.specs.Prelude.{◌≡◌, ◌⊎◌, ℕ, Option, None, List}
 use Rattle.outcome.specs.Causes.{Rose}
 use Rattle.nfs_base.specs.declared.side.Side.{Side}
 use Rattle.nfs_base.specs.declared.side.Side.TheVariants.{Source, Dest}
-use Rattle.disk_model.specs.Elapsed.{Timeline}
+use Rattle.volume_format.specs.DiskWords.{DiskWords}
 use Rattle.wire_run.specs.Running.{faults_in}
 
 -- The bytes that the source has left and those that the sink took, where they tell them, their counts of
@@ -23,16 +23,6 @@ outside left taken reads writes source dest =
 -- where no disk is used
 abbrev pub without_disks : Option (List ℕ) → Option (List ℕ) → ℕ → ℕ → Outside (Unit {0})
 without_disks left taken reads writes = outside left taken reads writes None None
-
--- Whether a disk tells what it holds, its count of faults, how many blocks it has, and its moments.
-pub record DiskWords (D : Type 0) : Type 1 where
-  pub told : Type 0
-  pub faults : D → ℕ
-  pub size : D → ℕ
-  pub timeline : D → Timeline
-
-abbrev pub disk_words : {D : Type 0} → Type 0 → (D → ℕ) → (D → ℕ) → (D → Timeline) → DiskWords D
-disk_words told faults size timeline = record { told = told; faults = faults; size = size; timeline = timeline }
 
 -- the disks are the same
 pub record SameDisks {D : Type 0} (before now : Outside D) : Type 0 where

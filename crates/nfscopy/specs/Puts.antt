@@ -7,28 +7,15 @@ use Rattle.wire_run.specs.declared.fresh.Unmade.{Unmade}
 use Rattle.wire_run.specs.declared.fresh.Unmade.TheVariants as unmade
 use Rattle.wire_run.specs.declared.run.Ran.{Ran}
 use Rattle.wire_run.specs.declared.run.Ran.TheVariants as ran
+use Rattle.volume_format.specs.Puts.{AllPut, FrontPut, NonePut}
 use Rattle.nfscopy.specs.declared.ends.RunEnd.{RunEnd}
 use Rattle.nfscopy.specs.declared.ends.RunEnd.TheVariants as ends
-use Rattle.nfscopy.specs.Notice.{bad_line_text, mistaken_text, not_volume_text, small_text}
+use Rattle.volume_format.specs.Lines.{small_text}
+use Rattle.nfscopy.specs.Notice.{bad_line_text, mistaken_text, not_volume_text}
 
--- all of it was put, under the end that it goes with
-pub record AllPut {E : Type 0} (old new : Option (List ℕ)) (line : List ℕ) (end result : E) : Type 0 where
-  pub end_is : result ≡ end
-  pub puts : Appends old new line
-
--- or a front of it, where the sink failed
-pub record FrontPut {E : Type 0} (fault : E) (old new : Option (List ℕ)) (before now : ℕ) (line : List ℕ) (result : E) : Type 0 where
-  pub end_is : result ≡ fault
-  pub rose : Rose before now
-  pub puts : AppendsFront old new line
-
+-- all of it was put, or a front of it, where the sink failed
 abbrev pub LastPut : Option (List ℕ) → Option (List ℕ) → (before now : ℕ) → List ℕ → RunEnd → RunEnd → Type 0
 LastPut old new before now line end result = AllPut old new line end result ⊎ FrontPut ends.WriteFault old new before now line result
-
--- nothing was put, under this end
-pub record NonePut {E : Type 0} (old new : Option (List ℕ)) (end result : E) : Type 0 where
-  pub end_is : result ≡ end
-  pub keeps : Keeps old new
 
 -- the line, unless memory ran out
 abbrev pub LinePut : Option (List ℕ) → Option (List ℕ) → (before now : ℕ) → List ℕ → RunEnd → RunEnd → Type 0

@@ -20,8 +20,10 @@ use Rattle.wire_run.specs.Running.{Later, RunMachines, failed_steps, size_in}
 use Rattle.nfscopy.specs.declared.ends.RunEnd.{RunEnd}
 use Rattle.nfscopy.specs.declared.ends.RunEnd.TheVariants as ends
 use Rattle.nfscopy.specs.Input.{Input, asked, IfSchedule, IfRefused}
-use Rattle.nfscopy.specs.Notice.{not_volume_text, small_text}
-use Rattle.nfscopy.specs.Outside.{Outside, DiskWords, SameDisks, DiskRose, disk_at}
+use Rattle.volume_format.specs.Lines.{small_text}
+use Rattle.nfscopy.specs.Notice.{not_volume_text}
+use Rattle.volume_format.specs.DiskWords.{DiskWords}
+use Rattle.nfscopy.specs.Outside.{Outside, SameDisks, DiskRose, disk_at}
 
 -- The machines of a run, by what the mechanism tells of itself, which are its words.
 pub record RunWords (M : Type 0) : Type 1 where

@@ -1,7 +1,8 @@
 ghost use Rattle.std.specs.Prelude.{◌≡◌};
-ghost use Rattle.nfscopy.specs.ExitStatus.{code_of, usage_status, run_status, gen_status, show_status};
+ghost use Rattle.nfscopy.specs.ExitStatus.{code_of, format_status, usage_status, run_status, gen_status, show_status};
 
 use crate::exit_status::ExitStatus;
+use volume_format::FormatEnd;
 
 /// How the program ends for words of no command.
 #[derive(Clone, Copy, PartialEq, Eq)]
@@ -153,4 +154,18 @@ impl ShowEnd {
         };
         status.code()
     }
+}
+
+/// The exit status that says how a format ended.
+pub(crate) fn format_code(end: FormatEnd) -> u8
+    ensures { result ≡ code_of (format_status end) }
+{
+    let status = match end {
+        FormatEnd::Done => ExitStatus::Done,
+        FormatEnd::WriteFault => ExitStatus::WriteFault,
+        FormatEnd::NoMemory => ExitStatus::NoMemory,
+        FormatEnd::DiskFault => ExitStatus::DiskFault,
+        FormatEnd::TooSmall => ExitStatus::NoVolume,
+    };
+    status.code()
 }

@@ -1,6 +1,7 @@
 ghost use Rattle.std.specs.Prelude.{◌≡◌, ◌≤◌, ℕ, List, Option, true, is_some, IfOk};
 ghost use Rattle.nfscopy.specs.GenEnds.{gen_events, GenCarriesOut, GenEnds};
-ghost use Rattle.nfscopy.specs.Outside.{outside, disk_words};
+ghost use Rattle.nfscopy.specs.Outside.{outside};
+ghost use Rattle.volume_format.specs.DiskWords.{disk_words};
 ghost use Rattle.nfscopy.specs.RunEnds.{run_words, RunsKeep};
 ghost use Rattle.nfscopy.specs.Summing.{owing_for, OwedPut, Owes, Sums};
 ghost use Rattle.wire_log.specs.Keeping.{reading};
@@ -8,7 +9,7 @@ ghost use Rattle.wire_run.specs.Ends.{run_machines};
 ghost use Rattle.wire_run.specs.Running.{at_rest, mech_of, HasDisks};
 
 use crate::ends::GenEnd;
-use crate::notice::{mistaken_line, not_volume_line, small_line, too_much};
+use crate::notice::{mistaken_line, not_volume_line, too_much};
 use crate::summary::Summary;
 use disk_model::Disk;
 use gss_mech::Mechanism;
@@ -21,6 +22,7 @@ use run_client::schedules_are_accepted;
 use run_promise::runs_keep_the_promise;
 use std::alloc::Global;
 use streams::{Sink, put_all};
+use volume_format::small_line;
 use wire_machine::Mistake;
 use wire_run::{Disks, Ran, System, Unmade};
 
@@ -48,7 +50,7 @@ pub(crate) struct Owed {
 }
 
 /// Carries out the schedule of a large copy over the two disks, and puts its summary.
-pub fn generate<K: Sink, D: Disk + Drop, M: Mechanism>(
+pub(crate) fn generate<K: Sink, D: Disk + Drop, M: Mechanism>(
     alloc: Global,
     plan: LargeCopy,
     output: &mut K,

@@ -3,10 +3,12 @@
 //! The contract to read first is [`nfscopy`]: for each command and each status it says what was read,
 //! what was put, and why. `specs/Ends.antt` has the definitions; for `run` they name the run of the schedule by three
 //! machines and its lines (crates `wire_run`, `wire_machine`), for `gen` that of a schedule that is made here (crates `large_copy`,
-//! `large_run`), and for `show` the lines of a stream of records (crate `wire_show`).
+//! `large_run`), for `show` the lines of a stream of records (crate `wire_show`), and for `format` what a disk holds (crate
+//! `volume_format`).
 #![tactic(auto)]
 
 mod command;
+mod commands;
 mod ends;
 mod exit_status;
 mod generate;
@@ -16,7 +18,8 @@ mod show;
 mod summary;
 mod top;
 
-pub use command::Command;
+pub use command::{Command, is_on_file};
+pub use commands::{do_format, do_gen, do_run, do_show};
 pub use ends::{GenEnd, RunEnd, ShowEnd, UsageEnd};
 pub use exit_status::ExitStatus;
 pub use summary::Summary;

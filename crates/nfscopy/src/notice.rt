@@ -1,6 +1,6 @@
 ghost use Rattle.std.specs.Prelude.{◌≡◌, ◌≤◌, IfOk};
 ghost use Rattle.std.specs.String.{string_bytes};
-ghost use Rattle.nfscopy.specs.Notice.{usage_text, too_much_text, bad_line_text, mistaken_text, not_volume_text, small_text};
+ghost use Rattle.nfscopy.specs.Notice.{usage_text, too_much_text, bad_line_text, mistaken_text, not_volume_text};
 
 use outcome::Mem;
 use std::alloc::Global;
@@ -34,13 +34,6 @@ pub fn bad_line(alloc: Global, bad: BadLine) -> Mem<String>
     ensures { IfOk result (λ text. string_bytes text ≡ bad_line_text bad.line) }
 {
     Ok(format!(in alloc; "{bad}\n")?)
-}
-
-/// The line that is put where a disk has too few blocks.
-pub fn small_line(alloc: Global, need: u64, have: u64) -> Mem<String>
-    ensures { IfOk result (λ text. string_bytes text ≡ small_text need have) }
-{
-    Ok(format!(in alloc; "too small {need} {have}\n")?)
 }
 
 /// The line that is put where a disk doesn't hold a volume.

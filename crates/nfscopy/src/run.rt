@@ -3,16 +3,15 @@ ghost use Rattle.std.specs.Prelude.{◌≡◌, ◌≤◌, ℕ, List, Option, Som
 ghost use Rattle.nfscopy.specs.Ends.{UsageEnds};
 ghost use Rattle.nfscopy.specs.Input.{asked, parsed};
 ghost use Rattle.nfscopy.specs.Notice.{bad_line_text};
-ghost use Rattle.nfscopy.specs.Outside.{outside, disk_words};
+ghost use Rattle.nfscopy.specs.Outside.{outside};
+ghost use Rattle.volume_format.specs.DiskWords.{disk_words};
 ghost use Rattle.nfscopy.specs.Puts.{EndPut, LastPut, LinePut, UnmadePut};
 ghost use Rattle.nfscopy.specs.RunEnds.{run_words, CarriesOut, KeepsIf, RunEnds};
 ghost use Rattle.wire_machine.specs.Runs.{events_in};
 ghost use Rattle.wire_schedule.specs.ScheduleText.{schedule_of};
 
 use crate::ends::{RunEnd, UsageEnd};
-use crate::notice::{
-    bad_line, mistaken_line, not_volume_line, small_line, too_much_line, usage_line,
-};
+use crate::notice::{bad_line, mistaken_line, not_volume_line, too_much_line, usage_line};
 use disk_model::Disk;
 use gss_mech::Mechanism;
 use nfs_base::INPUT_LIMIT;
@@ -21,11 +20,12 @@ use run_client::schedules_are_accepted;
 use run_promise::runs_keep_the_promise;
 use std::alloc::Global;
 use streams::{Sink, Source, Whole, put_all, read_whole};
+use volume_format::small_line;
 use wire_run::{Disks, Ran, System, Unmade};
 use wire_schedule::{BadLine, Schedule};
 
 /// Puts the line `usage`.
-pub fn usage<K: Sink>(output: &mut K) -> UsageEnd
+pub(crate) fn usage<K: Sink>(output: &mut K) -> UsageEnd
     ensures puts { UsageEnds (K.takes output.old).taken (K.takes output.new).taken (K.takes output.old).faults (K.takes output.new).faults result }
     ensures later { (K.takes output.old).faults ≤ (K.takes output.new).faults }
 {
@@ -36,7 +36,7 @@ pub fn usage<K: Sink>(output: &mut K) -> UsageEnd
 }
 
 /// Reads a schedule, carries it out over the two disks and puts its transcript. Codes are those of the mechanism.
-pub fn run<S: Source, K: Sink, D: Disk + Drop, M: Mechanism>(
+pub(crate) fn run<S: Source, K: Sink, D: Disk + Drop, M: Mechanism>(
     alloc: Global,
     input: &mut S,
     output: &mut K,

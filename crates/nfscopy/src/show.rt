@@ -9,7 +9,7 @@ use streams::{Sink, Source};
 use wire_show::{Shown, do_show};
 
 /// Puts the lines of a stream of records.
-pub fn show<S: Source, K: Sink>(alloc: Global, input: &mut S, output: &mut K) -> ShowEnd
+pub(crate) fn show<S: Source, K: Sink>(alloc: Global, input: &mut S, output: &mut K) -> ShowEnd
     ensures ends { ShowEnds
         (without_disks (S.gives input.old).left (K.takes output.old).taken (S.gives input.old).faults (K.takes output.old).faults)
         (without_disks (S.gives input.new).left (K.takes output.new).taken (S.gives input.new).faults (K.takes output.new).faults)

@@ -2,13 +2,13 @@ ghost use Rattle.std.specs.Prelude.{map};
 ghost use Rattle.std.specs.String.{string_bytes};
 ghost use Rattle.nfscopy.specs.Command.{command_of};
 ghost use Rattle.nfscopy.specs.Ends.{Ends, HasDisks};
-ghost use Rattle.nfscopy.specs.Outside.{outside, disk_words};
+ghost use Rattle.nfscopy.specs.Outside.{outside};
+ghost use Rattle.volume_format.specs.DiskWords.{disk_words};
 ghost use Rattle.nfscopy.specs.RunEnds.{run_words};
 
 use crate::command::Command;
-use crate::generate::generate;
-use crate::run::{run, usage};
-use crate::show::show;
+use crate::commands::{do_format, do_gen, do_run, do_show};
+use crate::run::usage;
 use disk_model::Disk;
 use gss_mech::Mechanism;
 use std::alloc::Global;
@@ -19,8 +19,9 @@ use wire_run::Disks;
 ///
 /// `run` reads a schedule from `input`, carries it out with a client and two servers over the two disks, which seal their
 /// records by the mechanism, and puts the transcript to `output`; `gen N` does so with a schedule of its own, which copies a file of N MiB,
-/// and puts a summary; `show` reads a stream of records and puts what they hold, line by line. Words of no command put the line `usage`. What each status says of the input, the output and the
-/// disks stands in `Ends`.
+/// and puts a summary; `show` reads a stream of records and puts what they hold, line by line; `format PATH FILES BLOCKS TAG` makes an
+/// empty volume on the disk in the source's place, which is that of the file PATH. Words of no command put the line `usage`. What each
+/// status says of the input, the output and the disks stands in `Ends`.
 pub fn nfscopy<S: Source, K: Sink, D: Disk + Drop, M: Mechanism>(
     alloc: Global,
     words: &[String],
@@ -39,8 +40,9 @@ pub fn nfscopy<S: Source, K: Sink, D: Disk + Drop, M: Mechanism>(
         return usage(output).code();
     };
     match command {
-        Command::Run => run(alloc, input, output, disks, mech).code(),
-        Command::Gen(plan) => generate(alloc, plan, output, disks, mech).code(),
-        Command::Show => show(alloc, input, output).code(),
+        Command::Run => do_run(alloc, input, output, disks, mech),
+        Command::Gen(plan) => do_gen(alloc, plan, output, disks, mech),
+        Command::Show => do_show(alloc, input, output),
+        Command::Format(new) => do_format(alloc, new, output, disks),
     }
 }

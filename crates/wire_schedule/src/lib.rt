@@ -23,4 +23,5 @@ pub use laws::{
     byte_words, directive_lines, first_bad_line, line_events, number_words, schedule_lines,
     schedule_texts,
 };
+pub use numerals::{number, number_u32};
 pub use schedule::{BadLine, Schedule};

@@ -10,7 +10,7 @@ const MOST_DIGITS: usize = 131_072;
 
 /// A word as a number: decimal digits, with no sign and no leading zero.
 #[tactic(auto, unfolding(crate::specs::Numerals::number_of))]
-pub(crate) fn number(word: &[u8]) -> Option<u64>
+pub fn number(word: &[u8]) -> Option<u64>
     ensures { result ≡ number_of word.now }
 {
     match word {
@@ -22,7 +22,7 @@ pub(crate) fn number(word: &[u8]) -> Option<u64>
 
 /// A word as a number of 32 bits.
 #[tactic(auto, unfolding(crate::specs::Numerals::number_below))]
-pub(crate) fn number_u32(word: &[u8]) -> Option<u32>
+pub fn number_u32(word: &[u8]) -> Option<u32>
     ensures { result ≡ number_below (2 ^ 32) word.now }
 {
     u32::try_from(number(word)?).ok()

@@ -9,7 +9,9 @@ use std::test::Fail;
 // A volume of one file of one block is made by so many calls: zeros for the block, and for the gate and one home
 // of both cells, a sync, block 0, a sync; then a sync, block 0, the gate and the home of both cells, and four
 // calls for the next boot number.
-const MAKING: u64 = 8 + 10;
+const MAKING: u64 = FORMATTING + 10;
+
+const FORMATTING: u64 = 8;
 
 // A write of a part of a block reads the block and writes it; a read of one block is one call, and a commit four.
 const SOURCE_CALLS: u32 = 2 + 1;
@@ -100,4 +102,29 @@ fn a_file_is_not_read(rt: HostRuntime) -> Result<(), Fail> {
     let dest = failing_at(whole.dest_calls)?;
     let unread = large(rt.alloc(), GOOD_DISK, dest)?;
     check_summary(&rt, rt.alloc(), &unread, "no")
+}
+
+// Each call of a disk fails in turn while it is formatted, one past the last too.
+#[test]
+fn a_disk_fails_while_it_is_formatted(rt: HostRuntime) -> Result<(), Fail> {
+    for call in 1..FORMATTING + 2 {
+        let failing = DiskPlan {
+            blocks: 9,
+            fails: call,
+        };
+        let answer = ask_disks(
+            rt.alloc(),
+            &["format", "p", "1", "1", "7"],
+            Vec::new(rt.alloc()),
+            NO_FAULTS,
+            failing,
+            GOOD_DISK,
+        )?;
+        if call <= FORMATTING {
+            answer.check(&rt, "a call failed", 6, "");
+        } else {
+            answer.check(&rt, "no call failed", 0, "formatted 9\n");
+        }
+    }
+    Ok(())
 }

@@ -21,6 +21,8 @@ fn words(rt: HostRuntime) -> Result<(), Fail> {
         &["1", "gen"][..],
         &["show", "x"][..],
         &["shows"][..],
+        &["format", "p", "1", "1"][..],
+        &["format", "-p", "1", "1", "1"][..],
     ] {
         let text = Vec::from_slice(rt.alloc(), FIRST_COPY.as_bytes())?;
         let answer = ask(rt.alloc(), words, text, NO_FAULTS)?;
