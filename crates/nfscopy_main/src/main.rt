@@ -12,7 +12,7 @@ use nfscopy::{ExitStatus, is_on_file, nfscopy};
 use outcome::Mem;
 use std::alloc::Global;
 use std::env::{self, Env};
-use std::fs::OpenOptions;
+use std::fs::{File, OpenOptions};
 use std::io::{self, ErrorKind};
 use std::process::ExitCode;
 use streams::{Reading, Writing};
@@ -24,6 +24,9 @@ const MOST_DISK_BLOCKS: u64 = 32_964;
 
 /// How many bytes it has.
 const ROOM: u64 = MOST_DISK_BLOCKS * 4096;
+
+/// A file that keeps nothing.
+const NOTHING: &str = "/dev/null";
 
 /// The exit status where a file can't be opened: nothing is printed then.
 const NOT_OPENED: u8 = 11;
@@ -78,13 +81,24 @@ fn call<D: Disk + Drop>(
     ExitCode::from(status)
 }
 
-/// The disk of the file at a path, which is made where there is none. A shorter file gets room for the largest volume.
-fn file_disk(rt: &HostRuntime, path: &str) -> io::Result<FileDisk> {
-    let file = OpenOptions::new()
+/// Opens the file at a path, which is made where there is none. The numbers of the standard streams are taken meanwhile, so that it
+/// gets none of them where one is closed: what is printed would go into the file.
+fn open(rt: &HostRuntime, path: &str) -> io::Result<File> {
+    let _taken = [
+        File::open(rt, NOTHING)?,
+        File::open(rt, NOTHING)?,
+        File::open(rt, NOTHING)?,
+    ];
+    OpenOptions::new()
         .read(true)
         .write(true)
         .create(true)
-        .open(rt, path)?;
+        .open(rt, path)
+}
+
+/// The disk of the file at a path. A shorter file gets room for the largest volume.
+fn file_disk(rt: &HostRuntime, path: &str) -> io::Result<FileDisk> {
+    let file = open(rt, path)?;
     let len = file.metadata()?.len();
     if len >= ROOM {
         return Ok(FileDisk::new(file, len));
