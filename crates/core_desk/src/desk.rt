@@ -132,6 +132,17 @@ impl<L: Ledger, T: Ledger, G: Ledger, K: Core<W>, C: Clock, W: Draws> CoreDesk<L
     {
         &self.core
     }
+
+    /// The machine, handed back. The calls that are kept are lost.
+    pub fn hand_back(self) -> K
+    where
+        C: Drop,
+        W: Drop,
+        ensures { result ≡ self.core }
+    {
+        let CoreDesk { core, .. } = self;
+        core
+    }
 }
 
 /// What a step gives that wasn't made.

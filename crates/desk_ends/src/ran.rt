@@ -1,0 +1,122 @@
+use crate::making::CHUNK;
+use crate::plan::Plan;
+use client_copies::Report;
+use copy_workers::{WorkerEnd, WorkerReport};
+use core_desk::Closing;
+use dest_core::DestCore;
+use disk_model::MemoryDisk;
+use gss_mech::Realm;
+use source_core::SourceCore;
+use std::alloc::Global;
+use std::sync::ledger::Ledger;
+use two_ends::Wrong;
+
+/// What workers did together.
+#[derive(Clone, Copy)]
+pub struct Counts {
+    /// How many bytes they landed.
+    pub landed: u64,
+
+    /// How many bytes landed, by the book of the desk.
+    pub book: u64,
+
+    /// How many of them ended since the desk was closed.
+    pub closed: u32,
+
+    /// How many ended since their links were down.
+    pub down: u32,
+}
+
+/// What came of it.
+#[derive(Drop)]
+pub struct Ran {
+    pub counts: Counts,
+
+    /// How many READs were put of which no answer was given yet, at the moment at which they were most.
+    pub most: u64,
+
+    /// How often an end did what no end does.
+    pub faults: u64,
+
+    /// What the client said last of its two copies.
+    pub reports: [Option<Report>; 2],
+
+    pub source: SourceCore<MemoryDisk, Realm>,
+
+    pub dest: DestCore<MemoryDisk, Realm>,
+}
+
+/// What workers did together, by what is reported of each.
+pub(crate) fn count_all<L: Ledger, T: Ledger, G: Ledger>(
+    report: &WorkerReport<L, T, G, Closing>,
+) -> Counts {
+    let (mut landed, mut closed, mut down) = (0_u64, 0_u32, 0_u32);
+    for share in report.shares {
+        landed = landed.saturating_add(share);
+    }
+    for end in report.ends {
+        match end {
+            WorkerEnd::Closed => closed = closed.saturating_add(1),
+            WorkerEnd::Down => down = down.saturating_add(1),
+            WorkerEnd::Turns | WorkerEnd::NoLink => {}
+        }
+    }
+    Counts {
+        landed,
+        book: report.book,
+        closed,
+        down,
+    }
+}
+
+/// Whether each of the destination's files has the bytes of the source's.
+pub fn same_bytes(alloc: Global, plan: &Plan, ran: &mut Ran) -> Result<bool, Wrong> {
+    let Ran { source, dest, .. } = ran;
+    let (mut here, mut there) = (vec![in alloc; 0; CHUNK]?, vec![in alloc; 0; CHUNK]?);
+    for file in 1..=plan.files() {
+        if !have_size(source, dest, file, u64::from(plan.size)) {
+            return Ok(false);
+        }
+        for chunk in 0..1024_u64 {
+            let off = chunk * CHUNK as u64;
+            if off >= u64::from(plan.size) {
+                break;
+            }
+            if !is_same(source, dest, file, off, &mut here, &mut there) {
+                return Ok(false);
+            }
+        }
+    }
+    Ok(true)
+}
+
+/// Whether the source's file and one of the destination's have so many bytes.
+fn have_size(
+    source: &SourceCore<MemoryDisk, Realm>,
+    dest: &DestCore<MemoryDisk, Realm>,
+    file: u32,
+    size: u64,
+) -> bool {
+    source.files() >= 1
+        && 1 <= file
+        && file <= dest.files()
+        && source.file(1).size == size
+        && dest.file(file).size == size
+}
+
+/// Whether one of the destination's files has the bytes of the source's from here on.
+fn is_same(
+    source: &mut SourceCore<MemoryDisk, Realm>,
+    dest: &mut DestCore<MemoryDisk, Realm>,
+    file: u32,
+    off: u64,
+    here: &mut [u8],
+    there: &mut [u8],
+) -> bool {
+    source.files() >= 1
+        && 1 <= file
+        && file <= dest.files()
+        && source.peek(1, off, here).is_ok()
+        && dest.peek(file, off, there).is_ok()
+        && &*here == &*there
+}

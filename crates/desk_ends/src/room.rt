@@ -1,0 +1,152 @@
+use crate::ends::{ClientEnd, SourceEnd, StillClock};
+use crate::plan::Plan;
+use crate::reads::Reads;
+use core_desk::CoreDesk;
+use dest_core::DestCore;
+use disk_model::MemoryDisk;
+use gss_mech::Realm;
+use nfs_base::{End, Side};
+use outbox::{Outbox, Outgoing, To};
+use outcome::Mem;
+use std::alloc::Global;
+use std::sync::ledger::Ledger;
+use std::sync::{Mutex, Wait};
+use std::thread::yield_now;
+use streams::CountDraws;
+use two_ends::Wrong;
+
+/// The desk of a destination over a disk in memory.
+pub(crate) type MemoryDesk<L, T, G> = CoreDesk<
+    L,
+    T,
+    G,
+    DestCore<MemoryDisk, Realm>,
+    StillClock,
+    CountDraws,
+>;
+
+/// The connection of the client. Those of workers have their numbers.
+const CLIENT: u32 = 0;
+
+/// So many records are under way between the client and a server at most, one after the other.
+const MOST_RECORDS: u32 = 1_000;
+
+/// How often a link looks whether enough READs were put.
+const LOOKS: u32 = 1_000_000;
+
+/// The three ends, each under a lock of its own. No two locks are held at once.
+#[derive(Drop)]
+pub(crate) struct Room<'a, R: Wait, L: Ledger, T: Ledger, G: Ledger> {
+    pub(crate) rt: &'a R,
+    pub(crate) alloc: Global,
+    pub(crate) plan: Plan,
+    pub(crate) source: &'a Mutex<SourceEnd>,
+    pub(crate) client: &'a Mutex<ClientEnd>,
+    pub(crate) desk: &'a Mutex<MemoryDesk<L, T, G>>,
+    pub(crate) reads: &'a Mutex<Reads>,
+}
+
+impl<'a, R: Wait, L: Ledger, T: Ledger, G: Ledger> Room<'a, R, L, T, G> {
+    /// The client begins its copies, and its calls are answered until nothing is under way.
+    pub(crate) fn begin(&self) -> Result<(), Wrong> {
+        for j in 1..=self.plan.copies() {
+            let out = self
+                .client
+                .lock(self.rt)
+                .begin(self.alloc, j, self.plan.spec(j))?;
+            self.carry(out)?;
+        }
+        Ok(())
+    }
+
+    /// The source answers a worker's call.
+    pub(crate) fn ask(&self, worker: u32, bytes: &[u8]) -> Result<Outbox, Wrong> {
+        self.source.lock(self.rt).take(self.alloc, worker, bytes)
+    }
+
+    /// The destination tells the client something. What the client says to it is answered, and the desk closed where all copies
+    /// are over.
+    pub(crate) fn tell(&self, bytes: &[u8]) -> Result<(), Wrong> {
+        let out = self
+            .client
+            .lock(self.rt)
+            .take(self.alloc, Side::Dest, bytes)?;
+        self.carry(out)?;
+        let is_over = self.client.lock(self.rt).is_over(self.plan.copies());
+        if is_over {
+            self.desk.lock(self.rt).close();
+        }
+        Ok(())
+    }
+
+    /// Carries what the client sends to the servers, and the answers back, until nothing is under way.
+    fn carry(&self, out: Outbox) -> Result<(), Wrong> {
+        let mut waiting = out.sent.into_vec();
+        for _ in 0..MOST_RECORDS {
+            if waiting.is_empty() {
+                return Ok(());
+            }
+            let next = waiting.remove(0);
+            self.deliver(&next, &mut waiting)?;
+        }
+        Err(Wrong::Lacks("an end"))
+    }
+
+    /// A server takes what the client sent, and the client the answers. What it sends then waits.
+    fn deliver(&self, sent: &Outgoing, waiting: &mut Vec<Outgoing>) -> Result<(), Wrong> {
+        let (from, answers) = self.answers(sent)?;
+        for answer in answers.sent.as_slice() {
+            let out = self
+                .client
+                .lock(self.rt)
+                .take(self.alloc, from, answer.bytes.as_slice())?;
+            wait_for(waiting, out)?;
+        }
+        Ok(())
+    }
+
+    /// What a server answers to what the client sent.
+    fn answers(&self, sent: &Outgoing) -> Result<(Side, Outbox), Wrong> {
+        let bytes = sent.bytes.as_slice();
+        match sent.to {
+            To::Server(End::Source) => {
+                let out = self.source.lock(self.rt).take(self.alloc, CLIENT, bytes)?;
+                Ok((Side::Source, out))
+            }
+            To::Server(End::Dest) => {
+                let out = self
+                    .desk
+                    .lock(self.rt)
+                    .on_record(self.alloc, CLIENT, bytes)?;
+                Ok((Side::Dest, out))
+            }
+            To::Server(End::Client) | To::Conn(_) | To::Source(_) => Err(Wrong::Lacks("a server")),
+        }
+    }
+
+    /// Whether every worker has put a READ, now or soon. Else that is a fault.
+    pub(crate) fn has_come(&self) -> bool {
+        for _ in 0..LOOKS {
+            let put = self.reads.lock(self.rt).put;
+            if put >= u64::from(self.plan.workers) {
+                return true;
+            }
+            yield_now();
+        }
+        self.fault();
+        false
+    }
+
+    /// An end did what no end does.
+    pub(crate) fn fault(&self) {
+        self.reads.lock(self.rt).fault();
+    }
+}
+
+/// What was sent waits, too.
+fn wait_for(waiting: &mut Vec<Outgoing>, out: Outbox) -> Mem<()> {
+    for outgoing in out.sent.into_vec() {
+        waiting.push(outgoing)?;
+    }
+    Ok(())
+}
