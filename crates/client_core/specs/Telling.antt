@@ -6,6 +6,7 @@ use Rattle.client_copies.specs.declared.copy.ClientCopy.{ClientCopy}
 use Rattle.client_copies.specs.declared.copy.Report.{Report}
 use Rattle.client_copies.specs.declared.table.TheConstants.{MOST_COPIES}
 use Rattle.client_site.specs.Falling.{all_places}
+use Rattle.client_site.specs.Sites.{up_at}
 use Rattle.mount.specs.State.{Mounted, awaited_at}
 use Rattle.nfs_base.specs.declared.side.Side.{Side}
 use Rattle.nfs_base.specs.declared.side.Side.TheVariants.{Source, Dest}
@@ -23,6 +24,12 @@ copy_of j c = copy_if (nat_lt j MOST_COPIES) j c
 abbrev pub report_of : Option ClientCopy → Option Report
 report_of None = None
 report_of (Some copy) = reported copy.stage
+
+-- ---- servers that are set up
+
+abbrev pub is_up : {M : Type 0} → Side → ClientState M → Bool
+is_up Source c = is_some (up_at c.source)
+is_up Dest c = is_some (up_at c.dest)
 
 -- ---- answers that are awaited
 

@@ -6,6 +6,7 @@ ghost use Rattle.mount.specs.declared.state.TheConstants.{PLACES};
 ghost use Rattle.nfs_base.specs.Forms.{net_loc};
 ghost use Rattle.nfs_base.specs.declared.limits.TheConstants.{NAME_LIMIT};
 ghost use Rattle.write_queue.specs.Queue.{nothing_queued};
+ghost use Rattle.client_steps.specs.Setting.{IsFit};
 ghost use Rattle.client_core.specs.State as state;
 ghost use Rattle.client_core.specs.Telling as telling;
 
@@ -114,6 +115,32 @@ impl<M> Client<M> {
             self.copies.copy(j as u32)
         } else {
             None
+        }
+    }
+
+    /// Its mechanism and its principal, and where the servers are found.
+    pub fn setting(&self) -> &Setting<M>
+        ensures is { result.now ≡ self.now.setting }
+        ensures fit { IsFit result.now }
+    {
+        &self.setting
+    }
+
+    /// Its writes and commits at both servers.
+    pub fn queues(&self) -> &Queues
+        ensures source { result.now.source ≡ self.now.source_queue }
+        ensures dest { result.now.dest ≡ self.now.dest_queue }
+    {
+        &self.queues
+    }
+
+    /// Whether a server is set up: there is a session with it.
+    pub fn is_up(&self, at: Side) -> bool
+        ensures { result ≡ telling.is_up at self.now }
+    {
+        match at {
+            Side::Source => self.source.up().is_some(),
+            Side::Dest => self.dest.up().is_some(),
         }
     }
 

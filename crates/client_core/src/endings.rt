@@ -30,7 +30,7 @@ impl<M> Client<M> {
     }
 
     /// What a step works on, in a second.
-    pub(crate) fn course(&self, alloc: Global, now: u64) -> Mem<Course>
+    pub fn course(&self, alloc: Global, now: u64) -> Mem<Course>
         ensures { IfOk result (λ course. parts.course_of self.now course ≡ spec.acting_at now self.now) }
     {
         Ok(Course {
@@ -146,8 +146,8 @@ impl<M: Mechanism> Client<M> {
         }
     }
 
-    /// The step ends. It takes no memory.
-    pub(crate) fn end(&mut self, course: Course) -> Outbox
+    /// A step ends, over contexts for callbacks as they are. It takes no memory.
+    pub fn end(&mut self, course: Course) -> Outbox
         requires few { self.old.steps < MOST_STEPS }
         ensures { (self.new, result) ≡ spec.ended (parts.course_of self.old course) self.old.back self.old }
     {

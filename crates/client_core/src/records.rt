@@ -50,7 +50,8 @@ impl<M: Mechanism> Client<M> {
         }
     }
 
-    fn judge(&self, alloc: Global, record_: &[u8], now: u64) -> Mem<Judged>
+    /// What a record is to the client: a reply, or a call of its callback program, judged by its context (RFC 2203 section 5.3.3).
+    pub fn judge(&self, alloc: Global, record_: &[u8], now: u64) -> Mem<Judged>
         ensures is { IfOk result (λ judged. judged ≡ judged_of M.mic_of (second_at now self.now) programs.CALLBACK record_.now self.now.back) }
         ensures sound { IfOk result (IsSoundWhere (second_at now self.now) self.now.back) }
     {

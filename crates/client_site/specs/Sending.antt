@@ -8,8 +8,9 @@ use Rattle.session_calls.specs.declared.slot_call.SlotCall.TheVariants.{ReclaimC
 use Rattle.session_calls.specs.declared.sole_call.BackChannel.{BackChannel}
 use Rattle.session_client.specs.declared.setup.Setup.{Setup}
 use Rattle.session_client.specs.declared.setup.Setup.TheVariants as setups
-use Rattle.mount.specs.Sending.{begun, child_asked, name_under, sent_again, slotted, stepped_in}
+use Rattle.mount.specs.Sending.{begun, child_asked, ended_in, name_under, sent_again, slotted, stepped_in}
 use Rattle.mount.specs.State.{Mounted, awaited_at, has_numbers, is_setting_up, root_context, root_name, setup_in}
+use Rattle.mount.specs.declared.calling.Ending.{Ending}
 use Rattle.mount.specs.declared.calling.Under.{Under}
 use Rattle.mount.specs.declared.machine.SendAt.{SendAt}
 use Rattle.mount.specs.declared.machine.Sent.{Sent}
@@ -59,6 +60,13 @@ stepped_at mic at principal back s =
 abbrev pub reclaimed_in : Mic → SendAt → Site → Option Sent × Site
 reclaimed_in mic at s =
     at_site s (sent_if (may_go at s.mount) (slotted mic at (root_name s.mount.standing) aims.Setup ReclaimComplete s.mount) s.mount)
+
+-- ---- what ends the session, the client or the root's context
+
+abbrev pub ended_at : Mic → SendAt → Ending → Site → Option Sent × Site
+ended_at mic at ending s = at_site s (sent_if (may_go at s.mount) (ended_in mic at ending s.mount.standing s.mount) s.mount)
+
+-- ---- the back channel
 
 -- the context under which the server is to call back has this number, and no boot
 abbrev pub back_under : ℕ → Option Context → Option BackChannel

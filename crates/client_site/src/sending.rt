@@ -12,7 +12,7 @@ ghost use Rattle.client_site.specs.Sending as spec;
 use crate::site::Site;
 use gss_ctx::handle_of;
 use gss_mech::Mechanism;
-use mount::{Mount, PLACES, SendAt, Sent, Under};
+use mount::{Ending, Mount, PLACES, SendAt, Sent, Under};
 use outcome::Mem;
 use session_calls::{BackChannel, SlotCall};
 use session_client::Setup;
@@ -190,6 +190,25 @@ impl Site {
             return Ok(None);
         }
         self.mount.reclaim(alloc, at, mech)
+    }
+
+    /// What ends the session, the client or the root's context. None as of [`Site::send`].
+    pub fn end<M: Mechanism>(
+        &mut self,
+        alloc: Global,
+        at: SendAt,
+        ending: Ending,
+        mech: &M,
+    ) -> Mem<Option<Sent>>
+        requires { at.place < PLACES }
+        ensures sent { IfOk result (λ sent. sent ≡ (spec.ended_at M.mic_of at ending self.old).0) }
+        ensures after { IfOk result (λ sent. self.new ≡ (spec.ended_at M.mic_of at ending self.old).1) }
+        ensures err { OnErr result (self.new ≡ self.old) }
+    {
+        if !may_go(&self.mount, at) {
+            return Ok(None);
+        }
+        self.mount.end(alloc, at, ending, mech)
     }
 
     /// The back channel for the context with this number, where the root context is there.

@@ -4,5 +4,6 @@ pub mod Calling
 pub mod Commands
 pub mod CopySteps
 pub mod Desks
+pub mod Parting
 pub mod Replies
 pub mod Setting

@@ -138,7 +138,7 @@ impl Course {
 }
 
 impl Desk {
-    fn take<M: Mechanism>(
+    pub(crate) fn take<M: Mechanism>(
         &mut self,
         alloc: Global,
         setting: &Setting<M>,
