@@ -1,0 +1,3 @@
+mod Causes
+mod Errors
+mod Steps

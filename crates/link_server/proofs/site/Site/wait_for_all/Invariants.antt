@@ -1,0 +1,17 @@
+use Rattle.std.proofs.Common.{◌≡◌}
+use Rattle.link_server.specs.Answering.{Answers}
+use Rattle.link_server.specs.Accepting.{KeptAt, Waits}
+use Rattle.link_server.specs.Keeping.{books_of}
+use Rattle.link_server.proofs.site.Site.wait_for_all.Given as goal
+
+abbrev pub invariant-ends : goal.invariant-ends
+invariant-ends g l = record {
+  kept : g.N.Net.Told → KeptAt (Answers g.K.Machine.calls_of g.K.Machine.step g.K.Machine.kept) (books_of g.N.Net.hung g.N.Net.up g.N.Net.accepted l.net) l.self;
+  waits : Waits l.initial.self l.self;
+  coming : g.N.Net.Told → g.N.Net.coming l.net ≡ g.N.Net.coming l.initial.net;
+  faults : g.N.Net.faults l.net ≡ g.N.Net.faults l.initial.net;
+  idle : l.initial.self.running ≡ 0 → l.self ≡ l.initial.self;
+}
+
+abbrev pub decreases-ends : goal.decreases-ends
+decreases-ends g l = l.self.running

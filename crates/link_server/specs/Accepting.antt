@@ -1,0 +1,45 @@
+-- A server while it accepts: what it keeps of the connections that threads serve, and what its parts do to that. Own definitions.
+use Rattle.std.specs.Prelude.{◌≡◌, ℕ, ◌+◌, ◌*◌, ◌≤◌, List, ◌⊎◌, Option, Some, None}
+use Rattle.outcome.specs.Causes.{Rose}
+use Rattle.link_server.specs.Answering.{Caller}
+use Rattle.link_server.specs.Keeping.{Books, Kept}
+use Rattle.link_server.specs.declared.tally.Stop.{Stop}
+use Rattle.link_server.specs.declared.tally.Stop.TheVariants as stops
+use Rattle.link_server.specs.declared.tally.Tally.{Tally}
+use Rattle.link_server.specs.declared.tally.TheConstants.{EACH_RECORDS}
+
+-- How the net stood when it began, how many connections it serves now, and what it did.
+pub record SiteState : Type 0 where
+  pub before : Books
+  pub running : ℕ
+  pub tally : Tally
+
+-- Each connection that is served by a thread was lent the records of one connection.
+abbrev pub KeptAt : (Caller → List ℕ → List ℕ → Caller → Type 0) → (now : Books) → SiteState → Type 0
+KeptAt answers now site = Kept answers site.before now site.running (EACH_RECORDS * site.running) site.tally
+
+-- The same with one more, which was lent so many records.
+abbrev pub KeptWith : (Caller → List ℕ → List ℕ → Caller → Type 0) → (now : Books) → (given : ℕ) → SiteState → Type 0
+KeptWith answers now given site = Kept answers site.before now (site.running + 1) (EACH_RECORDS * site.running + given) site.tally
+
+-- The same with one more, which was accepted just now.
+abbrev pub KeptNew : (Caller → List ℕ → List ℕ → Caller → Type 0) → (now : Books) → SiteState → Type 0
+KeptNew answers now site = Kept answers site.before now (site.running + 1) (EACH_RECORDS * site.running)
+    (record site.tally { accepted = site.tally.accepted + 1 })
+
+-- The records that one is lent: those of one connection, or all that are left where no other is served.
+abbrev pub LentIs : (given : ℕ) → SiteState → Type 0
+LentIs given site = (given ≡ EACH_RECORDS) ⊎ ((given ≤ EACH_RECORDS) × (site.running ≡ 0) × (site.tally.left ≡ 0))
+
+-- No connection was accepted in between.
+pub record Waits (old new : SiteState) : Type 0 where
+  pub before : new.before ≡ old.before
+  pub accepted : new.tally.accepted ≡ old.tally.accepted
+
+-- One connection more was accepted, or none was, and no more will be, by the cause that is told.
+abbrev pub GoesOn : (told : Type 0) → (coming faults faults_now : ℕ) → (old new : SiteState) → Option Stop → Type 0
+GoesOn told coming faults faults_now old new None = (new.before ≡ old.before) × (new.tally.accepted ≡ old.tally.accepted + 1)
+GoesOn told coming faults faults_now old new (Some stops.All) = ⊥
+GoesOn told coming faults faults_now old new (Some stops.End) = Waits old new × (told → coming ≡ 0)
+GoesOn told coming faults faults_now old new (Some stops.Failed) = Waits old new × Rose faults faults_now
+GoesOn told coming faults faults_now old new (Some stops.Spent) = Waits old new × (new.running ≡ 0) × (new.tally.left ≡ 0)

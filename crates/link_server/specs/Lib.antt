@@ -1,0 +1,6 @@
+pub mod Accepting
+pub mod Answering
+pub mod Counting
+pub mod Hanging
+pub mod Keeping
+pub mod Serving

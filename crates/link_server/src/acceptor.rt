@@ -1,0 +1,152 @@
+ghost use Rattle.std.specs.Prelude.{◌≡◌, ◌+◌, ◌-◌, ◌^◌, ◌<◌, ◌≤◌};
+ghost use Rattle.link_server.specs.Answering.{Answers};
+ghost use Rattle.link_server.specs.Accepting.{KeptAt, Waits, GoesOn};
+ghost use Rattle.link_server.specs.Keeping.{books_of, Serves, StopIs};
+
+use crate::bell::Bell;
+use crate::counted::Counted;
+use crate::machine::Machine;
+use crate::site::Site;
+use crate::tally::{EACH_RECORDS, MOST_LINKS, Stop, Tally};
+use net_links::{Dialed, Halves, Net};
+use rpc_msg::{Sink, Source};
+use std::alloc::Global;
+use std::marker::{Send, Sync};
+use std::sync::ledger::{Ledger, Share};
+use std::sync::{Mutex, Wait};
+use std::thread::{self, Scope, Threads};
+
+// Accepts one connection more, and has it served; or tells why there is none.
+fn accept_one<
+    's,
+    E,
+    R: Threads + Wait + Sync,
+    C: Ledger + Send + 's,
+    K: Machine + Send + 's,
+    F: Source + Send + Drop + 's,
+    T: Sink + Send + Drop + 's,
+    N: Net<From = F, To = T>,
+>(
+    rt: &'s R,
+    alloc: Global,
+    scope: &Scope<'s, E>,
+    bell: &'s Bell,
+    desk: &'s Mutex<Counted<C, K>>,
+    site: &mut Site<C, K, F, T, N>,
+    net: &mut N,
+) -> Option<Stop>
+    requires more { site.old.tally.accepted < 2 ^ 32 - 1 }
+    requires kept { N.Told → KeptAt (Answers K.calls_of K.step K.kept) (books_of N.hung N.up N.accepted net.old) site.old }
+    ensures kept { N.Told → KeptAt (Answers K.calls_of K.step K.kept) (books_of N.hung N.up N.accepted net.new) site.new }
+    ensures goes { GoesOn N.Told (N.coming net.new) (N.faults net.old) (N.faults net.new) site.old site.new result }
+    ensures later { N.faults net.old ≤ N.faults net.new }
+{
+    site.make_room(rt, bell, net);
+    if site.left() < EACH_RECORDS {
+        site.wait_for_all(rt, bell, net);
+    }
+    if site.left() == 0 {
+        return Some(Stop::Spent);
+    }
+    match net.accept() {
+        Dialed::Up(link) => {
+            let (from, to) = link.halves();
+            site.admit(rt, alloc, scope, bell, desk, net, from, to);
+            None
+        }
+        Dialed::End => Some(Stop::End),
+        Dialed::Failed => Some(Stop::Failed),
+    }
+}
+
+// Accepts connections until as many were as are asked for, or there are no more, and waits until all have ended.
+fn accept_all<
+    's,
+    E,
+    R: Threads + Wait + Sync,
+    C: Ledger + Send + 's,
+    K: Machine + Send + 's,
+    F: Source + Send + Drop + 's,
+    T: Sink + Send + Drop + 's,
+    N: Net<From = F, To = T>,
+>(
+    rt: &'s R,
+    alloc: Global,
+    scope: &Scope<'s, E>,
+    bell: &'s Bell,
+    desk: &'s Mutex<Counted<C, K>>,
+    all: Share<C>,
+    conns: u32,
+    net: &mut N,
+) -> Tally
+    requires { MOST_LINKS + 2 ≤ all.parts }
+    ensures served { N.Told → Serves (Answers K.calls_of K.step K.kept)
+        (books_of N.hung N.up N.accepted net.old) (books_of N.hung N.up N.accepted net.new) result }
+    ensures stop { StopIs N.Told conns result.accepted result.left (N.coming net.new) (N.faults net.old) (N.faults net.new) result.stop }
+    ensures later { N.faults net.old ≤ N.faults net.new }
+{
+    let mut site = Site::new(alloc, all, net);
+    let mut stop = Stop::All;
+    'conns: while site.accepted() < conns {
+        site.gather(rt, bell, net);
+        if let Some(cause) = accept_one(rt, alloc, scope, bell, desk, &mut site, net) {
+            stop = cause;
+            break;
+        }
+    }
+    site.wait_for_all(rt, bell, net);
+    site.stopped(stop)
+}
+
+/// Accepts up to `conns` connections of a net, and serves the records of each by the machine under the lock, in threads, sixteen
+/// connections at most at once; one by itself where no thread can be had. A connection is given 1,048,576 records; where fewer
+/// than that are left of the server's 16,777,216, it waits until no other is served, and gives the next one all that are left.
+/// Each connection that was accepted is hung up: those that have ended before the next one is accepted, and the others as they
+/// end. Where a connection wants memory, that one ends, and is counted. It accepts no more where accepting fails, no connection
+/// is left, or no record is. The share has eighteen parts of the ledger at least, and no connection's calls.
+pub fn serve<
+    R: Threads + Wait + Sync,
+    C: Ledger + Send,
+    K: Machine + Send,
+    F: Source + Send + Drop,
+    T: Sink + Send + Drop,
+    N: Net<From = F, To = T>,
+>(
+    rt: &R,
+    alloc: Global,
+    desk: &Mutex<Counted<C, K>>,
+    all: Share<C>,
+    conns: u32,
+    net: &mut N,
+) -> Tally
+    requires { MOST_LINKS + 2 ≤ all.parts }
+    ensures served { N.Told → Serves (Answers K.calls_of K.step K.kept)
+        (books_of N.hung N.up N.accepted net.old) (books_of N.hung N.up N.accepted net.new) result }
+    ensures stop { StopIs N.Told conns result.accepted result.left (N.coming net.new) (N.faults net.old) (N.faults net.new) result.stop }
+    ensures later { N.faults net.old ≤ N.faults net.new }
+{
+    let bell = Bell::new();
+    let bell = &bell;
+    let (net, tally) = thread::scope(
+        thread::scope_env(),
+        rt,
+        |scope| -> (&mut N, Tally)
+            requires { MOST_LINKS + 2 ≤ all.parts }
+            ensures name { result.0.ghost_name ≡ net.entry.ghost_name }
+            ensures served { N.Told → Serves (Answers K.calls_of K.step K.kept)
+                (books_of N.hung N.up N.accepted net.entry.now) (books_of N.hung N.up N.accepted result.0.now) result.1 }
+            ensures stop { StopIs N.Told conns result.1.accepted result.1.left (N.coming result.0.now) (N.faults net.entry.now) (N.faults result.0.now) result.1.stop }
+            ensures later { N.faults net.entry.now ≤ N.faults result.0.now }
+        {
+            let tally = accept_all(rt, alloc, scope, bell, desk, all, conns, net);
+            (net, tally)
+        },
+    );
+    take_back(net);
+    tally
+}
+
+// Takes a net back that a scope was lent.
+fn take_back<N>(net: &mut N)
+    ensures { net.new ≡ net.old }
+{}
