@@ -1,7 +1,7 @@
 //! Calls of a disk.
 
-use crate::blind_disk::BlindDisk;
 use crate::told::{next, tell, tell_rows};
+use blind_disk::BlindDisk;
 use disk_model::{Block, CrashDisk, Disk, Io};
 use outcome::Mem;
 use row_text::{number, word};

@@ -7,7 +7,6 @@
 //! `docs/formats.md`.
 #![tactic(auto)]
 
-mod blind_disk;
 mod disks;
 mod file_disk;
 mod fuses;

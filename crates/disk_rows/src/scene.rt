@@ -1,11 +1,11 @@
 //! What stands while a line is carried out.
 
-use crate::blind_disk::BlindDisk;
 use crate::disks::{new_disk, on_disk};
 use crate::fuses::burnt;
 use crate::runs::Runs;
 use crate::told::tell;
 use crate::volumes::{formatted, on_volume, tell_unformatted, tell_unopened};
+use blind_disk::BlindDisk;
 use block_file::{OpenFault, Volume};
 use disk_model::Fuse;
 use outcome::Mem;

@@ -3,8 +3,8 @@
 ghost use Rattle.std.specs.Prelude.{◌≤◌, ◌*◌, IsTrue};
 ghost use Rattle.nfs_base.specs.declared.limits.TheConstants.{MOST_BLOCKS, MOST_FILES};
 
-use crate::blind_disk::BlindDisk;
 use crate::told::{next, tell, tell_bytes};
+use blind_disk::BlindDisk;
 use block_file::{FormatFault, OpenFault, ReadFault, Volume, WriteFault};
 use nfs_base::{MOST_BLOCKS, MOST_FILES};
 use outcome::Mem;

@@ -6,11 +6,12 @@ ghost use Rattle.volume_format.specs.Puts.{AllPut, FrontPut, NonePut};
 
 use crate::lines::{formatted_line, small_line};
 use crate::new_volume::NewVolume;
+use crate::putting::put_line;
 use block_file::{FormatFault, Volume};
 use disk_model::Disk;
 use outcome::{Mem, NoMemory};
 use std::alloc::Global;
-use streams::{Sink, put_all};
+use streams::Sink;
 
 /// How `format` ends.
 #[derive(Clone, Copy, PartialEq, Eq)]
@@ -51,13 +52,13 @@ pub fn format<K: Sink, D: Disk + Drop>(
         Ok(Ok(made)) => {
             *disk = Some(made);
             let need = 4 + 3 * u64::from(files) + 2 * (u64::from(files) * u64::from(blocks));
-            put_line(output, formatted_line(alloc, need), FormatEnd::Done)
+            put_by(output, formatted_line(alloc, need), FormatEnd::Done)
         }
         Ok(Err((back, fault))) => {
             *disk = Some(back);
             match fault {
                 FormatFault::TooSmall { need, have } => {
-                    put_line(output, small_line(alloc, need, have), FormatEnd::TooSmall)
+                    put_by(output, small_line(alloc, need, have), FormatEnd::TooSmall)
                 }
                 FormatFault::DiskFailed => FormatEnd::DiskFault,
             }
@@ -67,18 +68,18 @@ pub fn format<K: Sink, D: Disk + Drop>(
 }
 
 /// Puts the line that goes with an end, where there is memory for it.
-fn put_line<K: Sink>(output: &mut K, line: Mem<String>, end: FormatEnd) -> FormatEnd
+fn put_by<K: Sink>(output: &mut K, line: Mem<String>, end: FormatEnd) -> FormatEnd
     ensures put { MatchResult line
         (λ line. AllPut (K.takes output.old).taken (K.takes output.new).taken (string_bytes line) end result
         ⊎ FrontPut FormatEnd.WriteFault (K.takes output.old).taken (K.takes output.new).taken (K.takes output.old).faults (K.takes output.new).faults (string_bytes line) result)
         (λ _. NonePut (K.takes output.old).taken (K.takes output.new).taken FormatEnd.NoMemory result) }
     ensures later { (K.takes output.old).faults ≤ (K.takes output.new).faults }
 {
-    match line {
-        Ok(line) => match put_all(output, line.as_bytes()) {
-            Ok(()) => end,
-            Err(_) => FormatEnd::WriteFault,
-        },
-        Err(NoMemory) => FormatEnd::NoMemory,
-    }
+    put_line(
+        output,
+        line,
+        end,
+        FormatEnd::WriteFault,
+        FormatEnd::NoMemory,
+    )
 }

@@ -7,7 +7,9 @@
 mod formatting;
 mod lines;
 mod new_volume;
+mod putting;
 
 pub use formatting::{FormatEnd, format};
-pub use lines::small_line;
+pub use lines::{not_volume_line, small_line};
 pub use new_volume::NewVolume;
+pub use putting::put_line;

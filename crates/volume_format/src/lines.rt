@@ -1,6 +1,6 @@
 ghost use Rattle.std.specs.Prelude.{◌≡◌, IfOk};
 ghost use Rattle.std.specs.String.{string_bytes};
-ghost use Rattle.volume_format.specs.Lines.{formatted_text, small_text};
+ghost use Rattle.volume_format.specs.Lines.{formatted_text, not_volume_text, small_text};
 
 use outcome::Mem;
 use std::alloc::Global;
@@ -17,4 +17,11 @@ pub fn small_line(alloc: Global, need: u64, have: u64) -> Mem<String>
     ensures { IfOk result (λ text. string_bytes text ≡ small_text need have) }
 {
     Ok(format!(in alloc; "too small {need} {have}\n")?)
+}
+
+/// The line that is put where a disk doesn't hold a volume.
+pub fn not_volume_line(alloc: Global, block: u64, at: u32) -> Mem<String>
+    ensures { IfOk result (λ text. string_bytes text ≡ not_volume_text block at) }
+{
+    Ok(format!(in alloc; "not a volume {block} {at}\n")?)
 }

@@ -24,5 +24,7 @@ pub use ends::Disks;
 pub use fresh::Unmade;
 pub use laws::{events_follow_events, events_make_runs};
 pub use run::Ran;
-pub use setting::{DEST_TAG, SOURCE_TAG};
+pub use setting::{
+    DEST_TAG, SOURCE_TAG, dest_name, dest_place, dest_source, source_peers, source_place, user,
+};
 pub use system::{Stepped, System};

@@ -17,21 +17,21 @@ pub const SOURCE_TAG: u64 = 1;
 pub const DEST_TAG: u64 = 2;
 
 /// As whom the client calls.
-pub(crate) fn user(alloc: Global) -> Mem<Octets>
+pub fn user(alloc: Global) -> Mem<Octets>
     ensures { IfOk result (λ name. name ≡ setting.user) }
 {
     Octets::from_slice(alloc, b"user")
 }
 
 /// As whom the destination calls.
-pub(crate) fn dest_name(alloc: Global) -> Mem<Octets>
+pub fn dest_name(alloc: Global) -> Mem<Octets>
     ensures { IfOk result (λ name. name ≡ setting.dest_name) }
 {
     Octets::from_slice(alloc, b"dest")
 }
 
 /// Where the source is found.
-pub(crate) fn source_place(alloc: Global) -> Mem<NetLoc>
+pub fn source_place(alloc: Global) -> Mem<NetLoc>
     ensures is { IfOk result (λ loc. loc ≡ setting.source_place) }
     ensures short { IfOk result IsShort }
 {
@@ -39,14 +39,14 @@ pub(crate) fn source_place(alloc: Global) -> Mem<NetLoc>
 }
 
 /// Where the destination is found.
-pub(crate) fn dest_place(alloc: Global) -> Mem<NetLoc>
+pub fn dest_place(alloc: Global) -> Mem<NetLoc>
     ensures { IfOk result (λ loc. loc ≡ setting.dest_place) }
 {
     tcp(alloc, b"127.0.0.1.8.2")
 }
 
 /// The source from which the destination copies.
-pub(crate) fn dest_source(alloc: Global) -> Mem<Peer>
+pub fn dest_source(alloc: Global) -> Mem<Peer>
     ensures { IfOk result (λ peer. peer ≡ setting.dest_source) }
 {
     Ok(Peer {
@@ -56,7 +56,7 @@ pub(crate) fn dest_source(alloc: Global) -> Mem<Peer>
 }
 
 /// The servers that the source knows: the destination.
-pub(crate) fn source_peers(alloc: Global) -> Mem<Items<Peer>>
+pub fn source_peers(alloc: Global) -> Mem<Items<Peer>>
     ensures { IfOk result (λ peers. peers ≡ setting.source_peers) }
 {
     let mut peers = Items::new(alloc);
