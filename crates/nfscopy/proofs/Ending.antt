@@ -27,8 +27,8 @@ use Rattle.wire_schedule.specs.ScheduleText.{schedule_of}
 use Rattle.nfscopy.specs.declared.ends.RunEnd.{RunEnd}
 use Rattle.nfscopy.specs.declared.ends.RunEnd.TheVariants as ends
 use Rattle.nfscopy.specs.Input.{Input, most_bytes, parsed, asked}
-use Rattle.volume_format.specs.Lines.{small_text}
-use Rattle.nfscopy.specs.Notice.{bad_line_text, mistaken_text, not_volume_text, too_much_text}
+use Rattle.volume_format.specs.Lines.{not_volume_text, small_text}
+use Rattle.nfscopy.specs.Notice.{bad_line_text, mistaken_text, too_much_text}
 use Rattle.volume_format.specs.DiskWords.{DiskWords}
 use Rattle.nfscopy.specs.Outside.{Outside, SameDisks, DiskRose, disk_at}
 use Rattle.nfscopy.specs.Puts.{LastPut, LinePut, UnmadePut, EndPut}

@@ -4,7 +4,9 @@ use Rattle.std.specs.Str.{bytes_eq}
 use Rattle.volume_format.specs.Shapes.{Numbers, new_volume}
 use Rattle.wire_schedule.specs.Numerals.{◌>>=◌, number_below, number_of}
 use Rattle.nfscopy.specs.declared.command.Command.{Command}
-use Rattle.nfscopy.specs.declared.command.Command.TheVariants.{Run, Show, Gen, Format}
+use Rattle.nfscopy.specs.declared.command.Command.TheVariants.{Run, Show, Gen, Format, ServeSource}
+use Rattle.nfscopy.specs.declared.command.Service.{Service}
+use Rattle.nfscopy.specs.declared.command.TheConstants.{MOST_CONNS}
 
 -- a number of 1 to 64
 unfoldable pub mebibytes_of : List ℕ → Option ℕ
@@ -29,19 +31,67 @@ volume_of files blocks tag = do
 unfoldable pub format_of : (path files blocks tag : List ℕ) → Option Command
 format_of path files blocks tag = if is_path path then option_map Format (volume_of files blocks tag) else None
 
-abbrev pub command_of : List (List ℕ) → Option Command
-command_of (word ∷ []) =
+-- a port of this machine, and 1 to 1,000,000 connections
+abbrev pub is_service : (port conns : ℕ) → Bool
+is_service port conns = nat_le 1 port && (nat_le port 65535 && (nat_le 1 conns && nat_le conns MOST_CONNS))
+
+unfoldable pub service_of : (port conns : List ℕ) → Option Service
+service_of port conns = do
+  p ← number_below (2 ^ 32) port
+  c ← number_below (2 ^ 32) conns
+  if is_service p c then Some (record { port = p; conns = c }) else None
+
+-- `serve-source`, without its first word
+unfoldable pub serve_source_of : (path port conns : List ℕ) → Option Command
+serve_source_of path port conns = if is_path path then option_map ServeSource (service_of port conns) else None
+
+-- ---- the words of a command, by how many they are
+
+abbrev pub of_one : List ℕ → Option Command
+of_one word =
     if bytes_eq word (codes "run") then Some Run
     else if bytes_eq word (codes "show") then Some Show
     else None
-command_of (word ∷ number ∷ []) = if bytes_eq word (codes "gen") then option_map Gen (mebibytes_of number) else None
-command_of (word ∷ path ∷ files ∷ blocks ∷ tag ∷ []) = if bytes_eq word (codes "format") then format_of path files blocks tag else None
+
+abbrev pub of_two : (word number : List ℕ) → Option Command
+of_two word number = if bytes_eq word (codes "gen") then option_map Gen (mebibytes_of number) else None
+
+abbrev pub of_four : (word path port conns : List ℕ) → Option Command
+of_four word path port conns = if bytes_eq word (codes "serve-source") then serve_source_of path port conns else None
+
+abbrev pub of_five : (word path files blocks tag : List ℕ) → Option Command
+of_five word path files blocks tag = if bytes_eq word (codes "format") then format_of path files blocks tag else None
+
+abbrev pub command_of : List (List ℕ) → Option Command
+command_of (word ∷ []) = of_one word
+command_of (word ∷ number ∷ []) = of_two word number
+command_of (word ∷ path ∷ port ∷ conns ∷ []) = of_four word path port conns
+command_of (word ∷ path ∷ files ∷ blocks ∷ tag ∷ []) = of_five word path files blocks tag
 command_of words = None
 
--- whether a command works on the disk of a file
-abbrev pub is_on_file : Option Command → Bool
-is_on_file None = false
-is_on_file (Some Run) = false
-is_on_file (Some Show) = false
-is_on_file (Some (Gen mebibytes)) = false
-is_on_file (Some (Format v)) = true
+-- whether a command makes a volume on the disk of a file
+abbrev pub is_format : Option Command → Bool
+is_format (Some (Format v)) = true
+is_format (Some Run) = false
+is_format (Some Show) = false
+is_format (Some (Gen mebibytes)) = false
+is_format (Some (ServeSource s)) = false
+is_format None = false
+
+-- what a command asks a server for
+abbrev pub service_in : Option Command → Option Service
+service_in (Some (ServeSource s)) = Some s
+service_in (Some Run) = None
+service_in (Some Show) = None
+service_in (Some (Gen mebibytes)) = None
+service_in (Some (Format v)) = None
+service_in None = None
+
+-- whether a command serves the connections of a net
+abbrev pub is_on_net : Option Command → Bool
+is_on_net None = false
+is_on_net (Some Run) = false
+is_on_net (Some Show) = false
+is_on_net (Some (Gen mebibytes)) = false
+is_on_net (Some (Format v)) = false
+is_on_net (Some (ServeSource s)) = true

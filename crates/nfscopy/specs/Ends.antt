@@ -1,17 +1,30 @@
 -- How each command ends. The clause of the top call cites `Ends` and nothing else.
-use Rattle.std.specs.Prelude.{◌≡◌, ℕ, ◌≤◌, true, Option, None, Some, is_some, List, option_map}
+use Rattle.std.specs.Prelude.{◌≡◌, ℕ, ◌≤◌, true, false, Option, None, Some, IfSome, is_some, List, option_map}
 use Rattle.std.specs.Io.KnownBytes.{Appends}
+use Rattle.block_file.specs.Opened.{CanBeOpened, Opened}
+use Rattle.disk_model.specs.Disk.{Image, MayLeave}
+use Rattle.disk_model.specs.Elapsed.{present}
+use Rattle.gss_ctx.specs.Seals.{Mic}
+use Rattle.gss_mech.specs.declared.mechanism.Accepted.{Accepted}
+use Rattle.link_server.specs.Answering.{Caller}
 use Rattle.outcome.specs.Causes.{Rose}
+use Rattle.server_volume.specs.Store.{Seat}
+use Rattle.source_server.specs.Machine.{source_answers, words_of}
+use Rattle.source_server.specs.Serving.{NetWords, ServeEnds}
+use Rattle.source_server.specs.declared.serving.ServeEnd.{ServeEnd}
 use Rattle.streams.specs.Sink.{AppendsFront}
+use Rattle.streams.specs.declared.draws.Drawn.{Drawn}
 use Rattle.volume_format.specs.Formatting.{Formats}
 use Rattle.volume_format.specs.Shapes.{Numbers}
 use Rattle.volume_format.specs.declared.formatting.FormatEnd.{FormatEnd}
+use Rattle.nfscopy.specs.Command.{is_on_net}
 use Rattle.nfscopy.specs.declared.command.Command.{Command}
-use Rattle.nfscopy.specs.declared.command.Command.TheVariants.{Run, Show, Gen, Format}
+use Rattle.nfscopy.specs.declared.command.Service.{Service}
+use Rattle.nfscopy.specs.declared.command.Command.TheVariants.{Run, Show, Gen, Format, ServeSource}
 use Rattle.nfscopy.specs.declared.exit_status.ExitStatus.{ExitStatus}
 use Rattle.nfscopy.specs.declared.ends.UsageEnd.{UsageEnd}
 use Rattle.nfscopy.specs.declared.ends.UsageEnd.TheVariants.{Put, WriteFault}
-use Rattle.nfscopy.specs.ExitStatus.{code_of, format_status, usage_status, run_status, gen_status, show_status}
+use Rattle.nfscopy.specs.ExitStatus.{code_of, format_status, serve_status, usage_status, run_status, gen_status, show_status}
 use Rattle.nfscopy.specs.GenEnds.{GenEnds, gen_events}
 use Rattle.nfscopy.specs.Input.{asked}
 use Rattle.nfscopy.specs.Notice.{usage_text}
@@ -35,27 +48,55 @@ pub record EndsAs {E : Type 0} (status_of : E → ExitStatus) (Says : E → Type
   pub is : code ≡ code_of (status_of end)
   pub says : Says end
 
--- how the program ends for its words, from what was outside before to what is outside then
-abbrev pub EndsBy : {D M : Type 0} → DiskWords D → RunWords M → Option Command → Outside D → Outside D → ℕ → Type 0
-EndsBy w r None before now code =
-    EndsAs usage_status (UsageEnds before.taken now.taken before.writes now.writes) code × SameDisks before now
-EndsBy w r (Some Run) before now code = EndsAs run_status (RunEnds w r before now) code × KeepsIf r (option_map asked before.left)
-EndsBy w r (Some (Gen mebibytes)) before now code =
-    EndsAs gen_status (GenEnds w r mebibytes before now) code × RunsKeep r (gen_events mebibytes) × SameInput before now
-EndsBy w r (Some Show) before now code = EndsAs show_status (ShowEnds before now) code × SameDisks before now
-EndsBy w r (Some (Format v)) before now code =
-    EndsAs format_status (FormatEnds w v before now) code × (now.dest ≡ before.dest) × SameInput before now
+-- How a server speaks of what it serves: its net's words, and what each of its connections gets for a record.
+pub record ServiceWords (N : Type 0) : Type 1 where
+  pub net : NetWords N
+  pub answers : Caller → List ℕ → List ℕ → Caller → Type 0
 
--- the same, and the counts of faults never fell
-pub record Ends {D M : Type 0} (w : DiskWords D) (r : RunWords M) (command : Option Command) (before now : Outside D) (code : ℕ) : Type 0 where
-  pub ends : EndsBy w r command before now code
+-- the answers of a source by this mechanism, and by what its disk, its mechanism and its draws tell of themselves
+abbrev pub answers_by : {D M W : Type 0} → (C : Type 0) → M → Type 0 → (D → ℕ) → (Opened D → Seat) → Mic → (List ℕ → ℕ → List ℕ → List ℕ)
+    → (M → List ℕ → List ℕ → Option Accepted) → (W → Drawn → W → Type 0) → Caller → List ℕ → List ℕ → Caller → Type 0
+answers_by C mech told size seat mic derived accepted gives = source_answers C (words_of told size seat mic derived accepted gives)
+
+abbrev pub service_words : {N : Type 0} → NetWords N → (Caller → List ℕ → List ℕ → Caller → Type 0) → ServiceWords N
+service_words net answers = record { net = net; answers = answers }
+
+-- a source is served, from the disk in the source's place
+abbrev pub SourceEnds : {D N : Type 0} → DiskWords D → ServiceWords N → Service → Outside D → Outside D → N → N → ServeEnd → Type 0
+SourceEnds w s service before now net net_now end =
+    ServeEnds w s.net s.answers service.conns before.taken now.taken before.writes now.writes net net_now before.source now.source end
+
+-- how the program ends for its words, from what was outside before to what is outside then
+abbrev pub EndsBy : {D M N : Type 0} → DiskWords D → RunWords M → ServiceWords N → Option Command → Outside D → Outside D → N → N → ℕ → Type 0
+EndsBy w r s None before now net net_now code =
+    EndsAs usage_status (UsageEnds before.taken now.taken before.writes now.writes) code × SameDisks before now
+EndsBy w r s (Some Run) before now net net_now code = EndsAs run_status (RunEnds w r before now) code × KeepsIf r (option_map asked before.left)
+EndsBy w r s (Some (Gen mebibytes)) before now net net_now code =
+    EndsAs gen_status (GenEnds w r mebibytes before now) code × RunsKeep r (gen_events mebibytes) × SameInput before now
+EndsBy w r s (Some Show) before now net net_now code = EndsAs show_status (ShowEnds before now) code × SameDisks before now
+EndsBy w r s (Some (Format v)) before now net net_now code =
+    EndsAs format_status (FormatEnds w v before now) code × (now.dest ≡ before.dest) × SameInput before now
+EndsBy w r s (Some (ServeSource service)) before now net net_now code =
+    EndsAs serve_status (SourceEnds w s service before now net net_now) code × (now.dest ≡ before.dest) × SameInput before now
+
+-- The same; the counts of faults never fell, and a command that serves no connections leaves the net alone.
+pub record Ends {D M N : Type 0} (w : DiskWords D) (r : RunWords M) (s : ServiceWords N) (command : Option Command) (before now : Outside D)
+    (net net_now : N) (code : ℕ) : Type 0 where
+  pub ends : EndsBy w r s command before now net net_now code
   pub reads : before.reads ≤ now.reads
   pub writes : before.writes ≤ now.writes
+  pub unserved : is_on_net command ≡ false → net_now ≡ net
 
--- the disks that a command uses are handed in: both for `run` and `gen`, the source's for `format`
-abbrev pub HasDisks : {D : Type 0} → Option Command → Option D → Option D → Type 0
-HasDisks None source dest = Unit {0}
-HasDisks (Some Run) source dest = (is_some source ≡ true) × (is_some dest ≡ true)
-HasDisks (Some (Gen mebibytes)) source dest = (is_some source ≡ true) × (is_some dest ≡ true)
-HasDisks (Some Show) source dest = Unit {0}
-HasDisks (Some (Format v)) source dest = is_some source ≡ true
+-- A disk that is opened, not formatted: whatever a crash may leave of it, where it tells, holds no volume, or one in which no byte
+-- stands past the end of a file.
+abbrev pub MayOpen : {D : Type 0} → DiskWords D → D → Type 0
+MayOpen w disk = w.told → (image : Image) → MayLeave (present (w.timeline disk)) image → CanBeOpened (w.size disk) image
+
+-- The disks that a command uses are handed in: both for `run` and `gen`, the source's for `format` and `serve-source`.
+abbrev pub HasDisks : {D : Type 0} → DiskWords D → Option Command → Option D → Option D → Type 0
+HasDisks w None source dest = Unit {0}
+HasDisks w (Some Run) source dest = (is_some source ≡ true) × (is_some dest ≡ true)
+HasDisks w (Some (Gen mebibytes)) source dest = (is_some source ≡ true) × (is_some dest ≡ true)
+HasDisks w (Some Show) source dest = Unit {0}
+HasDisks w (Some (Format v)) source dest = is_some source ≡ true
+HasDisks w (Some (ServeSource service)) source dest = (is_some source ≡ true) × IfSome source (MayOpen w)

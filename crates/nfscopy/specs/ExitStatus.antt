@@ -1,9 +1,11 @@
 -- The program's exit statuses, and the status of each end of a command. Own numbers.
 use Rattle.std.specs.Prelude.{ℕ}
 use Rattle.volume_format.specs.declared.formatting.FormatEnd.{FormatEnd}
+use Rattle.source_server.specs.declared.serving.ServeEnd.{ServeEnd}
+use Rattle.source_server.specs.declared.serving.ServeEnd.TheVariants as serve
 use Rattle.volume_format.specs.declared.formatting.FormatEnd.TheVariants as format
 use Rattle.nfscopy.specs.declared.exit_status.ExitStatus.{ExitStatus}
-use Rattle.nfscopy.specs.declared.exit_status.ExitStatus.TheVariants.{Done, Usage, Refused, ReadFault, WriteFault, NoMemory, DiskFault, NoVolume, Mistaken}
+use Rattle.nfscopy.specs.declared.exit_status.ExitStatus.TheVariants.{Done, Usage, Refused, ReadFault, WriteFault, NoMemory, DiskFault, NoVolume, NetFault, Mistaken}
 use Rattle.nfscopy.specs.declared.ends.UsageEnd.{UsageEnd}
 use Rattle.nfscopy.specs.declared.ends.UsageEnd.TheVariants as usage
 use Rattle.nfscopy.specs.declared.ends.RunEnd.{RunEnd}
@@ -22,6 +24,7 @@ code_of WriteFault = 4
 code_of NoMemory = 5
 code_of DiskFault = 6
 code_of NoVolume = 7
+code_of NetFault = 8
 code_of Mistaken = 10
 
 abbrev pub usage_status : UsageEnd → ExitStatus
@@ -61,3 +64,11 @@ format_status format.WriteFault = WriteFault
 format_status format.NoMemory = NoMemory
 format_status format.DiskFault = DiskFault
 format_status format.TooSmall = NoVolume
+
+abbrev pub serve_status : ServeEnd → ExitStatus
+serve_status serve.Done = Done
+serve_status serve.WriteFault = WriteFault
+serve_status serve.NoMemory = NoMemory
+serve_status serve.DiskFault = DiskFault
+serve_status serve.NotVolume = NoVolume
+serve_status serve.NetFault = NetFault

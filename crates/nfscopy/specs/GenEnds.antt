@@ -15,8 +15,8 @@ use Rattle.wire_run.specs.Running.{faults_in}
 use Rattle.wire_run.specs.System.{DiskHolds}
 use Rattle.wire_run.specs.declared.setting.TheConstants.{SOURCE_TAG, DEST_TAG}
 use Rattle.wire_tally.specs.Tally.{no_tally, tallied}
-use Rattle.volume_format.specs.Lines.{small_text}
-use Rattle.nfscopy.specs.Notice.{mistaken_text, not_volume_text, too_much_text}
+use Rattle.volume_format.specs.Lines.{not_volume_text, small_text}
+use Rattle.nfscopy.specs.Notice.{mistaken_text, too_much_text}
 use Rattle.volume_format.specs.DiskWords.{DiskWords}
 use Rattle.nfscopy.specs.Outside.{DiskRose, Outside, disk_at}
 use Rattle.nfscopy.specs.RunEnds.{Blamed, IsUnhindered, RunWords, small_of}

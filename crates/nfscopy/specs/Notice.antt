@@ -14,10 +14,6 @@ too_much_text = codes "too much" ++ 10 ∷ []
 abbrev pub bad_line_text : ℕ → List ℕ
 bad_line_text n = codes "bad line " ++ decimal n ++ 10 ∷ []
 
--- a disk that doesn't hold a volume, by the first field that is off: its block and the byte there
-abbrev pub not_volume_text : (block at : ℕ) → List ℕ
-not_volume_text block at = codes "not a volume " ++ (decimal block ++ (codes " " ++ (decimal at ++ 10 ∷ [])))
-
 -- a record that was taken by mistake
 abbrev pub mistaken_text : Mistake → List ℕ
 mistaken_text mistake = line_text (lines.Mistaken mistake.accepted mistake.sealed)

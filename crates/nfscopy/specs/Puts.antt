@@ -10,8 +10,8 @@ use Rattle.wire_run.specs.declared.run.Ran.TheVariants as ran
 use Rattle.volume_format.specs.Puts.{AllPut, FrontPut, NonePut}
 use Rattle.nfscopy.specs.declared.ends.RunEnd.{RunEnd}
 use Rattle.nfscopy.specs.declared.ends.RunEnd.TheVariants as ends
-use Rattle.volume_format.specs.Lines.{small_text}
-use Rattle.nfscopy.specs.Notice.{bad_line_text, mistaken_text, not_volume_text}
+use Rattle.volume_format.specs.Lines.{not_volume_text, small_text}
+use Rattle.nfscopy.specs.Notice.{bad_line_text, mistaken_text}
 
 -- all of it was put, or a front of it, where the sink failed
 abbrev pub LastPut : Option (List ℕ) → Option (List ℕ) → (before now : ℕ) → List ℕ → RunEnd → RunEnd → Type 0

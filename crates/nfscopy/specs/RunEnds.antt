@@ -20,8 +20,7 @@ use Rattle.wire_run.specs.Running.{Later, RunMachines, failed_steps, size_in}
 use Rattle.nfscopy.specs.declared.ends.RunEnd.{RunEnd}
 use Rattle.nfscopy.specs.declared.ends.RunEnd.TheVariants as ends
 use Rattle.nfscopy.specs.Input.{Input, asked, IfSchedule, IfRefused}
-use Rattle.volume_format.specs.Lines.{small_text}
-use Rattle.nfscopy.specs.Notice.{not_volume_text}
+use Rattle.volume_format.specs.Lines.{not_volume_text, small_text}
 use Rattle.volume_format.specs.DiskWords.{DiskWords}
 use Rattle.nfscopy.specs.Outside.{Outside, SameDisks, DiskRose, disk_at}
 

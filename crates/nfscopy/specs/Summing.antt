@@ -8,8 +8,8 @@ use Rattle.wire_machine.specs.Check.{Reading}
 use Rattle.wire_run.specs.Running.{Later, RunMachines, Running}
 use Rattle.wire_run.specs.declared.fresh.Unmade.TheVariants as unmade
 use Rattle.wire_run.specs.declared.run.Ran.TheVariants as ran
-use Rattle.volume_format.specs.Lines.{small_text}
-use Rattle.nfscopy.specs.Notice.{mistaken_text, not_volume_text, too_much_text}
+use Rattle.volume_format.specs.Lines.{not_volume_text, small_text}
+use Rattle.nfscopy.specs.Notice.{mistaken_text, too_much_text}
 use Rattle.volume_format.specs.Puts.{AllPut, FrontPut, NonePut}
 use Rattle.nfscopy.specs.Summary.{summary_text}
 use Rattle.nfscopy.specs.declared.ends.GenEnd.{GenEnd}

@@ -1,6 +1,6 @@
 ghost use Rattle.std.specs.Prelude.{◌≡◌, map};
 ghost use Rattle.std.specs.String.{string_bytes};
-ghost use Rattle.nfscopy.specs.Command.{command_of, format_of, is_on_file, is_path, mebibytes_of, volume_of};
+ghost use Rattle.nfscopy.specs.Command.{command_of, format_of, is_format, is_path, mebibytes_of, of_five, of_four, of_one, of_two, serve_source_of, service_in, service_of, volume_of};
 
 use large_copy::LargeCopy;
 use volume_format::NewVolume;
@@ -20,7 +20,23 @@ pub enum Command {
 
     /// Makes an empty volume on the disk of a file. The file is the first word behind the command's.
     Format(NewVolume),
+
+    /// Serves the volume on the disk of a file as a source. The file is the first word behind the command's.
+    ServeSource(Service),
 }
+
+/// Where a server listens, and for how many connections.
+#[derive(Clone, Copy, PartialEq, Eq)]
+pub struct Service {
+    /// A port of this machine, from 1 on.
+    pub port: u16,
+
+    /// How many connections it accepts, 1 to 1,000,000.
+    pub conns: u32,
+}
+
+/// So many connections a server accepts at most.
+const MOST_CONNS: u32 = 1_000_000;
 
 impl Command {
     /// The command of these words, which don't include the program's name.
@@ -28,27 +44,71 @@ impl Command {
         ensures { result ≡ command_of (map string_bytes words.now) }
     {
         match words {
-            [word] if word.as_bytes() == b"run".as_slice() => Some(Command::Run),
-            [word] if word.as_bytes() == b"show".as_slice() => Some(Command::Show),
-            [word, number] if word.as_bytes() == b"gen".as_slice() => {
-                Some(Command::Gen(mebibytes(number.as_bytes())?))
-            }
-            [word, path, files, blocks, tag] if word.as_bytes() == b"format".as_slice() => {
-                read_format(
-                    path.as_bytes(),
-                    files.as_bytes(),
-                    blocks.as_bytes(),
-                    tag.as_bytes(),
-                )
-            }
+            [word] => of_one(word.as_bytes()),
+            [word, number] => of_two(word.as_bytes(), number.as_bytes()),
+            [word, path, port, conns] => of_four(
+                word.as_bytes(),
+                path.as_bytes(),
+                port.as_bytes(),
+                conns.as_bytes(),
+            ),
+            [word, path, files, blocks, tag] => of_five(
+                word.as_bytes(),
+                path.as_bytes(),
+                files.as_bytes(),
+                blocks.as_bytes(),
+                tag.as_bytes(),
+            ),
             _ => None,
         }
     }
 }
 
-/// Whether these words are of a command that works on the disk of a file, which is the second of them.
-pub fn is_on_file(words: &[String]) -> bool
-    ensures { result ≡ is_on_file (command_of (map string_bytes words.now)) }
+/// A command of one word.
+fn of_one(word: &[u8]) -> Option<Command>
+    ensures { result ≡ of_one word.now }
+{
+    if word == b"run".as_slice() {
+        return Some(Command::Run);
+    }
+    if word == b"show".as_slice() {
+        return Some(Command::Show);
+    }
+    None
+}
+
+fn of_two(word: &[u8], number: &[u8]) -> Option<Command>
+    ensures { result ≡ of_two word.now number.now }
+{
+    if word != b"gen".as_slice() {
+        return None;
+    }
+    Some(Command::Gen(mebibytes(number)?))
+}
+
+fn of_four(word: &[u8], path: &[u8], port: &[u8], conns: &[u8]) -> Option<Command>
+    ensures { result ≡ of_four word.now path.now port.now conns.now }
+{
+    if word == b"serve-source".as_slice() {
+        read_serve_source(path, port, conns)
+    } else {
+        None
+    }
+}
+
+fn of_five(word: &[u8], path: &[u8], files: &[u8], blocks: &[u8], tag: &[u8]) -> Option<Command>
+    ensures { result ≡ of_five word.now path.now files.now blocks.now tag.now }
+{
+    if word == b"format".as_slice() {
+        read_format(path, files, blocks, tag)
+    } else {
+        None
+    }
+}
+
+/// Whether these words make a volume on the disk of a file, which is the second of them.
+pub fn is_format(words: &[String]) -> bool
+    ensures { result ≡ is_format (command_of (map string_bytes words.now)) }
 {
     let Some(command) = Command::from_words(words) else {
         return false;
@@ -58,6 +118,20 @@ pub fn is_on_file(words: &[String]) -> bool
         Command::Run => false,
         Command::Show => false,
         Command::Gen(_) => false,
+        Command::ServeSource(_) => false,
+    }
+}
+
+/// What these words ask a server for, whose volume lies on the disk of a file, which is the second of them.
+pub fn asked_service(words: &[String]) -> Option<Service>
+    ensures { result ≡ service_in (command_of (map string_bytes words.now)) }
+{
+    match Command::from_words(words)? {
+        Command::ServeSource(service) => Some(service),
+        Command::Run => None,
+        Command::Show => None,
+        Command::Gen(_) => None,
+        Command::Format(_) => None,
     }
 }
 
@@ -93,4 +167,31 @@ fn new_volume(files: &[u8], blocks: &[u8], tag: &[u8]) -> Option<NewVolume>
     ensures { result ≡ volume_of files.now blocks.now tag.now }
 {
     NewVolume::new(number_u32(files)?, number_u32(blocks)?, number(tag)?)
+}
+
+/// `serve-source`, without its first word.
+#[tactic(auto, unfolding(crate::specs::Command::serve_source_of))]
+fn read_serve_source(path: &[u8], port: &[u8], conns: &[u8]) -> Option<Command>
+    ensures { result ≡ serve_source_of path.now port.now conns.now }
+{
+    if !is_path(path) {
+        return None;
+    }
+    Some(Command::ServeSource(read_service(port, conns)?))
+}
+
+/// A service by these words.
+#[tactic(auto, unfolding(crate::specs::Command::service_of))]
+fn read_service(port: &[u8], conns: &[u8]) -> Option<Service>
+    ensures { result ≡ service_of port.now conns.now }
+{
+    let port = number_u32(port)?;
+    let conns = number_u32(conns)?;
+    if port < 1 || port > 65_535 || conns < 1 || conns > MOST_CONNS {
+        return None;
+    }
+    Some(Service {
+        port: port as u16,
+        conns,
+    })
 }

@@ -1,7 +1,8 @@
 ghost use Rattle.std.specs.Prelude.{◌≡◌};
-ghost use Rattle.nfscopy.specs.ExitStatus.{code_of, format_status, usage_status, run_status, gen_status, show_status};
+ghost use Rattle.nfscopy.specs.ExitStatus.{code_of, format_status, serve_status, usage_status, run_status, gen_status, show_status};
 
 use crate::exit_status::ExitStatus;
+use source_server::ServeEnd;
 use volume_format::FormatEnd;
 
 /// How the program ends for words of no command.
@@ -166,6 +167,21 @@ pub(crate) fn format_code(end: FormatEnd) -> u8
         FormatEnd::NoMemory => ExitStatus::NoMemory,
         FormatEnd::DiskFault => ExitStatus::DiskFault,
         FormatEnd::TooSmall => ExitStatus::NoVolume,
+    };
+    status.code()
+}
+
+/// The exit status that says how serving ended.
+pub(crate) fn serve_code(end: ServeEnd) -> u8
+    ensures { result ≡ code_of (serve_status end) }
+{
+    let status = match end {
+        ServeEnd::Done => ExitStatus::Done,
+        ServeEnd::WriteFault => ExitStatus::WriteFault,
+        ServeEnd::NoMemory => ExitStatus::NoMemory,
+        ServeEnd::DiskFault => ExitStatus::DiskFault,
+        ServeEnd::NotVolume => ExitStatus::NoVolume,
+        ServeEnd::NetFault => ExitStatus::NetFault,
     };
     status.code()
 }

@@ -25,8 +25,11 @@ pub enum ExitStatus {
     /// A disk counted a fault while its volume was formatted or opened.
     DiskFault = 6,
 
-    /// A disk has too few blocks for its volume, or doesn't hold the volume that was written.
+    /// A disk has too few blocks for its volume, doesn't hold the volume that was written, or holds none that could be served.
     NoVolume = 7,
+
+    /// A server's listener counted a fault.
+    NetFault = 8,
 
     /// A record was accepted under another seal than its own, or as the answer to another call.
     Mistaken = 10,

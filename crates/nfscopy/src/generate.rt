@@ -9,7 +9,7 @@ ghost use Rattle.wire_run.specs.Ends.{run_machines};
 ghost use Rattle.wire_run.specs.Running.{at_rest, mech_of, HasDisks};
 
 use crate::ends::GenEnd;
-use crate::notice::{mistaken_line, not_volume_line, too_much};
+use crate::notice::{mistaken_line, too_much};
 use crate::summary::Summary;
 use disk_model::Disk;
 use gss_mech::Mechanism;
@@ -22,7 +22,7 @@ use run_client::schedules_are_accepted;
 use run_promise::runs_keep_the_promise;
 use std::alloc::Global;
 use streams::{Sink, put_all};
-use volume_format::small_line;
+use volume_format::{not_volume_line, small_line};
 use wire_machine::Mistake;
 use wire_run::{Disks, Ran, System, Unmade};
 

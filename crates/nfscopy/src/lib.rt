@@ -3,8 +3,8 @@
 //! The contract to read first is [`nfscopy`]: for each command and each status it says what was read,
 //! what was put, and why. `specs/Ends.antt` has the definitions; for `run` they name the run of the schedule by three
 //! machines and its lines (crates `wire_run`, `wire_machine`), for `gen` that of a schedule that is made here (crates `large_copy`,
-//! `large_run`), for `show` the lines of a stream of records (crate `wire_show`), and for `format` what a disk holds (crate
-//! `volume_format`).
+//! `large_run`), for `show` the lines of a stream of records (crate `wire_show`), for `format` what a disk holds (crate
+//! `volume_format`), and for `serve-source` what each connection of a net got (crate `source_server`).
 #![tactic(auto)]
 
 mod command;
@@ -12,15 +12,18 @@ mod commands;
 mod ends;
 mod exit_status;
 mod generate;
+mod laws;
 mod notice;
 mod run;
+mod serving;
 mod show;
 mod summary;
 mod top;
 
-pub use command::{Command, is_on_file};
+pub use command::{Command, Service, asked_service, is_format};
 pub use commands::{do_format, do_gen, do_run, do_show};
 pub use ends::{GenEnd, RunEnd, ShowEnd, UsageEnd};
 pub use exit_status::ExitStatus;
+pub use laws::disks_suffice;
 pub use summary::Summary;
 pub use top::nfscopy;

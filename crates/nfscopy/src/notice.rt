@@ -1,6 +1,6 @@
 ghost use Rattle.std.specs.Prelude.{◌≡◌, ◌≤◌, IfOk};
 ghost use Rattle.std.specs.String.{string_bytes};
-ghost use Rattle.nfscopy.specs.Notice.{usage_text, too_much_text, bad_line_text, mistaken_text, not_volume_text};
+ghost use Rattle.nfscopy.specs.Notice.{usage_text, too_much_text, bad_line_text, mistaken_text};
 
 use outcome::Mem;
 use std::alloc::Global;
@@ -34,13 +34,6 @@ pub fn bad_line(alloc: Global, bad: BadLine) -> Mem<String>
     ensures { IfOk result (λ text. string_bytes text ≡ bad_line_text bad.line) }
 {
     Ok(format!(in alloc; "{bad}\n")?)
-}
-
-/// The line that is put where a disk doesn't hold a volume.
-pub fn not_volume_line(alloc: Global, block: u64, at: u32) -> Mem<String>
-    ensures { IfOk result (λ text. string_bytes text ≡ not_volume_text block at) }
-{
-    Ok(format!(in alloc; "not a volume {block} {at}\n")?)
 }
 
 /// The line that is put where a record was taken by mistake.

@@ -11,7 +11,7 @@ ghost use Rattle.wire_machine.specs.Runs.{events_in};
 ghost use Rattle.wire_schedule.specs.ScheduleText.{schedule_of};
 
 use crate::ends::{RunEnd, UsageEnd};
-use crate::notice::{bad_line, mistaken_line, not_volume_line, too_much_line, usage_line};
+use crate::notice::{bad_line, mistaken_line, too_much_line, usage_line};
 use disk_model::Disk;
 use gss_mech::Mechanism;
 use nfs_base::INPUT_LIMIT;
@@ -20,7 +20,7 @@ use run_client::schedules_are_accepted;
 use run_promise::runs_keep_the_promise;
 use std::alloc::Global;
 use streams::{Sink, Source, Whole, put_all, read_whole};
-use volume_format::small_line;
+use volume_format::{not_volume_line, small_line};
 use wire_run::{Disks, Ran, System, Unmade};
 use wire_schedule::{BadLine, Schedule};
 

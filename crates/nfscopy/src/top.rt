@@ -1,40 +1,66 @@
 ghost use Rattle.std.specs.Prelude.{map};
 ghost use Rattle.std.specs.String.{string_bytes};
 ghost use Rattle.nfscopy.specs.Command.{command_of};
-ghost use Rattle.nfscopy.specs.Ends.{Ends, HasDisks};
+ghost use Rattle.link_server.specs.Keeping.{books_of};
+ghost use Rattle.nfscopy.specs.Ends.{Ends, HasDisks, answers_by, service_words};
 ghost use Rattle.nfscopy.specs.Outside.{outside};
+ghost use Rattle.server_volume.specs.Store.{seat_of};
+ghost use Rattle.source_server.specs.Serving.{net_words};
 ghost use Rattle.volume_format.specs.DiskWords.{disk_words};
 ghost use Rattle.nfscopy.specs.RunEnds.{run_words};
 
 use crate::command::Command;
 use crate::commands::{do_format, do_gen, do_run, do_show};
 use crate::run::usage;
+use crate::serving::serve;
 use disk_model::Disk;
 use gss_mech::Mechanism;
+use net_links::Net;
 use std::alloc::Global;
-use streams::{Sink, Source};
+use std::marker::{Send, Sync};
+use std::sync::Wait;
+use std::thread::Threads;
+use streams::{Clock, Draws, Sink, Source};
 use wire_run::Disks;
 
 /// Does what the words ask for, and answers the exit status. The words don't include the program's name.
 ///
 /// `run` reads a schedule from `input`, carries it out with a client and two servers over the two disks, which seal their
-/// records by the mechanism, and puts the transcript to `output`; `gen N` does so with a schedule of its own, which copies a file of N MiB,
-/// and puts a summary; `show` reads a stream of records and puts what they hold, line by line; `format PATH FILES BLOCKS TAG` makes an
-/// empty volume on the disk in the source's place, which is that of the file PATH. Words of no command put the line `usage`. What each
-/// status says of the input, the output and the disks stands in `Ends`.
-pub fn nfscopy<S: Source, K: Sink, D: Disk + Drop, M: Mechanism>(
+/// records by the mechanism, and puts the transcript to `output`; `gen N` does so with a schedule of its own, which copies a file
+/// of N MiB, and puts a summary; `show` reads a stream of records and puts what they hold, line by line; `format PATH FILES BLOCKS
+/// TAG` makes an empty volume on the disk in the source's place, which is that of the file PATH; `serve-source PATH PORT CONNS`
+/// serves the volume on that disk to so many connections of the net, with the time of `clock` and the draws of `draws`. Words of no
+/// command put the line `usage`. What each status says of the input, the output, the disks and the net stands in `Ends`.
+pub fn nfscopy<
+    R: Threads + Wait + Sync,
+    S: Source,
+    K: Sink,
+    D: Disk + Drop + Send,
+    M: Mechanism + Sync,
+    C: Clock + Drop + Send,
+    W: Draws + Drop + Send,
+    F: Source + Send + Drop,
+    T: Sink + Send + Drop,
+    N: Net<From = F, To = T>,
+>(
+    rt: &R,
     alloc: Global,
     words: &[String],
     input: &mut S,
     output: &mut K,
     disks: &mut Disks<D>,
     mech: &M,
+    clock: C,
+    draws: W,
+    net: &mut N,
 ) -> u8
-    requires { HasDisks (command_of (map string_bytes words.now)) disks.old.source disks.old.dest }
-    ensures { Ends (disk_words D.Told D.faults D.size D.timeline) (run_words mech.entry M.mic_of M.derived (λ m. M.started m.now) (λ m. M.accepted m.now) (λ m. M.finished m.now)) (command_of (map string_bytes words.now))
+    requires { HasDisks (disk_words D.Told D.faults D.size D.timeline) (command_of (map string_bytes words.now)) disks.old.source disks.old.dest }
+    ensures { Ends (disk_words D.Told D.faults D.size D.timeline) (run_words mech.entry M.mic_of M.derived (λ m. M.started m.now) (λ m. M.accepted m.now) (λ m. M.finished m.now))
+        (service_words (net_words N.Told N.coming N.faults (books_of N.hung N.up N.accepted)) (answers_by C mech.entry D.Told D.size (seat_of D.size D.fuse D.timeline D.faults) M.mic_of M.derived (λ m. M.accepted m.now) W.gives))
+        (command_of (map string_bytes words.now))
         (outside (S.gives input.old).left (K.takes output.old).taken (S.gives input.old).faults (K.takes output.old).faults disks.old.source disks.old.dest)
         (outside (S.gives input.new).left (K.takes output.new).taken (S.gives input.new).faults (K.takes output.new).faults disks.new.source disks.new.dest)
-        result }
+        net.old net.new result }
 {
     let Some(command) = Command::from_words(words) else {
         return usage(output).code();
@@ -44,5 +70,19 @@ pub fn nfscopy<S: Source, K: Sink, D: Disk + Drop, M: Mechanism>(
         Command::Gen(plan) => do_gen(alloc, plan, output, disks, mech),
         Command::Show => do_show(alloc, input, output),
         Command::Format(new) => do_format(alloc, new, output, disks),
+        Command::ServeSource(service) => {
+            let source = &mut disks.source;
+            serve(
+                rt,
+                alloc,
+                service.conns,
+                mech,
+                clock,
+                draws,
+                output,
+                source,
+                net,
+            )
+        }
     }
 }

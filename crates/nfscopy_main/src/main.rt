@@ -1,21 +1,28 @@
 //! The program `nfscopy`: makes the real objects, and leaves all else to [`nfscopy::nfscopy`].
 #![tactic(auto)]
 
-ghost use Rattle.std.specs.Prelude.{◌≡◌, true, map};
+ghost use Rattle.std.specs.Prelude.{◌≡◌, true, map, Some};
 ghost use Rattle.std.specs.String.{string_bytes};
-ghost use Rattle.nfscopy.specs.Command.{command_of, is_on_file};
+ghost use Rattle.nfscopy.specs.Command.{command_of, is_format, service_in};
 ghost use Rattle.nfscopy.specs.Ends.{HasDisks};
+ghost use Rattle.volume_format.specs.DiskWords.{disk_words};
 
 use disk_model::{Disk, FileDisk, MemoryDisk};
 use gss_mech::Realm;
-use nfscopy::{ExitStatus, is_on_file, nfscopy};
+use net_links::TcpNet;
+use nfscopy::{ExitStatus, Service, asked_service, disks_suffice, is_format, nfscopy};
 use outcome::Mem;
+use realm_file::read_realm;
 use std::alloc::Global;
 use std::env::{self, Env};
-use std::fs::{File, OpenOptions};
+use std::fs::{self, File, OpenOptions};
 use std::io::{self, ErrorKind};
+use std::marker::{Send, Sync};
 use std::process::ExitCode;
+use std::sync::Wait;
+use std::thread::Threads;
 use streams::{Reading, Writing};
+use system_ends::{ReadDraws, SystemClock};
 use wire_run::Disks;
 use wire_xdr::Octets;
 
@@ -28,7 +35,13 @@ const ROOM: u64 = MOST_DISK_BLOCKS * 4096;
 /// A file that keeps nothing.
 const NOTHING: &str = "/dev/null";
 
-/// The exit status where a file can't be opened: nothing is printed then.
+/// The system's random bytes.
+const RANDOM: &str = "/dev/urandom";
+
+/// The file of the realm, in the folder in which the program runs.
+const REALM: &str = "realm.txt";
+
+/// The exit status where a file can't be opened, or the realm's isn't right: nothing is printed then.
 const NOT_OPENED: u8 = 11;
 
 /// A server's disk in a run: in memory, with room for the largest volume.
@@ -58,32 +71,41 @@ fn words(rt: &(impl Env + AllocGlobal)) -> io::Result<Vec<String>> {
     Ok(words)
 }
 
-/// Does what the words ask for over these disks, and answers the exit status.
-fn call<D: Disk + Drop>(
+/// Does what the words ask for over these disks and this net, with these threads, and answers the exit status.
+fn call<R: Threads + Wait + Sync, D: Disk + Drop + Send>(
     rt: &HostRuntime,
+    threads: &R,
     words: &[String],
     disks: Disks<D>,
     realm: &Realm,
+    net: TcpNet<'_, HostRuntime>,
 ) -> ExitCode
-    requires { HasDisks (command_of (map string_bytes words.now)) disks.source disks.dest }
+    requires { HasDisks (disk_words D.Told D.faults D.size D.timeline) (command_of (map string_bytes words.now)) disks.source disks.dest }
 {
+    let Ok(random) = File::open(rt, RANDOM) else {
+        return ExitCode::from(NOT_OPENED);
+    };
     let mut input = Reading::new(rt.reader());
     let mut output = Writing::new(io::writer(rt));
-    let mut disks = disks;
+    let (mut disks, mut net) = (disks, net);
     let status = nfscopy(
+        threads,
         rt.alloc(),
         words,
         &mut input,
         &mut output,
         &mut disks,
         realm,
+        SystemClock::new(rt),
+        ReadDraws::new(random),
+        &mut net,
     );
     ExitCode::from(status)
 }
 
-/// Opens the file at a path, which is made where there is none. The numbers of the standard streams are taken meanwhile, so that it
+/// Opens the file at a path, which may be made where there is none. The numbers of the standard streams are taken meanwhile, so that it
 /// gets none of them where one is closed: what is printed would go into the file.
-fn open(rt: &HostRuntime, path: &str) -> io::Result<File> {
+fn open(rt: &HostRuntime, path: &str, make: bool) -> io::Result<File> {
     let _taken = [
         File::open(rt, NOTHING)?,
         File::open(rt, NOTHING)?,
@@ -92,13 +114,13 @@ fn open(rt: &HostRuntime, path: &str) -> io::Result<File> {
     OpenOptions::new()
         .read(true)
         .write(true)
-        .create(true)
+        .create(make)
         .open(rt, path)
 }
 
-/// The disk of the file at a path. A shorter file gets room for the largest volume.
-fn file_disk(rt: &HostRuntime, path: &str) -> io::Result<FileDisk> {
-    let file = open(rt, path)?;
+/// The disk of the file at a path, for a volume that is to be made. A shorter file gets room for the largest one.
+fn new_disk(rt: &HostRuntime, path: &str) -> io::Result<FileDisk> {
+    let file = open(rt, path, true)?;
     let len = file.metadata()?.len();
     if len >= ROOM {
         return Ok(FileDisk::new(file, len));
@@ -107,37 +129,91 @@ fn file_disk(rt: &HostRuntime, path: &str) -> io::Result<FileDisk> {
     Ok(FileDisk::new(file, ROOM))
 }
 
+/// The disk of the file at a path, which is there.
+fn old_disk(rt: &HostRuntime, path: &str) -> io::Result<FileDisk> {
+    let file = open(rt, path, false)?;
+    let len = file.metadata()?.len();
+    Ok(FileDisk::new(file, len))
+}
+
 /// Does what the words of `format` ask for, on the disk of the file that they name.
-fn on_file(rt: &HostRuntime, words: &[String], realm: &Realm) -> ExitCode
-    requires { is_on_file (command_of (map string_bytes words.now)) ≡ true }
+fn on_new_file<R: Threads + Wait + Sync>(
+    rt: &HostRuntime,
+    threads: &R,
+    words: &[String],
+    realm: &Realm,
+) -> ExitCode
+    requires { is_format (command_of (map string_bytes words.now)) ≡ true }
 {
     let not_opened = ExitCode::from(NOT_OPENED);
     let Some(path) = words.get(1) else {
         return not_opened;
     };
-    let Ok(disk) = file_disk(rt, path.as_str()) else {
+    let Ok(disk) = new_disk(rt, path.as_str()) else {
         return not_opened;
     };
     let disks = Disks {
         source: Some(disk),
         dest: None,
     };
-    call(rt, words, disks, realm)
+    disks_suffice::<FileDisk>();
+    call(rt, threads, words, disks, realm, TcpNet::dialing(rt))
+}
+
+/// The realm of the file `realm.txt`.
+fn realm_of_file(rt: &HostRuntime) -> Option<Realm> {
+    let text = fs::read(rt, REALM).ok()?;
+    read_realm(rt.alloc(), text.as_slice()).ok()?
+}
+
+/// Does what the words of a server ask for, on the disk of the file that they name, at its port. A port at which nothing can listen is a
+/// fault of the net; the file is as it was then.
+fn at_port<R: Threads + Wait + Sync>(
+    rt: &HostRuntime,
+    threads: &R,
+    words: &[String],
+    service: Service,
+) -> ExitCode
+    requires { service_in (command_of (map string_bytes words.now)) ≡ Some service }
+{
+    let not_opened = ExitCode::from(NOT_OPENED);
+    let Some(realm) = realm_of_file(rt) else {
+        return not_opened;
+    };
+    let Some(path) = words.get(1) else {
+        return not_opened;
+    };
+    let Ok(disk) = old_disk(rt, path.as_str()) else {
+        return not_opened;
+    };
+    let Ok(net) = TcpNet::listening(rt, service.port) else {
+        return ExitCode::from(ExitStatus::NetFault.code());
+    };
+    let disks = Disks {
+        source: Some(disk),
+        dest: None,
+    };
+    disks_suffice::<FileDisk>();
+    call(rt, threads, words, disks, &realm, net)
 }
 
 fn main(rt: HostRuntime) -> ExitCode {
     let Ok(words) = words(&rt) else {
         return ExitCode::from(ExitStatus::NoMemory.code());
     };
+    if let Some(service) = asked_service(&words) {
+        return at_port(&rt, &rt, &words, service);
+    }
     let Ok(realm) = realm(rt.alloc()) else {
         return ExitCode::from(ExitStatus::NoMemory.code());
     };
-    if is_on_file(&words) {
-        return on_file(&rt, &words, &realm);
+    if is_format(&words) {
+        return on_new_file(&rt, &rt, &words, &realm);
     }
     let disks = Disks {
         source: Some(disk(rt.alloc())),
         dest: Some(disk(rt.alloc())),
     };
-    call(&rt, &words, disks, &realm)
+    disks_suffice::<MemoryDisk>();
+    call(&rt, &rt, &words, disks, &realm, TcpNet::dialing(&rt))
 }

@@ -1,5 +1,5 @@
-//! Schedules over the wire with the transcripts and statuses that are due, from standard input: each is run by the top call,
-//! `nfscopy::nfscopy`. Prints the name of each that is answered otherwise, and then how many there were and how many differ.
+//! Schedules over the wire with the transcripts and statuses that are due, from standard input: each is run as the top call
+//! runs it, by `nfscopy::do_run`. Prints the name of each that is answered otherwise, and then how many there were and how many differ.
 //!
 //! A case is a line `case NAME STATUS LENGTH LENGTH`, a schedule of the first length in bytes, a transcript of the second, and
 //! a newline. Other lines between cases are passed over. Behind the cases one copy is made again and again, with each record
@@ -12,6 +12,7 @@ mod promise;
 
 use disk_model::MemoryDisk;
 use gss_mech::Realm;
+use nfscopy::do_run;
 use outcome::Mem;
 use std::alloc::Global;
 use std::io;
@@ -84,17 +85,15 @@ fn realm(alloc: Global) -> Mem<Realm> {
     Realm::new(alloc, &[user, dest])
 }
 
-/// What the top call puts for a schedule, and its status.
+/// What is put for a schedule, and its status.
 pub(crate) fn ran(alloc: Global, realm: &Realm, schedule: &[u8]) -> Mem<(u8, MemSink)> {
-    let mut words = Vec::new(alloc);
-    words.push(String::from_str(alloc, "run")?)?;
     let mut input = MemSource::new(Vec::from_slice(alloc, schedule)?, Vec::new(alloc));
     let mut output = MemSink::new(alloc, Vec::new(alloc));
     let mut disks = Disks {
         source: Some(disk(alloc)),
         dest: Some(disk(alloc)),
     };
-    let status = nfscopy::nfscopy(alloc, &words, &mut input, &mut output, &mut disks, realm);
+    let status = do_run(alloc, &mut input, &mut output, &mut disks, realm);
     Ok((status, output))
 }
 

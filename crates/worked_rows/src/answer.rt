@@ -1,10 +1,23 @@
-use disk_model::MemoryDisk;
+ghost use Rattle.std.specs.Prelude.{◌≡◌, true, None, is_some, map};
+ghost use Rattle.std.specs.String.{string_bytes};
+ghost use Rattle.nfscopy.specs.Command.{command_of, service_in};
+ghost use Rattle.nfscopy.specs.Ends.{HasDisks};
+ghost use Rattle.volume_format.specs.DiskWords.{disk_words};
+
+use block_file::Volume;
+use disk_model::{Disk, MemoryDisk};
 use gss_mech::Realm;
+use net_links::MemNet;
+use nfscopy::{asked_service, disks_suffice};
 use outcome::{Mem, NoMemory};
 use std::alloc::Global;
+use std::collections::VecDeque;
+use std::marker::{Send, Sync};
 #[cfg(test)]
 use std::process::Abort;
-use streams::{MemSink, MemSource};
+use std::sync::Wait;
+use std::thread::Threads;
+use streams::{Clock, CountDraws, MemSink, MemSource};
 use wire_run::{Disks, System};
 use wire_schedule::Schedule;
 use wire_xdr::Octets;
@@ -52,6 +65,19 @@ pub struct Faults {
     pub sink: u64,
 }
 
+/// The status of a server in place of whose volume none could be made.
+const NO_VOLUME: u8 = 255;
+
+/// A clock that stands still.
+#[derive(Drop)]
+struct StillClock;
+
+impl Clock for StillClock {
+    fn now(&mut self) -> u64 {
+        0
+    }
+}
+
 /// No call fails.
 pub const NO_FAULTS: Faults = Faults { source: 0, sink: 0 };
 
@@ -70,12 +96,19 @@ pub const GOOD_DISK: DiskPlan = DiskPlan {
 
 /// Runs the program with these words over this input.
 #[cfg(test)]
-pub fn ask(alloc: Global, words: &[&str], text: Vec<u8>, faults: Faults) -> Mem<Answer> {
-    ask_disks(alloc, words, text, faults, GOOD_DISK, GOOD_DISK)
+pub fn ask<R: Threads + Wait + Sync>(
+    rt: &R,
+    alloc: Global,
+    words: &[&str],
+    text: Vec<u8>,
+    faults: Faults,
+) -> Mem<Answer> {
+    ask_disks(rt, alloc, words, text, faults, GOOD_DISK, GOOD_DISK)
 }
 
-/// The same over these two disks.
-pub fn ask_disks(
+/// The same over these two disks. A server finds an empty volume on the one in the source's place, and nobody calls it.
+pub fn ask_disks<R: Threads + Wait + Sync>(
+    rt: &R,
     alloc: Global,
     words: &[&str],
     text: Vec<u8>,
@@ -87,33 +120,124 @@ pub fn ask_disks(
     for word in words {
         given.push(String::from_str(alloc, word)?)?;
     }
-    let mut source = MemSource::new(text, vec![in alloc; faults.source]?);
-    let mut sink = MemSink::new(alloc, vec![in alloc; faults.sink]?);
-    let mut disks = Disks {
+    let mut outside = Outside {
+        source: MemSource::new(text, vec![in alloc; faults.source]?),
+        sink: MemSink::new(alloc, vec![in alloc; faults.sink]?),
+        realm: realm(alloc)?,
+    };
+    let disks = Disks {
         source: Some(disk(alloc, source_disk)?),
         dest: Some(disk(alloc, dest_disk)?),
     };
-    let realm = realm(alloc)?;
-    let status = nfscopy::nfscopy(
-        alloc,
-        given.as_slice(),
-        &mut source,
-        &mut sink,
-        &mut disks,
-        &realm,
-    );
-    let put = match str::from_utf8(sink.bytes()) {
+    let (status, disks) = if asked_service(&given).is_none() {
+        call(rt, alloc, &given, &mut outside, disks)?
+    } else {
+        serve(rt, alloc, &given, &mut outside, disks)?
+    };
+    answered(alloc, status, &outside, &disks)
+}
+
+/// What the program reads and writes.
+#[derive(Drop)]
+struct Outside {
+    source: MemSource,
+    sink: MemSink,
+    realm: Realm,
+}
+
+/// What a call left behind.
+fn answered(
+    alloc: Global,
+    status: u8,
+    outside: &Outside,
+    disks: &Disks<MemoryDisk>,
+) -> Mem<Answer> {
+    let put = match str::from_utf8(outside.sink.bytes()) {
         Ok(put) => put,
         Err(_) => "not a text",
     };
     Ok(Answer {
         status,
         put: String::from_str(alloc, put)?,
-        takes: source.calls(),
-        puts: sink.calls(),
+        takes: outside.source.calls(),
+        puts: outside.sink.calls(),
         source_calls: calls(&disks.source),
         dest_calls: calls(&disks.dest),
     })
+}
+
+/// Calls the program for words that are of no server.
+fn call<R: Threads + Wait + Sync, D: Disk + Drop + Send>(
+    rt: &R,
+    alloc: Global,
+    words: &[String],
+    outside: &mut Outside,
+    disks: Disks<D>,
+) -> Mem<(u8, Disks<D>)>
+    requires words { service_in (command_of (map string_bytes words.now)) ≡ None }
+    requires source { is_some disks.source ≡ true }
+    requires dest { is_some disks.dest ≡ true }
+{
+    disks_suffice::<D>();
+    called(rt, alloc, words, outside, disks)
+}
+
+/// Calls the program over an empty volume in the source's place.
+fn serve<R: Threads + Wait + Sync, D: Disk + Drop + Send>(
+    rt: &R,
+    alloc: Global,
+    words: &[String],
+    outside: &mut Outside,
+    disks: Disks<D>,
+) -> Mem<(u8, Disks<D>)>
+    requires dest { is_some disks.dest ≡ true }
+{
+    let Disks { source, dest } = disks;
+    let Some(disk) = source else {
+        return Ok((NO_VOLUME, Disks { source: None, dest }));
+    };
+    let Ok(made) = Volume::format(disk, 1, 1, 7)? else {
+        return Ok((NO_VOLUME, Disks { source: None, dest }));
+    };
+    let disks = Disks {
+        source: Some(made),
+        dest,
+    };
+    disks_suffice::<D>();
+    called(rt, alloc, words, outside, disks)
+}
+
+/// Calls the program over these disks, and a net to which nobody comes.
+fn called<R: Threads + Wait + Sync, D: Disk + Drop + Send>(
+    rt: &R,
+    alloc: Global,
+    words: &[String],
+    outside: &mut Outside,
+    disks: Disks<D>,
+) -> Mem<(u8, Disks<D>)>
+    requires { HasDisks (disk_words D.Told D.faults D.size D.timeline) (command_of (map string_bytes words.now)) disks.source disks.dest }
+{
+    let mut net = MemNet::new(
+        alloc,
+        VecDeque::new(alloc),
+        Vec::new(alloc),
+        Vec::new(alloc),
+        Vec::new(alloc),
+    )?;
+    let mut disks = disks;
+    let status = nfscopy::nfscopy(
+        rt,
+        alloc,
+        words,
+        &mut outside.source,
+        &mut outside.sink,
+        &mut disks,
+        &outside.realm,
+        StillClock,
+        CountDraws::new(),
+        &mut net,
+    );
+    Ok((status, disks))
 }
 
 /// A record that goes out in the run of a schedule, by its number; no bytes where there is none, or where the text is no schedule.

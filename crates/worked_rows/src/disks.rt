@@ -3,8 +3,11 @@ use crate::answer::{
 };
 use outcome::Mem;
 use std::alloc::Global;
+use std::marker::Sync;
 use std::process::Abort;
+use std::sync::Wait;
 use std::test::Fail;
+use std::thread::Threads;
 
 // A volume of one file of one block is made by so many calls: zeros for the block, and for the gate and one home
 // of both cells, a sync, block 0, a sync; then a sync, block 0, the gate and the home of both cells, and four
@@ -20,7 +23,12 @@ const DEST_CALLS: u32 = 2 + 4 + 1;
 
 // Each call of one of the disks fails in turn, one past the last too. While its volume is made the run ends; later the
 // servers answer that they can't (NFS4ERR_IO), and the run goes on to its end.
-fn check_calls(rt: &impl Abort, alloc: Global, at_source: bool, calls: u32) -> Result<(), Fail> {
+fn check_calls<R: Abort + Threads + Wait + Sync>(
+    rt: &R,
+    alloc: Global,
+    at_source: bool,
+    calls: u32,
+) -> Result<(), Fail> {
     let mut counted = None;
     let made = MAKING + u64::from(calls);
     let last = made + 1;
@@ -35,7 +43,7 @@ fn check_calls(rt: &impl Abort, alloc: Global, at_source: bool, calls: u32) -> R
             (GOOD_DISK, failing)
         };
         let text = Vec::from_slice(alloc, FIRST_COPY.as_bytes())?;
-        let answer = ask_disks(alloc, &["run"], text, NO_FAULTS, source, dest)?;
+        let answer = ask_disks(rt, alloc, &["run"], text, NO_FAULTS, source, dest)?;
         if call <= MAKING {
             answer.check(rt, "a call failed", 6, "");
         } else if call < last {
@@ -68,8 +76,14 @@ fn destination_fails(rt: HostRuntime) -> Result<(), Fail> {
 // What is put of a copy of one mebibyte, but for its last word.
 const LARGE_PUT: &str = "gen 1\nrecords 106\nlanded 1048576\nstable 1\nexact 1\nequal ";
 
-fn large(alloc: Global, source: DiskPlan, dest: DiskPlan) -> Mem<Answer> {
+fn large<R: Threads + Wait + Sync>(
+    rt: &R,
+    alloc: Global,
+    source: DiskPlan,
+    dest: DiskPlan,
+) -> Mem<Answer> {
     ask_disks(
+        rt,
         alloc,
         &["gen", "1"],
         Vec::new(alloc),
@@ -94,13 +108,13 @@ fn failing_at(call: Option<u64>) -> Result<DiskPlan, Fail> {
 // called equal.
 #[test]
 fn a_file_is_not_read(rt: HostRuntime) -> Result<(), Fail> {
-    let whole = large(rt.alloc(), GOOD_DISK, GOOD_DISK)?;
+    let whole = large(&rt, rt.alloc(), GOOD_DISK, GOOD_DISK)?;
     check_summary(&rt, rt.alloc(), &whole, "yes")?;
     let source = failing_at(whole.source_calls)?;
-    let unread = large(rt.alloc(), source, GOOD_DISK)?;
+    let unread = large(&rt, rt.alloc(), source, GOOD_DISK)?;
     check_summary(&rt, rt.alloc(), &unread, "no")?;
     let dest = failing_at(whole.dest_calls)?;
-    let unread = large(rt.alloc(), GOOD_DISK, dest)?;
+    let unread = large(&rt, rt.alloc(), GOOD_DISK, dest)?;
     check_summary(&rt, rt.alloc(), &unread, "no")
 }
 
@@ -113,6 +127,7 @@ fn a_disk_fails_while_it_is_formatted(rt: HostRuntime) -> Result<(), Fail> {
             fails: call,
         };
         let answer = ask_disks(
+            &rt,
             rt.alloc(),
             &["format", "p", "1", "1", "7"],
             Vec::new(rt.alloc()),

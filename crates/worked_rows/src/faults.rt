@@ -13,7 +13,7 @@ fn reads(rt: HostRuntime) -> Result<(), Fail> {
                 source: call,
                 sink: 0,
             };
-            let answer = ask(rt.alloc(), &["run"], text.clone()?, faults)?;
+            let answer = ask(&rt, rt.alloc(), &["run"], text.clone()?, faults)?;
             if answer.takes < call {
                 answer.check(&rt, "no read failed", 0, FIRST_COPY_PUT);
                 whole = true;
@@ -36,7 +36,7 @@ fn writes(rt: HostRuntime) -> Result<(), Fail> {
             source: 0,
             sink: call,
         };
-        let answer = ask(rt.alloc(), &["run"], text, faults)?;
+        let answer = ask(&rt, rt.alloc(), &["run"], text, faults)?;
         if answer.puts < call {
             answer.check(&rt, "no write failed", 0, FIRST_COPY_PUT);
             whole = true;

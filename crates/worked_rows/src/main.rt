@@ -24,6 +24,9 @@ use crate::escapes::spelled;
 use outcome::Mem;
 use std::alloc::Global;
 use std::io;
+use std::marker::Sync;
+use std::sync::Wait;
+use std::thread::Threads;
 use wire_schedule::{Directive, Schedule};
 
 /// What holds of the rows that follow.
@@ -90,12 +93,18 @@ impl Setting {
     }
 
     /// Runs the program with these words over this input.
-    fn ask(&self, alloc: Global, words: &[&str], input: Vec<u8>) -> Mem<Answer> {
-        ask_disks(alloc, words, input, self.faults, self.source, self.dest)
+    fn ask<R: Threads + Wait + Sync>(
+        &self,
+        rt: &R,
+        alloc: Global,
+        words: &[&str],
+        input: Vec<u8>,
+    ) -> Mem<Answer> {
+        ask_disks(rt, alloc, words, input, self.faults, self.source, self.dest)
     }
 
     /// Whether a row is met.
-    fn is_met(&self, alloc: Global, row: &str) -> Mem<bool> {
+    fn is_met<R: Threads + Wait + Sync>(&self, rt: &R, alloc: Global, row: &str) -> Mem<bool> {
         let Some((wanted, texts)) = row.split_once(" | ") else {
             return Ok(false);
         };
@@ -123,7 +132,7 @@ impl Setting {
                 words.push(word)?;
             }
         }
-        let answer = self.ask(alloc, &words, input)?;
+        let answer = self.ask(rt, alloc, &words, input)?;
         Ok(wanted.parse() == Ok(answer.status) && answer.put.as_bytes() == put.as_slice())
     }
 }
@@ -170,7 +179,7 @@ fn main(rt: HostRuntime) -> io::Result<()> {
         }
         let met = if line.contains(" | ") {
             rows = rows.saturating_add(1);
-            setting.is_met(rt.alloc(), line.as_str())
+            setting.is_met(&rt, rt.alloc(), line.as_str())
         } else {
             setting.take(rt.alloc(), line.as_str())
         };

@@ -23,9 +23,14 @@ fn words(rt: HostRuntime) -> Result<(), Fail> {
         &["shows"][..],
         &["format", "p", "1", "1"][..],
         &["format", "-p", "1", "1", "1"][..],
+        &["serve-source"][..],
+        &["serve-source", "p", "1"][..],
+        &["serve-source", "-p", "1", "1"][..],
+        &["serve-source", "p", "0", "1"][..],
+        &["serve-source", "p", "1", "0"][..],
     ] {
         let text = Vec::from_slice(rt.alloc(), FIRST_COPY.as_bytes())?;
-        let answer = ask(rt.alloc(), words, text, NO_FAULTS)?;
+        let answer = ask(&rt, rt.alloc(), words, text, NO_FAULTS)?;
         answer.check(&rt, "words of no command", 1, "usage\n");
         assert_eq!(rt; answer.takes, 0, "takes at {words:?}");
     }

@@ -1,0 +1,45 @@
+-- Which disks suffice for a command.
+use Rattle.std.proofs.Common.{◌≡◌, true, Some}
+use Rattle.std.specs.Prelude.{Option, None, IfSome, is_some}
+use Rattle.volume_format.specs.DiskWords.{DiskWords}
+use Rattle.nfscopy.specs.Command.{is_format, service_in}
+use Rattle.nfscopy.specs.Ends.{HasDisks, MayOpen}
+use Rattle.nfscopy.specs.declared.command.Command.{Command}
+use Rattle.nfscopy.specs.declared.command.Command.TheVariants.{Run, Show, Gen, Format, ServeSource}
+use Rattle.nfscopy.specs.declared.command.Service.{Service}
+
+pub both_suffice : {D : Type 0} (w : DiskWords D) (command : Option Command) (source dest : Option D) → service_in command ≡ None
+    → is_some source ≡ true → is_some dest ≡ true → HasDisks w command source dest
+both_suffice w None source dest none there also = tt
+both_suffice w (Some Run) source dest none there also = (there, also)
+both_suffice w (Some (Gen mebibytes)) source dest none there also = (there, also)
+both_suffice w (Some Show) source dest none there also = tt
+both_suffice w (Some (Format v)) source dest none there also = there
+both_suffice w (Some (ServeSource s)) source dest none there also = absurd cc
+
+pub one_suffices : {D : Type 0} (w : DiskWords D) (command : Option Command) (source dest : Option D) → is_format command ≡ true
+    → is_some source ≡ true → HasDisks w command source dest
+one_suffices w None source dest is there = tt
+one_suffices w (Some Run) source dest is there = absurd cc
+one_suffices w (Some (Gen mebibytes)) source dest is there = absurd cc
+one_suffices w (Some Show) source dest is there = tt
+one_suffices w (Some (Format v)) source dest is there = there
+one_suffices w (Some (ServeSource s)) source dest is there = absurd cc
+
+pub any_suffice : {D : Type 0} (w : DiskWords D) (command : Option Command) (source dest : Option D) → is_some source ≡ true → is_some dest ≡ true
+    → IfSome source (MayOpen w) → HasDisks w command source dest
+any_suffice w None source dest there also opens = tt
+any_suffice w (Some Run) source dest there also opens = (there, also)
+any_suffice w (Some (Gen mebibytes)) source dest there also opens = (there, also)
+any_suffice w (Some Show) source dest there also opens = tt
+any_suffice w (Some (Format v)) source dest there also opens = there
+any_suffice w (Some (ServeSource s)) source dest there also opens = (there, opens)
+
+pub served_suffices : {D : Type 0} (w : DiskWords D) (service : Service) (command : Option Command) (source dest : Option D)
+    → service_in command ≡ Some service → is_some source ≡ true → IfSome source (MayOpen w) → HasDisks w command source dest
+served_suffices w service None source dest is there opens = tt
+served_suffices w service (Some Run) source dest is there opens = absurd cc
+served_suffices w service (Some (Gen mebibytes)) source dest is there opens = absurd cc
+served_suffices w service (Some Show) source dest is there opens = tt
+served_suffices w service (Some (Format v)) source dest is there opens = there
+served_suffices w service (Some (ServeSource s)) source dest is there opens = (there, opens)

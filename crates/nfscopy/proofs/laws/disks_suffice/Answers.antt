@@ -1,0 +1,15 @@
+use Rattle.volume_format.specs.DiskWords.{disk_words}
+use Rattle.nfscopy.proofs.Having.{any_suffice, both_suffice, one_suffices, served_suffices}
+use Rattle.nfscopy.proofs.laws.disks_suffice.Goals as goal
+
+pub returns-clause-both : goal.returns-clause-both
+returns-clause-both g c = both_suffice (disk_words g.D.Disk.Told g.D.Disk.faults g.D.Disk.size g.D.Disk.timeline)
+
+pub returns-clause-one : goal.returns-clause-one
+returns-clause-one g c = one_suffices (disk_words g.D.Disk.Told g.D.Disk.faults g.D.Disk.size g.D.Disk.timeline)
+
+pub returns-clause-any : goal.returns-clause-any
+returns-clause-any g c = any_suffice (disk_words g.D.Disk.Told g.D.Disk.faults g.D.Disk.size g.D.Disk.timeline)
+
+pub returns-clause-served : goal.returns-clause-served
+returns-clause-served g c = served_suffices (disk_words g.D.Disk.Told g.D.Disk.faults g.D.Disk.size g.D.Disk.timeline)

@@ -1,0 +1,21 @@
+ghost use Rattle.std.specs.Prelude.{◌≡◌, true, None, Some, Option, IfSome, is_some};
+ghost use Rattle.nfscopy.specs.Command.{is_format, service_in};
+ghost use Rattle.nfscopy.specs.Ends.{HasDisks, MayOpen};
+ghost use Rattle.nfscopy.specs.declared.command.Command.{Command};
+ghost use Rattle.nfscopy.specs.declared.command.Service.{Service};
+ghost use Rattle.volume_format.specs.DiskWords.{disk_words};
+
+use disk_model::Disk;
+
+/// Disks that are there are enough for every command but a server's, and one in the source's place is for `format`; two are
+/// for every command where the source's may be opened, and that one is for a server.
+pub fn disks_suffice<D: Disk>()
+    ensures both { (command : Option Command) (source dest : Option D) → service_in command ≡ None → is_some source ≡ true → is_some dest ≡ true
+        → HasDisks (disk_words D.Told D.faults D.size D.timeline) command source dest }
+    ensures one { (command : Option Command) (source dest : Option D) → is_format command ≡ true → is_some source ≡ true
+        → HasDisks (disk_words D.Told D.faults D.size D.timeline) command source dest }
+    ensures any { (command : Option Command) (source dest : Option D) → is_some source ≡ true → is_some dest ≡ true
+        → IfSome source (MayOpen (disk_words D.Told D.faults D.size D.timeline)) → HasDisks (disk_words D.Told D.faults D.size D.timeline) command source dest }
+    ensures served { (service : Service) (command : Option Command) (source dest : Option D) → service_in command ≡ Some service → is_some source ≡ true
+        → IfSome source (MayOpen (disk_words D.Told D.faults D.size D.timeline)) → HasDisks (disk_words D.Told D.faults D.size D.timeline) command source dest }
+{}

@@ -1,0 +1,71 @@
+//! The commands that serve the connections of a net. They wait for others.
+
+ghost use Rattle.std.specs.Prelude.{◌≡◌, ◌≤◌, true, is_some, IfOk, IfSome};
+ghost use Rattle.link_server.specs.Keeping.{books_of};
+ghost use Rattle.nfscopy.specs.Ends.{EndsAs, MayOpen};
+ghost use Rattle.nfscopy.specs.ExitStatus.{serve_status};
+ghost use Rattle.server_volume.specs.Store.{seat_of};
+ghost use Rattle.source_core.specs.Location.{IsShort};
+ghost use Rattle.source_server.specs.Machine.{source_answers, words_of};
+ghost use Rattle.source_server.specs.Serving.{net_words, ServeEnds};
+ghost use Rattle.volume_format.specs.DiskWords.{disk_words};
+
+use crate::ends::serve_code;
+use disk_model::Disk;
+use gss_mech::Mechanism;
+use net_links::Net;
+use outcome::Mem;
+use source_server::{Acquaintance, ServeEnd, serve_source};
+use std::alloc::Global;
+use std::marker::{Send, Sync};
+use std::sync::Wait;
+use std::thread::Threads;
+use streams::{Clock, Draws, Sink, Source};
+use wire_run::{source_peers, source_place};
+
+/// Serves the volume on the disk in the source's place to so many connections.
+pub(crate) fn serve<
+    R: Threads + Wait + Sync,
+    K: Sink,
+    D: Disk + Drop + Send,
+    M: Mechanism + Send,
+    C: Clock + Drop + Send,
+    W: Draws + Drop + Send,
+    F: Source + Send + Drop,
+    T: Sink + Send + Drop,
+    N: Net<From = F, To = T>,
+>(
+    rt: &R,
+    alloc: Global,
+    conns: u32,
+    mech: M,
+    clock: C,
+    draws: W,
+    output: &mut K,
+    disk: &mut Option<D>,
+    net: &mut N,
+) -> u8
+    requires there { is_some disk.old ≡ true }
+    requires volume { IfSome disk.old (MayOpen (disk_words D.Told D.faults D.size D.timeline)) }
+    ensures ends { EndsAs serve_status (ServeEnds (disk_words D.Told D.faults D.size D.timeline) (net_words N.Told N.coming N.faults (books_of N.hung N.up N.accepted))
+        (source_answers C (words_of D.Told D.size (seat_of D.size D.fuse D.timeline D.faults) M.mic_of M.derived M.accepted W.gives)) conns
+        (K.takes output.old).taken (K.takes output.new).taken (K.takes output.old).faults (K.takes output.new).faults net.old net.new disk.old disk.new) result }
+    ensures later { (K.takes output.old).faults ≤ (K.takes output.new).faults }
+{
+    let Ok(known) = acquaintance(alloc) else {
+        return serve_code(ServeEnd::NoMemory);
+    };
+    serve_code(serve_source(
+        rt, alloc, conns, known, mech, clock, draws, output, disk, net,
+    ))
+}
+
+/// Whom the source knows: the destination that every schedule has, too.
+fn acquaintance(alloc: Global) -> Mem<Acquaintance>
+    ensures { IfOk result (λ known. IsShort known.own) }
+{
+    Ok(Acquaintance {
+        peers: source_peers(alloc)?,
+        own: source_place(alloc)?,
+    })
+}
