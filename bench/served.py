@@ -1,0 +1,200 @@
+#!/usr/bin/env python3
+"""Serves a volume on a real file with `serve-source`, on a port of this machine, and calls it with a client of its own (caller.py).
+
+In turn: a file of 16 MiB is written, committed and read back, and the ratio of each to hashing as many bytes is printed; sixteen
+connections bring random bytes for some seconds; and the server is killed in the middle of writes, again and again, opened anew, and
+what it had answered as committed is read back. What isn't as it should be ends the script.
+"""
+
+import hashlib
+import os
+import random
+import signal
+import socket
+import subprocess
+import sys
+import tempfile
+import threading
+import time
+
+from caller import Caller, Ended, Refused
+from programs import NFSCOPY
+
+KEY = bytes([1] * 32)
+PORT = 24_049
+MEBIBYTES = 16
+PIECE = 65_536
+NOISE_SECONDS = float(sys.argv[1]) if len(sys.argv) > 1 else 5
+KILLS = int(sys.argv[2]) if len(sys.argv) > 2 else 10
+
+
+def check(holds, what):
+    if not holds:
+        sys.exit(what)
+
+
+def run(folder, *words):
+    return subprocess.run([NFSCOPY, *words], cwd=folder, stdin=subprocess.DEVNULL, capture_output=True, check=False)
+
+
+def served(folder, conns):
+    """A server of this many connections, once it listens."""
+    server = subprocess.Popen([NFSCOPY, "serve-source", "volume", str(PORT), str(conns)], cwd=folder,
+                              stdin=subprocess.DEVNULL, stdout=subprocess.PIPE, stderr=subprocess.PIPE, start_new_session=True)
+    return server
+
+
+def called(owner):
+    """A caller, once the server listens."""
+    for _ in range(2_000):
+        try:
+            caller = Caller(PORT, "user", KEY)
+            break
+        except ConnectionRefusedError:
+            time.sleep(0.01)
+    else:
+        sys.exit("nothing listens")
+    caller.join(owner)
+    return caller
+
+
+def ended(server, status):
+    """The server ends by itself with this status, and printed nothing."""
+    printed, errors = server.communicate(timeout=60)
+    check(server.returncode == status, f"the server ended with {server.returncode}: {printed!r} {errors!r}")
+    check(printed == b"" and errors == b"", f"the server printed {printed!r} {errors!r}")
+
+
+def timed(work):
+    begun = time.monotonic()
+    work()
+    return time.monotonic() - begun
+
+
+def written_and_read(folder):
+    """A whole file is written, committed and read back."""
+    data = random.Random(1).randbytes(MEBIBYTES << 20)
+    server = served(folder, 1)
+    caller = called(b"writer")
+    opened = caller.open(1)
+
+    def write():
+        for at in range(0, len(data), PIECE):
+            caller.write(opened, at, data[at : at + PIECE])
+        caller.commit(opened)
+
+    def read():
+        for at in range(0, len(data), PIECE):
+            check(caller.read(opened, at, PIECE) == data[at : at + PIECE], f"other bytes at {at}")
+
+    hashing = timed(lambda: hashlib.sha256(data).digest())
+    for name, work in (("written and committed", write), ("read back", read)):
+        seconds = timed(work)
+        print(f"{MEBIBYTES} MiB {name}: {seconds:.2f} s, {seconds / hashing:.1f} times hashing them once in this script")
+    caller.close(opened)
+    caller.leave()
+    ended(server, 0)
+
+
+def noise(port, stop, seed):
+    """Random bytes, as a record or as none, on one connection, until a moment."""
+    dice = random.Random(seed)
+    with socket.create_connection(("127.0.0.1", port), 30) as link:
+        link.settimeout(1)
+        try:
+            while time.monotonic() < stop:
+                part = dice.randbytes(dice.randrange(1, 5_000))
+                if dice.random() < 0.9:
+                    part = (0x8000_0000 | len(part)).to_bytes(4, "big") + part
+                link.sendall(part)
+                if dice.random() < 0.1:
+                    link.recv(4_096)
+        except (TimeoutError, ConnectionError):
+            pass
+
+
+def noisy(folder):
+    """Sixteen connections at once bring random bytes. Each that the server hangs up is followed by another."""
+    conns = 400
+    server = served(folder, conns)
+    first = called(b"first")
+    stop = time.monotonic() + NOISE_SECONDS
+    made = [1]
+    lock = threading.Lock()
+
+    def one():
+        while True:
+            with lock:
+                if made[0] >= conns:
+                    return
+                made[0] += 1
+                seed = made[0]
+            late = time.monotonic() >= stop
+            if late:
+                socket.create_connection(("127.0.0.1", PORT), 30).close()
+            else:
+                noise(PORT, min(stop, time.monotonic() + NOISE_SECONDS / 8), seed)
+
+    threads = [threading.Thread(target=one) for _ in range(15)]
+    for thread in threads:
+        thread.start()
+    opened = first.open(1)
+    kept = first.read(opened, 0, PIECE)
+    while time.monotonic() < stop:
+        check(first.read(opened, 0, PIECE) == kept, "other bytes beside noise")
+    first.leave()
+    for thread in threads:
+        thread.join()
+    ended(server, 0)
+    print(f"{conns} connections, sixteen at once, of random bytes for {NOISE_SECONDS:.0f} s beside one that reads: status 0, and it reads the same")
+
+
+def killed(folder):
+    """The server is killed between a client's writes. What it had answered as committed is there when it is opened again."""
+    known = bytearray(PIECE)
+    check(run(folder, "format", "volume", "1", "256", "7").returncode == 0, "format")
+    commits = 0
+    for round_ in range(KILLS):
+        server = served(folder, 1)
+        caller = called(b"killer %d" % round_)
+        opened = caller.open(1)
+        read = caller.read(opened, 0, PIECE)
+        check(read[: len(known)].ljust(PIECE, b"\0") == bytes(known), f"round {round_}: other bytes than were committed")
+        timer = threading.Timer(random.Random(round_).uniform(0.05, 0.4), lambda: os.killpg(server.pid, signal.SIGKILL))
+        timer.start()
+        maybe = None
+        try:
+            while True:
+                maybe = bytearray(known)
+                at, byte = random.randrange(PIECE - 4_096), random.randrange(256)
+                maybe[at : at + 4_096] = bytes([byte]) * 4_096
+                caller.write(opened, at, maybe[at : at + 4_096])
+                caller.commit(opened)
+                known, commits = maybe, commits + 1
+        except (Ended, ConnectionError, OSError):
+            pass
+        server.wait()
+        # A commit that wasn't answered may have been made or not.
+        server = served(folder, 1)
+        caller = called(b"after %d" % round_)
+        read = caller.read(caller.open(1), 0, PIECE).ljust(PIECE, b"\0")
+        check(read in (bytes(known), bytes(maybe)), f"round {round_}: neither what was committed nor what was being committed")
+        known = bytearray(read)
+        caller.leave()
+        ended(server, 0)
+    print(f"killed {KILLS} times in the middle of {commits} commits: each time the committed bytes were there")
+
+
+def main():
+    with tempfile.TemporaryDirectory() as folder:
+        with open(os.path.join(folder, "realm.txt"), "w", encoding="utf-8") as realm:
+            realm.write(f"user {KEY.hex()}\ndest {bytes([2] * 32).hex()}\n")
+        made = run(folder, "format", "volume", "1", str(MEBIBYTES * 256), "7")
+        check(made.returncode == 0, f"format: {made}")
+        written_and_read(folder)
+        noisy(folder)
+        killed(folder)
+
+
+if __name__ == "__main__":
+    main()
