@@ -142,6 +142,7 @@ def noisy(folder):
     kept = first.read(opened, 0, PIECE)
     while time.monotonic() < stop:
         check(first.read(opened, 0, PIECE) == kept, "other bytes beside noise")
+    first.close(opened)
     first.leave()
     for thread in threads:
         thread.join()
@@ -177,9 +178,11 @@ def killed(folder):
         # A commit that wasn't answered may have been made or not.
         server = served(folder, 1)
         caller = called(b"after %d" % round_)
-        read = caller.read(caller.open(1), 0, PIECE).ljust(PIECE, b"\0")
+        opened = caller.open(1)
+        read = caller.read(opened, 0, PIECE).ljust(PIECE, b"\0")
         check(read in (bytes(known), bytes(maybe)), f"round {round_}: neither what was committed nor what was being committed")
         known = bytearray(read)
+        caller.close(opened)
         caller.leave()
         ended(server, 0)
     print(f"killed {KILLS} times in the middle of {commits} commits: each time the committed bytes were there")
