@@ -99,9 +99,9 @@ def written_and_read(folder):
 def noise(port, stop, seed):
     """Random bytes, as a record or as none, on one connection, until a moment."""
     dice = random.Random(seed)
-    with socket.create_connection(("127.0.0.1", port), 30) as link:
-        link.settimeout(1)
-        try:
+    try:
+        with socket.create_connection(("127.0.0.1", port), 30) as link:
+            link.settimeout(1)
             while time.monotonic() < stop:
                 part = dice.randbytes(dice.randrange(1, 5_000))
                 if dice.random() < 0.9:
@@ -109,33 +109,23 @@ def noise(port, stop, seed):
                 link.sendall(part)
                 if dice.random() < 0.1:
                     link.recv(4_096)
-        except (TimeoutError, ConnectionError):
-            pass
+    except (TimeoutError, ConnectionError):
+        pass
 
 
 def noisy(folder):
     """Sixteen connections at once bring random bytes. Each that the server hangs up is followed by another."""
-    conns = 400
-    server = served(folder, conns)
+    server = served(folder, 1_000_000)
     first = called(b"first")
     stop = time.monotonic() + NOISE_SECONDS
-    made = [1]
-    lock = threading.Lock()
+    made = [0]
 
-    def one():
-        while True:
-            with lock:
-                if made[0] >= conns:
-                    return
-                made[0] += 1
-                seed = made[0]
-            late = time.monotonic() >= stop
-            if late:
-                socket.create_connection(("127.0.0.1", PORT), 30).close()
-            else:
-                noise(PORT, min(stop, time.monotonic() + NOISE_SECONDS / 8), seed)
+    def one(number):
+        while time.monotonic() < stop:
+            made[0] += 1
+            noise(PORT, min(stop, time.monotonic() + NOISE_SECONDS / 8), 1_000 * number + made[0])
 
-    threads = [threading.Thread(target=one) for _ in range(15)]
+    threads = [threading.Thread(target=one, args=(number,)) for number in range(15)]
     for thread in threads:
         thread.start()
     opened = first.open(1)
@@ -146,8 +136,13 @@ def noisy(folder):
     first.leave()
     for thread in threads:
         thread.join()
-    ended(server, 0)
-    print(f"{conns} connections, sixteen at once, of random bytes for {NOISE_SECONDS:.0f} s beside one that reads: status 0, and it reads the same")
+    check(server.poll() is None, f"the server ended with {server.returncode}")
+    last = called(b"last")
+    opened = last.open(1)
+    check(last.read(opened, 0, PIECE) == kept, "other bytes after noise")
+    os.killpg(server.pid, signal.SIGKILL)
+    server.communicate()
+    print(f"{made[0]} connections of random bytes in {NOISE_SECONDS:.0f} s, beside one that reads: it reads the same, and so does a later one")
 
 
 def killed(folder):
