@@ -1,14 +1,14 @@
 //! A server over a new toy machine.
 
-ghost use Rattle.std.specs.Prelude.{◌≡◌, ◌≤◌};
+ghost use Rattle.std.specs.Prelude.{◌≡◌, ◌≤◌, Some};
 
 use crate::toy::Toy;
-use link_server::{Counted, Tally, serve};
+use link_server::{Counted, Origin, Tally, serve};
 use net_links::Net;
 use rpc_msg::{Sink, Source};
 use std::alloc::Global;
 use std::marker::{Brand, Send, Sync};
-use std::sync::ledger::{Blank, Ledger};
+use std::sync::ledger::Blank;
 use std::sync::{Mutex, Wait};
 use std::thread::Threads;
 
@@ -19,19 +19,20 @@ pub fn run<
     T: Sink + Send + Drop,
     N: Net<From = F, To = T>,
 >(rt: &R, alloc: Global, conns: u32, net: &mut N) -> Tally {
-    run_by::<Brand, R, F, T, N>(rt, alloc, Blank::new(18), conns, net)
+    run_by::<Brand, R, F, T, N>(rt, alloc, Blank::new(18), Toy::new(), conns, net)
 }
 
 fn run_by<
-    C: Ledger + Send,
+    C: Origin<Toy> + Send,
     R: Threads + Wait + Sync,
     F: Source + Send + Drop,
     T: Sink + Send + Drop,
     N: Net<From = F, To = T>,
->(rt: &R, alloc: Global, blank: Blank, conns: u32, net: &mut N) -> Tally
+>(rt: &R, alloc: Global, blank: Blank, toy: Toy, conns: u32, net: &mut N) -> Tally
     requires blank { (blank.name ≡ C.name) × (blank.parts ≡ C.parts) × (18 ≤ blank.parts) }
+    requires origin { C.origin ≡ Some toy }
 {
     let (book, all) = blank.open::<C>();
-    let desk = Mutex::new(Counted::new(Toy::new(), book));
+    let desk = Mutex::new(Counted::new(toy, book));
     serve(rt, alloc, &desk, all, conns, net)
 }

@@ -1,3 +1,4 @@
 mod Causes
 mod Errors
+mod Reaching
 mod Steps

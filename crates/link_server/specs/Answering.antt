@@ -1,10 +1,11 @@
 -- What a connection gets from a machine that other connections call too. Own definitions.
-use Rattle.std.specs.Prelude.{◌≡◌, ◌==◌, ℕ, ◌+◌, ◌<◌, ◌≤◌, List, [], ◌∷◌, if◌then◌else◌}
+use Rattle.std.specs.Prelude.{◌≡◌, ◌==◌, ℕ, ◌+◌, ◌<◌, ◌≤◌, List, [], ◌∷◌, if◌then◌else◌, Option}
 use Rattle.std.specs.Int.{w32, from_be_bytes}
 use Rattle.rpc_msg.specs.declared.numbers.TheConstants.{AUTH_NONE, CALL}
 use Rattle.rpc_msg.specs.declared.reply.ReplyHead.TheVariants.{Accepted}
 use Rattle.rpc_msg.specs.declared.reply.Stat.TheVariants.{SystemErr}
 use Rattle.rpc_msg.specs.Heads.{reply}
+use Rattle.link_server.specs.Reaching.{ReachedFrom}
 use Rattle.link_server.specs.declared.machine.TheConstants.{MOST_CALLS}
 
 -- no machine makes more calls
@@ -27,33 +28,34 @@ pub record Caller : Type 0 where
   pub conn : ℕ
   pub calls : ℕ
 
--- The machine answered by one step of it, from a state that had made as many calls at least as this connection had.
-pub record Stepped {K : Type 0} (calls_of : K → ℕ) (step : ℕ → List ℕ → K → List ℕ → K → Type 0) (before after : K)
-    (old : Caller) (told reply : List ℕ) (new : Caller) : Type 0 where
-  pub enough : old.calls ≤ calls_of before
-  pub few : calls_of before < most_calls
-  pub stepped : step old.conn told before reply after
-  pub counted : new ≡ record old { calls = old.calls + 1 }
+module _ {K : Type 0} (calls_of : K → ℕ) (step : ℕ → List ℕ → K → List ℕ → K → Type 0) (kept : K → K → Type 0) (origin : Option K) where
+  -- The machine answered by one step of it, from a state to which it had come by calls since the server began, and which had made as
+  -- many calls at least as this connection had.
+  pub record Stepped (before after : K) (old : Caller) (told reply : List ℕ) (new : Caller) : Type 0 where
+    pub reached : ReachedFrom calls_of step kept origin before
+    pub enough : old.calls ≤ calls_of before
+    pub few : calls_of before < most_calls
+    pub stepped : step old.conn told before reply after
+    pub counted : new ≡ record old { calls = old.calls + 1 }
 
--- The machine had no call left: nothing is answered.
-pub record Spent {K : Type 0} (calls_of : K → ℕ) (before after : K) (old : Caller) (reply : List ℕ) (new : Caller) : Type 0 where
-  pub full : most_calls ≤ calls_of before
-  pub stays : after ≡ before
-  pub nothing : reply ≡ []
-  pub same : new ≡ old
+  -- The machine had no call left: nothing is answered.
+  pub record Spent (before : K) (old : Caller) (reply : List ℕ) (new : Caller) : Type 0 where
+    pub reached : ReachedFrom calls_of step kept origin before
+    pub full : most_calls ≤ calls_of before
+    pub nothing : reply ≡ []
+    pub same : new ≡ old
 
--- The machine found no memory, and stayed as it was.
-pub record Starved {K : Type 0} (calls_of : K → ℕ) (kept : K → K → Type 0) (before after : K)
-    (old : Caller) (told reply : List ℕ) (new : Caller) : Type 0 where
-  pub enough : old.calls ≤ calls_of before
-  pub few : calls_of before < most_calls
-  pub stays : kept before after
-  pub error : reply ≡ system_error_of told
-  pub same : new ≡ old
+  -- The machine found no memory, and stayed as it was.
+  pub record Starved (before after : K) (old : Caller) (told reply : List ℕ) (new : Caller) : Type 0 where
+    pub reached : ReachedFrom calls_of step kept origin before
+    pub enough : old.calls ≤ calls_of before
+    pub few : calls_of before < most_calls
+    pub stays : kept before after
+    pub error : reply ≡ system_error_of told
+    pub same : new ≡ old
 
--- What a connection gets for a record, from some state of the machine to some other.
-pub data Answers {K : Type 0} (calls_of : K → ℕ) (step : ℕ → List ℕ → K → List ℕ → K → Type 0) (kept : K → K → Type 0)
-    (old : Caller) (told reply : List ℕ) (new : Caller) : Type 0 where
-  Step : (before after : K) → Stepped calls_of step before after old told reply new → Answers calls_of step kept old told reply new
-  Full : (before after : K) → Spent calls_of before after old reply new → Answers calls_of step kept old told reply new
-  Short : (before after : K) → Starved calls_of kept before after old told reply new → Answers calls_of step kept old told reply new
+  -- What a connection gets for a record, from such a state of the machine.
+  pub data Answers (old : Caller) (told reply : List ℕ) (new : Caller) : Type 0 where
+    Step : (before after : K) → Stepped before after old told reply new → Answers old told reply new
+    Full : (before : K) → Spent before old reply new → Answers old told reply new
+    Short : (before after : K) → Starved before after old told reply new → Answers old told reply new

@@ -3,4 +3,5 @@ pub mod Answering
 pub mod Counting
 pub mod Hanging
 pub mod Keeping
+pub mod Reaching
 pub mod Serving

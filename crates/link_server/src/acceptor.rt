@@ -4,7 +4,7 @@ ghost use Rattle.link_server.specs.Accepting.{KeptAt, Waits, GoesOn};
 ghost use Rattle.link_server.specs.Keeping.{books_of, Serves, StopIs};
 
 use crate::bell::Bell;
-use crate::counted::Counted;
+use crate::counted::{Counted, Origin};
 use crate::machine::Machine;
 use crate::site::Site;
 use crate::tally::{EACH_RECORDS, MOST_LINKS, Stop, Tally};
@@ -12,7 +12,7 @@ use net_links::{Dialed, Halves, Net};
 use rpc_msg::{Sink, Source};
 use std::alloc::Global;
 use std::marker::{Send, Sync};
-use std::sync::ledger::{Ledger, Share};
+use std::sync::ledger::Share;
 use std::sync::{Mutex, Wait};
 use std::thread::{self, Scope, Threads};
 
@@ -21,7 +21,7 @@ fn accept_one<
     's,
     E,
     R: Threads + Wait + Sync,
-    C: Ledger + Send + 's,
+    C: Origin<K> + Send + 's,
     K: Machine + Send + 's,
     F: Source + Send + Drop + 's,
     T: Sink + Send + Drop + 's,
@@ -36,8 +36,8 @@ fn accept_one<
     net: &mut N,
 ) -> Option<Stop>
     requires more { site.old.tally.accepted < 2 ^ 32 - 1 }
-    requires kept { N.Told → KeptAt (Answers K.calls_of K.step K.kept) (books_of N.hung N.up N.accepted net.old) site.old }
-    ensures kept { N.Told → KeptAt (Answers K.calls_of K.step K.kept) (books_of N.hung N.up N.accepted net.new) site.new }
+    requires kept { N.Told → KeptAt (Answers K.calls_of K.step K.kept C.origin) (books_of N.hung N.up N.accepted net.old) site.old }
+    ensures kept { N.Told → KeptAt (Answers K.calls_of K.step K.kept C.origin) (books_of N.hung N.up N.accepted net.new) site.new }
     ensures goes { GoesOn N.Told (N.coming net.new) (N.faults net.old) (N.faults net.new) site.old site.new result }
     ensures later { N.faults net.old ≤ N.faults net.new }
 {
@@ -64,7 +64,7 @@ fn accept_all<
     's,
     E,
     R: Threads + Wait + Sync,
-    C: Ledger + Send + 's,
+    C: Origin<K> + Send + 's,
     K: Machine + Send + 's,
     F: Source + Send + Drop + 's,
     T: Sink + Send + Drop + 's,
@@ -80,7 +80,7 @@ fn accept_all<
     net: &mut N,
 ) -> Tally
     requires { MOST_LINKS + 2 ≤ all.parts }
-    ensures served { N.Told → Serves (Answers K.calls_of K.step K.kept)
+    ensures served { N.Told → Serves (Answers K.calls_of K.step K.kept C.origin)
         (books_of N.hung N.up N.accepted net.old) (books_of N.hung N.up N.accepted net.new) result }
     ensures stop { StopIs N.Told conns result.accepted result.left (N.coming net.new) (N.faults net.old) (N.faults net.new) result.stop }
     ensures later { N.faults net.old ≤ N.faults net.new }
@@ -106,7 +106,7 @@ fn accept_all<
 /// is left, or no record is. The share has eighteen parts of the ledger at least, and no connection's calls.
 pub fn serve<
     R: Threads + Wait + Sync,
-    C: Ledger + Send,
+    C: Origin<K> + Send,
     K: Machine + Send,
     F: Source + Send + Drop,
     T: Sink + Send + Drop,
@@ -120,7 +120,7 @@ pub fn serve<
     net: &mut N,
 ) -> Tally
     requires { MOST_LINKS + 2 ≤ all.parts }
-    ensures served { N.Told → Serves (Answers K.calls_of K.step K.kept)
+    ensures served { N.Told → Serves (Answers K.calls_of K.step K.kept C.origin)
         (books_of N.hung N.up N.accepted net.old) (books_of N.hung N.up N.accepted net.new) result }
     ensures stop { StopIs N.Told conns result.accepted result.left (N.coming net.new) (N.faults net.old) (N.faults net.new) result.stop }
     ensures later { N.faults net.old ≤ N.faults net.new }
@@ -133,7 +133,7 @@ pub fn serve<
         |scope| -> (&mut N, Tally)
             requires { MOST_LINKS + 2 ≤ all.parts }
             ensures name { result.0.ghost_name ≡ net.entry.ghost_name }
-            ensures served { N.Told → Serves (Answers K.calls_of K.step K.kept)
+            ensures served { N.Told → Serves (Answers K.calls_of K.step K.kept C.origin)
                 (books_of N.hung N.up N.accepted net.entry.now) (books_of N.hung N.up N.accepted result.0.now) result.1 }
             ensures stop { StopIs N.Told conns result.1.accepted result.1.left (N.coming result.0.now) (N.faults net.entry.now) (N.faults result.0.now) result.1.stop }
             ensures later { N.faults net.entry.now ≤ N.faults result.0.now }

@@ -1,37 +1,55 @@
-ghost use Rattle.std.specs.Prelude.{◌≡◌, ◌<◌, ◌≤◌, length, IfOk, OnErr};
+ghost use Rattle.std.specs.Prelude.{◌≡◌, ◌<◌, ◌≤◌, length, IfOk, OnErr, Option, Some};
 ghost use Rattle.rpc_msg.specs.Records.{record_limit};
 ghost use Rattle.link_server.specs.Answering.{Answers, Starved, system_error_of};
+ghost use Rattle.link_server.specs.Reaching.{ReachedFrom};
 
 use crate::machine::{MOST_CALLS, Machine};
 use outcome::Mem;
 use std::alloc::Global;
-use std::marker::Model;
+use std::marker::{Brand, Model};
 use std::sync::ledger::{Book, Ledger, Share};
 use wire_xdr::Octets;
 
+/// The ledger of the calls that connections make of a server's machine, and the machine as the server began with it.
+pub trait Origin<K>: Ledger {
+    // As it was then, where it is known.
+    ghost origin: { Option K };
+}
+
+impl<K> Origin<K> for Brand {
+    ghost use Rattle.std.specs.Prelude.{None};
+
+    ghost origin = { None };
+}
+
 /// A machine, with the book of the calls that connections made of it and that found memory. Its total is at most the machine's
-/// count, so that no connection made more calls than the machine.
+/// count, so that no connection made more calls than the machine; and the machine has come to its state by calls since the server began.
 #[derive(Drop)]
-pub struct Counted<C: Ledger, K: Machine> {
+pub struct Counted<C: Origin<K>, K: Machine> {
     machine: K,
     book: Book<C>,
 }
 
-impl<C: Ledger, K: Machine> Model for Counted<C, K> {
+impl<C: Origin<K>, K: Machine> Model for Counted<C, K> {
     ghost use Rattle.std.specs.Prelude.{◌≤◌};
     ghost use Rattle.link_server.specs.Counting.{CountedState};
+    ghost use Rattle.link_server.specs.Reaching.{ReachedFrom};
 
     ghost Value = { CountedState K };
 
     ghost view = { λ c. record { machine = c.machine; booked = c.book.total } };
 
-    ghost invariant = { λ c. c.book.total ≤ K.calls_of c.machine };
+    ghost invariant = { λ c. record {
+      booked : c.book.total ≤ K.calls_of c.machine;
+      reached : ReachedFrom K.calls_of K.step K.kept C.origin c.machine;
+    } };
 }
 
-impl<C: Ledger, K: Machine> Counted<C, K> {
-    /// A machine, with a book whose total is at most the machine's count of calls.
+impl<C: Origin<K>, K: Machine> Counted<C, K> {
+    /// The machine with which the server begins, with a book whose total is at most the machine's count of calls.
     pub fn new(machine: K, book: Book<C>) -> Counted<C, K>
-        requires { book.total ≤ K.calls_of machine }
+        requires booked { book.total ≤ K.calls_of machine }
+        requires origin { C.origin ≡ Some machine }
         ensures { result ≡ record { machine = machine; booked = book.total } }
     {
         Counted { machine, book }
@@ -46,7 +64,8 @@ impl<C: Ledger, K: Machine> Counted<C, K> {
 
     /// The machine, handed back.
     pub fn hand_back(self) -> K
-        ensures { result ≡ self.machine }
+        ensures is { result ≡ self.machine }
+        ensures reached { ReachedFrom K.calls_of K.step K.kept C.origin result }
     {
         let Counted { machine, book: _ } = self;
         machine
@@ -64,9 +83,9 @@ impl<C: Ledger, K: Machine> Counted<C, K> {
         requires { 0 < mine.old.parts }
         ensures parts { mine.new.parts ≡ mine.old.parts }
         ensures small { IfOk result (λ reply. length reply ≤ record_limit) }
-        ensures answered { IfOk result (λ reply. Answers K.calls_of K.step K.kept
+        ensures answered { IfOk result (λ reply. Answers K.calls_of K.step K.kept C.origin
             (record { conn = conn; calls = mine.old.amount }) record_.now reply (record { conn = conn; calls = mine.new.amount })) }
-        ensures err { OnErr result (Starved K.calls_of K.kept self.old.machine self.new.machine
+        ensures err { OnErr result (Starved K.calls_of K.step K.kept C.origin self.old.machine self.new.machine
             (record { conn = conn; calls = mine.old.amount }) record_.now (system_error_of record_.now) (record { conn = conn; calls = mine.new.amount })) }
     {
         self.book.audit(mine);

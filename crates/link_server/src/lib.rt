@@ -18,7 +18,7 @@ mod site;
 mod tally;
 
 pub use acceptor::serve;
-pub use counted::Counted;
+pub use counted::{Counted, Origin};
 pub use laws::links_are_hung_up_for_a_cause;
 pub use machine::{MOST_CALLS, Machine};
 pub use shared::Shared;

@@ -3,7 +3,7 @@ ghost use Rattle.net_links.specs.Links.{IsNew};
 ghost use Rattle.link_server.specs.Answering.{Answers};
 ghost use Rattle.link_server.specs.Serving.{ServedIs, Went};
 
-use crate::counted::Counted;
+use crate::counted::{Counted, Origin};
 use crate::machine::Machine;
 use crate::shared::Shared;
 use rpc_msg::{Pumped, RecordFeed, Sink, Source, pump_records};
@@ -23,7 +23,7 @@ pub(crate) struct Closed<C: Ledger, F, T> {
 }
 
 // Serves the records of a new connection, at most as many as are given.
-pub(crate) fn serve_link<R: Wait, C: Ledger, K: Machine, F: Source, T: Sink>(
+pub(crate) fn serve_link<R: Wait, C: Origin<K>, K: Machine, F: Source, T: Sink>(
     rt: &R,
     alloc: Global,
     desk: &Mutex<Counted<C, K>>,
@@ -37,7 +37,7 @@ pub(crate) fn serve_link<R: Wait, C: Ledger, K: Machine, F: Source, T: Sink>(
     requires calls { mine.amount ≡ 0 }
     requires new { IsNew (record { brings = F.gives from; takes = T.takes to }) }
     ensures part { 0 < result.mine.parts }
-    ensures served { ServedIs (Answers K.calls_of K.step K.kept) given result.unused result.end
+    ensures served { ServedIs (Answers K.calls_of K.step K.kept C.origin) given result.unused result.end
         (record { brings = F.gives result.from; takes = T.takes result.to }) }
 {
     let mut from = from;
@@ -55,14 +55,14 @@ pub(crate) fn serve_link<R: Wait, C: Ledger, K: Machine, F: Source, T: Sink>(
 }
 
 // Pumps until the connection ends, and answers nothing where memory is wanted.
-fn pump<R: Wait, C: Ledger, K: Machine, F: Source, T: Sink>(
+fn pump<R: Wait, C: Origin<K>, K: Machine, F: Source, T: Sink>(
     alloc: Global,
     from: &mut F,
     to: &mut T,
     handler: &mut Shared<'_, R, C, K>,
     left: &mut u64,
 ) -> Option<Pumped>
-    ensures went { Went (Answers K.calls_of K.step K.kept) handler.old handler.new
+    ensures went { Went (Answers K.calls_of K.step K.kept C.origin) handler.old handler.new
         (record { brings = F.gives from.old; takes = T.takes to.old }) (record { brings = F.gives from.new; takes = T.takes to.new })
         left.old left.new result }
     ensures whole { (F.gives from.new).whole ≡ (F.gives from.old).whole }

@@ -2,26 +2,26 @@ ghost use Rattle.std.specs.Prelude.{◌≡◌, ◌<◌, ◌≤◌, length, IfOk,
 ghost use Rattle.rpc_msg.specs.Records.{record_limit};
 ghost use Rattle.link_server.specs.Answering.{Answers, xid_of, system_error_of};
 
-use crate::counted::Counted;
+use crate::counted::{Counted, Origin};
 use crate::machine::Machine;
 use outcome::Mem;
 use rpc_msg::{CALL, Handler, system_error};
 use std::alloc::Global;
 use std::marker::Model;
-use std::sync::ledger::{Ledger, Share};
+use std::sync::ledger::Share;
 use std::sync::{Mutex, Wait};
 use wire_xdr::Octets;
 
 /// Answers the records of one connection by a machine that others call too. It holds the lock for one call at a time.
 #[derive(Drop)]
-pub struct Shared<'a, R, C: Ledger, K: Machine> {
+pub struct Shared<'a, R, C: Origin<K>, K: Machine> {
     rt: &'a R,
     desk: &'a Mutex<Counted<C, K>>,
     mine: Share<C>,
     conn: u32,
 }
 
-impl<'a, R, C: Ledger, K: Machine> Model for Shared<'a, R, C, K> {
+impl<'a, R, C: Origin<K>, K: Machine> Model for Shared<'a, R, C, K> {
     ghost use Rattle.std.specs.Prelude.{◌<◌};
     ghost use Rattle.link_server.specs.Answering.{Caller};
 
@@ -32,7 +32,7 @@ impl<'a, R, C: Ledger, K: Machine> Model for Shared<'a, R, C, K> {
     ghost invariant = { λ s. 0 < s.mine.parts };
 }
 
-impl<'a, R: Wait, C: Ledger, K: Machine> Shared<'a, R, C, K> {
+impl<'a, R: Wait, C: Origin<K>, K: Machine> Shared<'a, R, C, K> {
     /// The handler of a connection, whose calls the share has.
     pub fn new(
         rt: &'a R,
@@ -61,8 +61,8 @@ impl<'a, R: Wait, C: Ledger, K: Machine> Shared<'a, R, C, K> {
     }
 }
 
-impl<'a, R: Wait, C: Ledger, K: Machine> Handler for Shared<'a, R, C, K> {
-    ghost answers = { Answers K.calls_of K.step K.kept };
+impl<'a, R: Wait, C: Origin<K>, K: Machine> Handler for Shared<'a, R, C, K> {
+    ghost answers = { Answers K.calls_of K.step K.kept C.origin };
 
     fn on(&mut self, alloc: Global, record_: &[u8]) -> Mem<Octets> {
         let mut room = Vec::with_capacity(alloc, 24)?;

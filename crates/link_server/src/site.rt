@@ -6,7 +6,7 @@ ghost use Rattle.link_server.specs.Keeping.{books_of};
 ghost use Rattle.link_server.specs.Serving.{ServedIs};
 
 use crate::bell::Bell;
-use crate::counted::Counted;
+use crate::counted::{Counted, Origin};
 use crate::link::{Closed, serve_link};
 use crate::machine::Machine;
 use crate::running::{Running, start};
@@ -16,20 +16,20 @@ use rpc_msg::{Pumped, Sink, Source};
 use std::alloc::Global;
 use std::marker::{Model, Send, Sync};
 use std::snapshot::Snapshot;
-use std::sync::ledger::{Ledger, Share};
+use std::sync::ledger::Share;
 use std::sync::{Mutex, Wait};
 use std::thread::{Scope, Threads};
 
 // A server that accepts: the connections that threads serve, what is left of the share of calls, and what was done.
 #[derive(Drop)]
-pub(crate) struct Site<C: Ledger, K: Machine, F: Source + Drop, T: Sink + Drop, N: Net> {
+pub(crate) struct Site<C: Origin<K>, K: Machine, F: Source + Drop, T: Sink + Drop, N: Net> {
     before: Snapshot<N>,
     running: Vec<Running<C, K, F, T>>,
     all: Share<C>,
     tally: Tally,
 }
 
-impl<C: Ledger, K: Machine, F: Source + Drop, T: Sink + Drop, N: Net> Model
+impl<C: Origin<K>, K: Machine, F: Source + Drop, T: Sink + Drop, N: Net> Model
     for Site<C, K, F, T, N> {
     ghost use Rattle.std.specs.Prelude.{◌+◌, ◌*◌, ◌≤◌, vec_len};
     ghost use Rattle.link_server.specs.Accepting.{SiteState};
@@ -52,7 +52,7 @@ impl<C: Ledger, K: Machine, F: Source + Drop, T: Sink + Drop, N: Net> Model
     } };
 }
 
-impl<C: Ledger, K: Machine, F: Source + Drop, T: Sink + Drop, N: Net<From = F, To = T>> Site<
+impl<C: Origin<K>, K: Machine, F: Source + Drop, T: Sink + Drop, N: Net<From = F, To = T>> Site<
     C,
     K,
     F,
@@ -85,12 +85,12 @@ impl<C: Ledger, K: Machine, F: Source + Drop, T: Sink + Drop, N: Net<From = F, T
 
     // Hangs up a connection that was served, and takes back the records that it left.
     fn hang(&mut self, net: &mut N, from: F, to: T, end: Option<Pumped>, given: u64, unused: u64)
-        requires served { ServedIs (Answers K.calls_of K.step K.kept) given unused end (record { brings = F.gives from; takes = T.takes to }) }
+        requires served { ServedIs (Answers K.calls_of K.step K.kept C.origin) given unused end (record { brings = F.gives from; takes = T.takes to }) }
         requires lent { LentIs given self.old }
         requires room { self.old.tally.left + EACH_RECORDS * self.old.running + given ≤ ALL_RECORDS }
         requires counted { self.old.tally.starved + self.old.running < self.old.tally.accepted }
-        requires kept { N.Told → KeptWith (Answers K.calls_of K.step K.kept) (books_of N.hung N.up N.accepted net.old) given self.old }
-        ensures kept { N.Told → KeptAt (Answers K.calls_of K.step K.kept) (books_of N.hung N.up N.accepted net.new) self.new }
+        requires kept { N.Told → KeptWith (Answers K.calls_of K.step K.kept C.origin) (books_of N.hung N.up N.accepted net.old) given self.old }
+        ensures kept { N.Told → KeptAt (Answers K.calls_of K.step K.kept C.origin) (books_of N.hung N.up N.accepted net.new) self.new }
         ensures running { self.new.running ≡ self.old.running }
         ensures waits { Waits self.old self.new }
         ensures coming { N.Told → N.coming net.new ≡ N.coming net.old }
@@ -103,8 +103,8 @@ impl<C: Ledger, K: Machine, F: Source + Drop, T: Sink + Drop, N: Net<From = F, T
     // Waits for the thread of one connection, and hangs it up.
     fn finish<R: Threads>(&mut self, rt: &R, bell: &Bell, net: &mut N, at: usize)
         requires some { at < self.old.running }
-        requires kept { N.Told → KeptAt (Answers K.calls_of K.step K.kept) (books_of N.hung N.up N.accepted net.old) self.old }
-        ensures kept { N.Told → KeptAt (Answers K.calls_of K.step K.kept) (books_of N.hung N.up N.accepted net.new) self.new }
+        requires kept { N.Told → KeptAt (Answers K.calls_of K.step K.kept C.origin) (books_of N.hung N.up N.accepted net.old) self.old }
+        ensures kept { N.Told → KeptAt (Answers K.calls_of K.step K.kept C.origin) (books_of N.hung N.up N.accepted net.new) self.new }
         ensures running { self.new.running + 1 ≡ self.old.running }
         ensures waits { Waits self.old self.new }
         ensures coming { N.Told → N.coming net.new ≡ N.coming net.old }
@@ -151,8 +151,8 @@ impl<C: Ledger, K: Machine, F: Source + Drop, T: Sink + Drop, N: Net<From = F, T
 
     // Hangs up those that have ended, without waiting for any other.
     pub(crate) fn gather<R: Threads>(&mut self, rt: &R, bell: &Bell, net: &mut N)
-        requires kept { N.Told → KeptAt (Answers K.calls_of K.step K.kept) (books_of N.hung N.up N.accepted net.old) self.old }
-        ensures kept { N.Told → KeptAt (Answers K.calls_of K.step K.kept) (books_of N.hung N.up N.accepted net.new) self.new }
+        requires kept { N.Told → KeptAt (Answers K.calls_of K.step K.kept C.origin) (books_of N.hung N.up N.accepted net.old) self.old }
+        ensures kept { N.Told → KeptAt (Answers K.calls_of K.step K.kept C.origin) (books_of N.hung N.up N.accepted net.new) self.new }
         ensures waits { Waits self.old self.new }
         ensures coming { N.Told → N.coming net.new ≡ N.coming net.old }
         ensures faults { N.faults net.new ≡ N.faults net.old }
@@ -164,8 +164,8 @@ impl<C: Ledger, K: Machine, F: Source + Drop, T: Sink + Drop, N: Net<From = F, T
 
     // Waits until fewer are served than may be at once.
     pub(crate) fn make_room<R: Threads + Wait>(&mut self, rt: &R, bell: &Bell, net: &mut N)
-        requires kept { N.Told → KeptAt (Answers K.calls_of K.step K.kept) (books_of N.hung N.up N.accepted net.old) self.old }
-        ensures kept { N.Told → KeptAt (Answers K.calls_of K.step K.kept) (books_of N.hung N.up N.accepted net.new) self.new }
+        requires kept { N.Told → KeptAt (Answers K.calls_of K.step K.kept C.origin) (books_of N.hung N.up N.accepted net.old) self.old }
+        ensures kept { N.Told → KeptAt (Answers K.calls_of K.step K.kept C.origin) (books_of N.hung N.up N.accepted net.new) self.new }
         ensures room { self.new.running < MOST_LINKS }
         ensures waits { Waits self.old self.new }
         ensures coming { N.Told → N.coming net.new ≡ N.coming net.old }
@@ -180,8 +180,8 @@ impl<C: Ledger, K: Machine, F: Source + Drop, T: Sink + Drop, N: Net<From = F, T
 
     // Waits until all have ended, and hangs each up as it ends.
     pub(crate) fn wait_for_all<R: Threads + Wait>(&mut self, rt: &R, bell: &Bell, net: &mut N)
-        requires kept { N.Told → KeptAt (Answers K.calls_of K.step K.kept) (books_of N.hung N.up N.accepted net.old) self.old }
-        ensures kept { N.Told → KeptAt (Answers K.calls_of K.step K.kept) (books_of N.hung N.up N.accepted net.new) self.new }
+        requires kept { N.Told → KeptAt (Answers K.calls_of K.step K.kept C.origin) (books_of N.hung N.up N.accepted net.old) self.old }
+        ensures kept { N.Told → KeptAt (Answers K.calls_of K.step K.kept C.origin) (books_of N.hung N.up N.accepted net.new) self.new }
         ensures none { self.new.running ≡ 0 }
         ensures idle { self.old.running ≡ 0 → self.new ≡ self.old }
         ensures waits { Waits self.old self.new }
@@ -223,8 +223,8 @@ impl<C: Ledger, K: Machine, F: Source + Drop, T: Sink + Drop, N: Net<From = F, T
         requires room { self.old.running < MOST_LINKS }
         requires records { self.old.tally.left < EACH_RECORDS → self.old.running ≡ 0 }
         requires counted { self.old.tally.starved + self.old.running < self.old.tally.accepted }
-        requires kept { N.Told → KeptWith (Answers K.calls_of K.step K.kept) (books_of N.hung N.up N.accepted net.old) 0 self.old }
-        ensures kept { N.Told → KeptAt (Answers K.calls_of K.step K.kept) (books_of N.hung N.up N.accepted net.new) self.new }
+        requires kept { N.Told → KeptWith (Answers K.calls_of K.step K.kept C.origin) (books_of N.hung N.up N.accepted net.old) 0 self.old }
+        ensures kept { N.Told → KeptAt (Answers K.calls_of K.step K.kept C.origin) (books_of N.hung N.up N.accepted net.new) self.new }
         ensures waits { Waits self.old self.new }
         ensures coming { N.Told → N.coming net.new ≡ N.coming net.old }
         ensures faults { N.faults net.new ≡ N.faults net.old }
@@ -265,8 +265,8 @@ impl<C: Ledger, K: Machine, F: Source + Drop, T: Sink + Drop, N: Net<From = F, T
         requires room { self.old.running < MOST_LINKS }
         requires records { EACH_RECORDS ≤ self.old.tally.left }
         requires counted { self.old.tally.starved + self.old.running < self.old.tally.accepted }
-        requires kept { N.Told → KeptWith (Answers K.calls_of K.step K.kept) (books_of N.hung N.up N.accepted net.old) 0 self.old }
-        ensures kept { N.Told → KeptAt (Answers K.calls_of K.step K.kept) (books_of N.hung N.up N.accepted net.new) self.new }
+        requires kept { N.Told → KeptWith (Answers K.calls_of K.step K.kept C.origin) (books_of N.hung N.up N.accepted net.old) 0 self.old }
+        ensures kept { N.Told → KeptAt (Answers K.calls_of K.step K.kept C.origin) (books_of N.hung N.up N.accepted net.new) self.new }
         ensures waits { Waits self.old self.new }
         ensures coming { N.Told → N.coming net.new ≡ N.coming net.old }
         ensures faults { N.faults net.new ≡ N.faults net.old }
@@ -316,8 +316,8 @@ impl<C: Ledger, K: Machine, F: Source + Drop, T: Sink + Drop, N: Net<From = F, T
         requires room { self.old.running < MOST_LINKS }
         requires records { self.old.tally.left < EACH_RECORDS → self.old.running ≡ 0 }
         requires more { self.old.tally.accepted < 2 ^ 32 - 1 }
-        requires kept { N.Told → KeptNew (Answers K.calls_of K.step K.kept) (books_of N.hung N.up N.accepted net.old) self.old }
-        ensures kept { N.Told → KeptAt (Answers K.calls_of K.step K.kept) (books_of N.hung N.up N.accepted net.new) self.new }
+        requires kept { N.Told → KeptNew (Answers K.calls_of K.step K.kept C.origin) (books_of N.hung N.up N.accepted net.old) self.old }
+        ensures kept { N.Told → KeptAt (Answers K.calls_of K.step K.kept C.origin) (books_of N.hung N.up N.accepted net.new) self.new }
         ensures before { self.new.before ≡ self.old.before }
         ensures accepted { self.new.tally.accepted ≡ self.old.tally.accepted + 1 }
         ensures coming { N.Told → N.coming net.new ≡ N.coming net.old }

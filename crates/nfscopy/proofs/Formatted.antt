@@ -11,7 +11,7 @@ use Rattle.nfscopy.specs.ExitStatus.{format_status, serve_status}
 use Rattle.nfscopy.specs.Outside.{Outside}
 use Rattle.nfscopy.specs.RunEnds.{RunWords}
 
-pub ends_format : {D M N : Type 0} (w : DiskWords D) (r : RunWords M) (s : ServiceWords N) (v : Numbers) (command : Option Command) (before now : Outside D)
+pub ends_format : {D K M N : Type 0} (w : DiskWords D) (r : RunWords M) (s : ServiceWords D K N) (v : Numbers) (command : Option Command) (before now : Outside D)
     (net : N) (code : ℕ) → Some (Format v) ≡ command → EndsAs format_status (FormatEnds w v before now) code → now.dest ≡ before.dest
     → now.left ≡ before.left → now.reads ≡ before.reads → before.writes ≤ now.writes → Ends w r s command before now net net code
 ends_format w r s v command before now net code asked ends dest left reads writes =
@@ -23,7 +23,7 @@ ends_format w r s v command before now net code asked ends dest left reads write
       unserved = λ none. refl;
     })
 
-pub ends_serve : {D M N : Type 0} (w : DiskWords D) (r : RunWords M) (s : ServiceWords N) (service : Service) (command : Option Command)
+pub ends_serve : {D K M N : Type 0} (w : DiskWords D) (r : RunWords M) (s : ServiceWords D K N) (service : Service) (command : Option Command)
     (before now : Outside D) (net net_now : N) (code : ℕ) → Some (ServeSource service) ≡ command
     → EndsAs serve_status (SourceEnds w s service before now net net_now) code → now.dest ≡ before.dest → now.left ≡ before.left
     → now.reads ≡ before.reads → before.writes ≤ now.writes → Ends w r s command before now net net_now code

@@ -6,11 +6,11 @@ use Rattle.disk_model.specs.Disk.{Image, MayLeave}
 use Rattle.disk_model.specs.Elapsed.{present}
 use Rattle.gss_ctx.specs.Seals.{Mic}
 use Rattle.gss_mech.specs.declared.mechanism.Accepted.{Accepted}
-use Rattle.link_server.specs.Answering.{Caller}
 use Rattle.outcome.specs.Causes.{Rose}
 use Rattle.server_volume.specs.Store.{Seat}
-use Rattle.source_server.specs.Machine.{source_answers, words_of}
-use Rattle.source_server.specs.Serving.{NetWords, ServeEnds}
+use Rattle.source_server.specs.Machine.{source_words, words_of}
+use Rattle.source_server.specs.Serving.{NetWords, ServeEnds, ServerWords}
+use Rattle.source_server.specs.declared.machine.SourceMachine.{SourceMachine}
 use Rattle.source_server.specs.declared.serving.ServeEnd.{ServeEnd}
 use Rattle.streams.specs.Sink.{AppendsFront}
 use Rattle.streams.specs.declared.draws.Drawn.{Drawn}
@@ -29,6 +29,7 @@ use Rattle.nfscopy.specs.GenEnds.{GenEnds, gen_events}
 use Rattle.nfscopy.specs.Input.{asked}
 use Rattle.nfscopy.specs.Notice.{usage_text}
 use Rattle.volume_format.specs.DiskWords.{DiskWords}
+use Rattle.wire_run.specs.Setting.{source_peers, source_place}
 use Rattle.nfscopy.specs.Outside.{Outside, SameDisks, SameInput}
 use Rattle.nfscopy.specs.RunEnds.{KeepsIf, RunEnds, RunWords, RunsKeep}
 use Rattle.nfscopy.specs.ShowEnds.{ShowEnds}
@@ -48,26 +49,28 @@ pub record EndsAs {E : Type 0} (status_of : E → ExitStatus) (Says : E → Type
   pub is : code ≡ code_of (status_of end)
   pub says : Says end
 
--- How a server speaks of what it serves: its net's words, and what each of its connections gets for a record.
-pub record ServiceWords (N : Type 0) : Type 1 where
+-- How a server speaks of what it serves: its net's words, and those of its machine.
+pub record ServiceWords (D K N : Type 0) : Type 1 where
   pub net : NetWords N
-  pub answers : Caller → List ℕ → List ℕ → Caller → Type 0
+  pub server : ServerWords D K
 
--- the answers of a source by this mechanism, and by what its disk, its mechanism and its draws tell of themselves
-abbrev pub answers_by : {D M W : Type 0} → (C : Type 0) → M → Type 0 → (D → ℕ) → (Opened D → Seat) → Mic → (List ℕ → ℕ → List ℕ → List ℕ)
-    → (M → List ℕ → List ℕ → Option Accepted) → (W → Drawn → W → Type 0) → Caller → List ℕ → List ℕ → Caller → Type 0
-answers_by C mech told size seat mic derived accepted gives = source_answers C (words_of told size seat mic derived accepted gives)
+abbrev pub service_words : {D K N : Type 0} → NetWords N → ServerWords D K → ServiceWords D K N
+service_words net server = record { net = net; server = server }
 
-abbrev pub service_words : {N : Type 0} → NetWords N → (Caller → List ℕ → List ℕ → Caller → Type 0) → ServiceWords N
-service_words net answers = record { net = net; answers = answers }
+-- the source by this mechanism, clock and draws, and by what its disk, its mechanism and its draws tell of themselves, with the location and
+-- the one peer that the source of every schedule has
+abbrev pub source_by : {D M C W : Type 0} → DiskWords D → M → C → W → (Opened D → Seat) → Mic → (List ℕ → ℕ → List ℕ → List ℕ)
+    → (M → List ℕ → List ℕ → Option Accepted) → (W → Drawn → W → Type 0) → ServerWords D (SourceMachine D M C W)
+source_by d mech clock draws seat mic derived accepted gives =
+    source_words d (words_of d.told d.size seat mic derived accepted gives) mech clock draws source_peers source_place
 
 -- a source is served, from the disk in the source's place
-abbrev pub SourceEnds : {D N : Type 0} → DiskWords D → ServiceWords N → Service → Outside D → Outside D → N → N → ServeEnd → Type 0
+abbrev pub SourceEnds : {D K N : Type 0} → DiskWords D → ServiceWords D K N → Service → Outside D → Outside D → N → N → ServeEnd → Type 0
 SourceEnds w s service before now net net_now end =
-    ServeEnds w s.net s.answers service.conns before.taken now.taken before.writes now.writes net net_now before.source now.source end
+    ServeEnds w s.net s.server service.conns before.taken now.taken before.writes now.writes net net_now before.source now.source end
 
 -- how the program ends for its words, from what was outside before to what is outside then
-abbrev pub EndsBy : {D M N : Type 0} → DiskWords D → RunWords M → ServiceWords N → Option Command → Outside D → Outside D → N → N → ℕ → Type 0
+abbrev pub EndsBy : {D K M N : Type 0} → DiskWords D → RunWords M → ServiceWords D K N → Option Command → Outside D → Outside D → N → N → ℕ → Type 0
 EndsBy w r s None before now net net_now code =
     EndsAs usage_status (UsageEnds before.taken now.taken before.writes now.writes) code × SameDisks before now
 EndsBy w r s (Some Run) before now net net_now code = EndsAs run_status (RunEnds w r before now) code × KeepsIf r (option_map asked before.left)
@@ -80,7 +83,7 @@ EndsBy w r s (Some (ServeSource service)) before now net net_now code =
     EndsAs serve_status (SourceEnds w s service before now net net_now) code × (now.dest ≡ before.dest) × SameInput before now
 
 -- The same; the counts of faults never fell, and a command that serves no connections leaves the net alone.
-pub record Ends {D M N : Type 0} (w : DiskWords D) (r : RunWords M) (s : ServiceWords N) (command : Option Command) (before now : Outside D)
+pub record Ends {D K M N : Type 0} (w : DiskWords D) (r : RunWords M) (s : ServiceWords D K N) (command : Option Command) (before now : Outside D)
     (net net_now : N) (code : ℕ) : Type 0 where
   pub ends : EndsBy w r s command before now net net_now code
   pub reads : before.reads ≤ now.reads

@@ -2,13 +2,13 @@
 
 ghost use Rattle.std.specs.Prelude.{◌≡◌, ◌≤◌, true, is_some, IfOk, IfSome};
 ghost use Rattle.link_server.specs.Keeping.{books_of};
-ghost use Rattle.nfscopy.specs.Ends.{EndsAs, MayOpen};
+ghost use Rattle.nfscopy.specs.Ends.{EndsAs, MayOpen, source_by};
 ghost use Rattle.nfscopy.specs.ExitStatus.{serve_status};
 ghost use Rattle.server_volume.specs.Store.{seat_of};
 ghost use Rattle.source_core.specs.Location.{IsShort};
-ghost use Rattle.source_server.specs.Machine.{source_answers, words_of};
 ghost use Rattle.source_server.specs.Serving.{net_words, ServeEnds};
 ghost use Rattle.volume_format.specs.DiskWords.{disk_words};
+ghost use Rattle.wire_run.specs.Setting.{source_peers, source_place};
 
 use crate::ends::serve_code;
 use disk_model::Disk;
@@ -48,7 +48,7 @@ pub(crate) fn serve<
     requires there { is_some disk.old ≡ true }
     requires volume { IfSome disk.old (MayOpen (disk_words D.Told D.faults D.size D.timeline)) }
     ensures ends { EndsAs serve_status (ServeEnds (disk_words D.Told D.faults D.size D.timeline) (net_words N.Told N.coming N.faults (books_of N.hung N.up N.accepted))
-        (source_answers C (words_of D.Told D.size (seat_of D.size D.fuse D.timeline D.faults) M.mic_of M.derived M.accepted W.gives)) conns
+        (source_by (disk_words D.Told D.faults D.size D.timeline) mech clock draws (seat_of D.size D.fuse D.timeline D.faults) M.mic_of M.derived M.accepted W.gives) conns
         (K.takes output.old).taken (K.takes output.new).taken (K.takes output.old).faults (K.takes output.new).faults net.old net.new disk.old disk.new) result }
     ensures later { (K.takes output.old).faults ≤ (K.takes output.new).faults }
 {
@@ -62,7 +62,9 @@ pub(crate) fn serve<
 
 /// Whom the source knows: the destination that every schedule has, too.
 fn acquaintance(alloc: Global) -> Mem<Acquaintance>
-    ensures { IfOk result (λ known. IsShort known.own) }
+    ensures peers { IfOk result (λ known. known.peers ≡ source_peers) }
+    ensures own { IfOk result (λ known. known.own ≡ source_place) }
+    ensures short { IfOk result (λ known. IsShort known.own) }
 {
     Ok(Acquaintance {
         peers: source_peers(alloc)?,

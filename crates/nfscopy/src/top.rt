@@ -2,7 +2,7 @@ ghost use Rattle.std.specs.Prelude.{map};
 ghost use Rattle.std.specs.String.{string_bytes};
 ghost use Rattle.nfscopy.specs.Command.{command_of};
 ghost use Rattle.link_server.specs.Keeping.{books_of};
-ghost use Rattle.nfscopy.specs.Ends.{Ends, HasDisks, answers_by, service_words};
+ghost use Rattle.nfscopy.specs.Ends.{Ends, HasDisks, service_words, source_by};
 ghost use Rattle.nfscopy.specs.Outside.{outside};
 ghost use Rattle.server_volume.specs.Store.{seat_of};
 ghost use Rattle.source_server.specs.Serving.{net_words};
@@ -56,7 +56,8 @@ pub fn nfscopy<
 ) -> u8
     requires { HasDisks (disk_words D.Told D.faults D.size D.timeline) (command_of (map string_bytes words.now)) disks.old.source disks.old.dest }
     ensures { Ends (disk_words D.Told D.faults D.size D.timeline) (run_words mech.entry M.mic_of M.derived (λ m. M.started m.now) (λ m. M.accepted m.now) (λ m. M.finished m.now))
-        (service_words (net_words N.Told N.coming N.faults (books_of N.hung N.up N.accepted)) (answers_by C mech.entry D.Told D.size (seat_of D.size D.fuse D.timeline D.faults) M.mic_of M.derived (λ m. M.accepted m.now) W.gives))
+        (service_words (net_words N.Told N.coming N.faults (books_of N.hung N.up N.accepted))
+        (source_by (disk_words D.Told D.faults D.size D.timeline) mech.entry clock draws (seat_of D.size D.fuse D.timeline D.faults) M.mic_of M.derived (λ m. M.accepted m.now) W.gives))
         (command_of (map string_bytes words.now))
         (outside (S.gives input.old).left (K.takes output.old).taken (S.gives input.old).faults (K.takes output.old).faults disks.old.source disks.old.dest)
         (outside (S.gives input.new).left (K.takes output.new).taken (S.gives input.new).faults (K.takes output.new).faults disks.new.source disks.new.dest)

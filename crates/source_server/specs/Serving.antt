@@ -28,6 +28,14 @@ pub record NetWords (N : Type 0) : Type 1 where
 abbrev pub net_words : {N : Type 0} → Type 0 → (N → ℕ) → (N → ℕ) → (N → Books) → NetWords N
 net_words told coming faults books = record { told = told; coming = coming; faults = faults; books = books }
 
+-- The words in which a server's machine speaks of itself: that it was opened from a disk and nobody has called it yet; what a connection gets
+-- from a server that began with it; that it comes from one state to another by calls; and that it hands this disk back.
+pub record ServerWords (D K : Type 0) : Type 1 where
+  pub opens : D → K → Type 0
+  pub answers : K → Caller → List ℕ → List ℕ → Caller → Type 0
+  pub comes : K → K → Type 0
+  pub hands : K → D → Type 0
+
 -- The end of a server that accepted connections: a failure to accept, or else a connection that wanted memory, or none.
 abbrev pub end_if : (starved : Bool) → ServeEnd
 end_if true = ends.Done
@@ -39,20 +47,26 @@ end_by stops.All starved = end_if (starved == 0)
 end_by stops.End starved = end_if (starved == 0)
 end_by stops.Spent starved = end_if (starved == 0)
 
-module _ {D N : Type 0} (w : DiskWords D) (n : NetWords N) (answers : Caller → List ℕ → List ℕ → Caller → Type 0) (conns : ℕ)
+module _ {D K N : Type 0} (w : DiskWords D) (n : NetWords N) (s : ServerWords D K) (conns : ℕ)
     (taken taken_now : Option (List ℕ)) (writes writes_now : ℕ) (net net_now : N) where
-  -- Connections were accepted, served and hung up, and no more for this cause.
-  pub record ServesNet (tally : Tally) : Type 0 where
-    pub served : n.told → Serves answers (n.books net) (n.books net_now) tally
+  -- By a server that began with this machine connections were accepted, served and hung up, and no more for this cause.
+  pub record ServesNet (first : K) (tally : Tally) : Type 0 where
+    pub served : n.told → Serves (s.answers first) (n.books net) (n.books net_now) tally
     pub stop : StopIs n.told conns tally.accepted tally.left (n.coming net_now) (n.faults net) (n.faults net_now) tally.stop
 
-  -- The volume of the disk was opened and served; nothing was put. Whatever a crash may leave of the disk now can be opened again.
+  -- The volume of the disk was opened and served, and nothing was put. The disk is that of the machine as it was after the last of all
+  -- calls, and whatever a crash may leave of it now can be opened again.
   pub record Served (disk now : D) (end : ServeEnd) : Type 0 where
+    pub first : K
+    pub last : K
     pub tally : Tally
     pub volume : w.told → flaw_of (w.size disk) (contents (w.timeline disk)) ≡ None
-    pub serves : ServesNet tally
-    pub is : end ≡ end_by tally.stop tally.starved
+    pub opened : s.opens disk first
+    pub serves : ServesNet first tally
+    pub came : s.comes first last
+    pub back : s.hands last now
     pub again : w.told → (image : Image) → MayLeave (present (w.timeline now)) image → CanBeOpened (w.size now) image
+    pub is : end ≡ end_by tally.stop tally.starved
     pub puts : Keeps taken taken_now
 
   -- The disk is handed back unopened.
@@ -76,13 +90,19 @@ module _ {D N : Type 0} (w : DiskWords D) (n : NetWords N) (answers : Caller →
     pub nobody : net_now ≡ net
     pub puts : Keeps taken taken_now
 
-  -- Want of memory has no cause. Nothing was put; and nobody was served, or connections were served that wanted it.
-  pub record Starved : Type 0 where
+  -- Nobody was served, and nothing was put.
+  pub record Idle : Type 0 where
+    pub nobody : net_now ≡ net
     pub puts : Keeps taken taken_now
-    pub reached : (net_now ≡ net) ⊎ ((tally : Tally) × ServesNet tally)
+
+  -- Want of memory has no cause. Nobody was served, and the disk was let go or handed back unopened; or connections were served that wanted
+  -- memory.
+  abbrev pub Starved : D → Option D → Type 0
+  Starved disk None = Idle
+  Starved disk (Some now) = (Idle × HandsBack disk now) ⊎ Served disk now ends.NoMemory
 
   abbrev pub EndIs : ServeEnd → D → Option D → Type 0
-  EndIs ends.NoMemory disk now = Starved
+  EndIs ends.NoMemory disk now = Starved disk now
   EndIs ends.Done disk (Some now) = Served disk now ends.Done
   EndIs ends.NetFault disk (Some now) = Served disk now ends.NetFault
   EndIs ends.DiskFault disk (Some now) = Failed disk now

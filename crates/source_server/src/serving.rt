@@ -1,4 +1,4 @@
-ghost use Rattle.std.specs.Prelude.{true, ◌≡◌, ◌≤◌, ◌+◌, is_some, IfSome};
+ghost use Rattle.std.specs.Prelude.{true, ◌≡◌, ◌≤◌, ◌+◌, is_some, IfSome, Some};
 ghost use Rattle.block_file.specs.Opened.{CanBeOpened};
 ghost use Rattle.disk_model.specs.Disk.{Image, MayLeave};
 ghost use Rattle.disk_model.specs.Elapsed.{present};
@@ -6,7 +6,8 @@ ghost use Rattle.link_server.specs.Answering.{Answers};
 ghost use Rattle.link_server.specs.Keeping.{books_of, Serves, StopIs};
 ghost use Rattle.server_volume.specs.Store.{seat_of};
 ghost use Rattle.source_core.specs.Location.{IsShort};
-ghost use Rattle.source_server.specs.Machine.{source_answers, words_of};
+ghost use Rattle.link_server.specs.Reaching.{ReachedFrom};
+ghost use Rattle.source_server.specs.Machine.{source_words, words_of};
 ghost use Rattle.source_server.specs.Serving.{end_by, net_words, ServeEnds};
 ghost use Rattle.volume_format.specs.DiskWords.{disk_words};
 
@@ -15,14 +16,14 @@ use block_file::OpenFault;
 use copy_privs::Peer;
 use disk_model::Disk;
 use gss_mech::Mechanism;
-use link_server::{Counted, Machine, Stop, Tally, serve};
+use link_server::{Counted, Machine, Origin, Stop, Tally, serve};
 use net_links::Net;
 use nfs_base::NetLoc;
 use outcome::NoMemory;
 use source_core::SourceCore;
 use std::alloc::Global;
 use std::marker::{Brand, Send, Sync};
-use std::sync::ledger::{Blank, Ledger};
+use std::sync::ledger::Blank;
 use std::sync::{Mutex, Wait};
 use std::thread::Threads;
 use streams::{Clock, Draws, Sink, Source};
@@ -90,7 +91,8 @@ pub fn serve_source<
     requires volume { IfSome disk.old (λ d. D.Told → (image : Image) → MayLeave (present (D.timeline d)) image → CanBeOpened (D.size d) image) }
     requires short { IsShort known.own }
     ensures ends { ServeEnds (disk_words D.Told D.faults D.size D.timeline) (net_words N.Told N.coming N.faults (books_of N.hung N.up N.accepted))
-        (source_answers C (words_of D.Told D.size (seat_of D.size D.fuse D.timeline D.faults) M.mic_of M.derived M.accepted W.gives)) conns
+        (source_words (disk_words D.Told D.faults D.size D.timeline) (words_of D.Told D.size (seat_of D.size D.fuse D.timeline D.faults) M.mic_of M.derived M.accepted W.gives)
+        mech clock draws known.peers known.own) conns
         (K.takes output.old).taken (K.takes output.new).taken (K.takes output.old).faults (K.takes output.new).faults net.old net.new disk.old disk.new result }
     ensures later { (K.takes output.old).faults ≤ (K.takes output.new).faults }
 {
@@ -129,9 +131,9 @@ pub fn serve_source<
     }
 }
 
-/// Serves connections by a machine, whose book of calls begins at none.
+/// Serves connections by a machine, whose book of calls begins at none, and hands it back as it is after the last call.
 fn serve_all<
-    L: Ledger + Send,
+    L: Origin<K> + Send,
     K: Machine + Send,
     F: Source + Send + Drop,
     T: Sink + Send + Drop,
@@ -141,7 +143,9 @@ fn serve_all<
     requires name { blank.name ≡ L.name }
     requires parts { blank.parts ≡ L.parts }
     requires enough { 18 ≤ blank.parts }
-    ensures served { N.Told → Serves (Answers K.calls_of K.step K.kept)
+    requires origin { L.origin ≡ Some machine }
+    ensures reached { ReachedFrom K.calls_of K.step K.kept L.origin result.0 }
+    ensures served { N.Told → Serves (Answers K.calls_of K.step K.kept L.origin)
         (books_of N.hung N.up N.accepted net.old) (books_of N.hung N.up N.accepted net.new) result.1 }
     ensures stop { StopIs N.Told conns result.1.accepted result.1.left (N.coming net.new) (N.faults net.old) (N.faults net.new) result.1.stop }
     ensures later { N.faults net.old ≤ N.faults net.new }

@@ -7,7 +7,7 @@ use Rattle.link_server.proofs.acceptor.accept_all.Given as goal
 
 abbrev pub invariant-conns : goal.invariant-conns
 invariant-conns g l = record {
-  kept : g.N.Net.Told → KeptAt (Answers g.K.Machine.calls_of g.K.Machine.step g.K.Machine.kept) (books_of g.N.Net.hung g.N.Net.up g.N.Net.accepted l.net) l.site;
+  kept : g.N.Net.Told → KeptAt (Answers g.K.Machine.calls_of g.K.Machine.step g.K.Machine.kept g.C.Origin.origin) (books_of g.N.Net.hung g.N.Net.up g.N.Net.accepted l.net) l.site;
   before : l.site.before ≡ l.initial.site.before;
   few : l.site.tally.accepted ≤ l.conns;
   stop : l.stop ≡ All;

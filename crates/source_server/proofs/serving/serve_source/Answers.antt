@@ -13,8 +13,11 @@ returns-in-Ok-Ok-clause-ends g c =
     let disk = c.in-Some.handed in
     let was : c.args.disk.now ≡ Some disk = search rules in
     let volume : g.D.Disk.Told → flaw_of (g.D.Disk.size disk) (contents (g.D.Disk.timeline disk)) ≡ None = search rules in
-    served_ends _ _ _ _ _ _ _ _ disk c.hand_back.result _ c.serve_all-machine.result.1 _ was volume
-    (record { served = c.serve_all-machine.ensures.served; stop = c.serve_all-machine.ensures.stop }) c.end_of.ensures c.hand_back.ensures.again
+    served_ends _ _ _ _ _ _ _ _ disk c.hand_back.result _ machine c.serve_all-machine.result.0 c.serve_all-machine.result.1 _ was volume
+    (record { new = search rules; clock_is = search rules; draws_are = search rules; size = search rules; volume = search rules; tag = search rules })
+    (record { served = c.serve_all-machine.ensures.served; stop = c.serve_all-machine.ensures.stop })
+    c.serve_all-machine.ensures.reached
+    (record { is = c.hand_back.ensures.disk; left = c.hand_back.ensures.left }) c.end_of.ensures c.hand_back.ensures.again
 
 pub returns-in-NotVolume-clause-ends : goal.returns-in-NotVolume-clause-ends
 returns-in-NotVolume-clause-ends g c =

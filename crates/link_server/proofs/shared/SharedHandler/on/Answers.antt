@@ -7,4 +7,4 @@ returns-in-Ok-clause-answered g c = rw (← c.self.view_is) c.in-Ok.ensures.answ
 
 pub returns-clause-answered : goal.returns-clause-answered
 returns-clause-answered g c =
-    rw (← c.self.view_is) (answers_short _ _ _ _ _ _ _ _ _ c.in_default.ensures.err (search rules))
+    rw (← c.self.view_is) (answers_short _ _ _ _ _ _ _ _ _ _ c.in_default.ensures.err (search rules))

@@ -6,7 +6,7 @@ use Rattle.link_server.proofs.site.Site.gather.Given as goal
 
 abbrev pub invariant-ended : goal.invariant-ended
 invariant-ended g l = record {
-  kept : g.N.Net.Told → KeptAt (Answers g.K.Machine.calls_of g.K.Machine.step g.K.Machine.kept) (books_of g.N.Net.hung g.N.Net.up g.N.Net.accepted l.net) l.self;
+  kept : g.N.Net.Told → KeptAt (Answers g.K.Machine.calls_of g.K.Machine.step g.K.Machine.kept g.C.Origin.origin) (books_of g.N.Net.hung g.N.Net.up g.N.Net.accepted l.net) l.self;
   waits : Waits l.initial.self l.self;
   coming : g.N.Net.Told → g.N.Net.coming l.net ≡ g.N.Net.coming l.initial.net;
   faults : g.N.Net.faults l.net ≡ g.N.Net.faults l.initial.net;
