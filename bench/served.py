@@ -1,8 +1,9 @@
 #!/usr/bin/env python3
 """Serves a volume on a real file with `serve-source`, on a port of this machine, and calls it with a client of its own (caller.py).
 
-In turn: a file of 16 MiB is written, committed and read back, and the ratio of each to hashing as many bytes is printed; sixteen
-connections bring random bytes for some seconds; and the server is killed in the middle of writes, again and again, opened anew, and
+In turn: a file of 16 MiB is written, committed and read back, and the ratio of each to hashing as many bytes is printed; fifteen
+connections bring random bytes for some seconds beside one that reads; sixteen do alone, until the server has had all the connections
+that it was asked for, and ends; and the server is killed in the middle of writes, again and again, opened anew, and
 what it had answered as committed is read back. What isn't as it should be ends the script.
 """
 
@@ -26,6 +27,7 @@ MEBIBYTES = 16
 PIECE = 65_536
 NOISE_SECONDS = float(sys.argv[1]) if len(sys.argv) > 1 else 5
 KILLS = int(sys.argv[2]) if len(sys.argv) > 2 else 10
+CROWD = 5_000
 
 
 def check(holds, what):
@@ -145,6 +147,51 @@ def noisy(folder):
     print(f"{made[0]} connections of random bytes in {NOISE_SECONDS:.0f} s, beside one that reads: it reads the same, and so does a later one")
 
 
+def crowd(stop):
+    """Sixteen connections at once bring random bytes until a moment. How many there were."""
+    made = [0] * 16
+
+    def one(number):
+        while time.monotonic() < stop:
+            made[number] += 1
+            noise(PORT, min(stop, time.monotonic() + NOISE_SECONDS / 20), 1_000_000 * number + made[number])
+
+    threads = [threading.Thread(target=one, args=(number,)) for number in range(16)]
+    for thread in threads:
+        thread.start()
+    for thread in threads:
+        thread.join()
+    return sum(made)
+
+
+def use_up(server):
+    """Connections that bring nothing, until the server has had as many as it was asked for."""
+    count = 0
+    while server.poll() is None:
+        try:
+            socket.create_connection(("127.0.0.1", PORT), 30).close()
+            count += 1
+        except ConnectionError:
+            time.sleep(0.001)
+    return count
+
+
+def crowded(folder):
+    """Sixteen connections at once bring random bytes, and then the others nothing. The server ends by itself, and its file opens again."""
+    server = served(folder, CROWD)
+    time.sleep(0.5)
+    made = crowd(time.monotonic() + NOISE_SECONDS)
+    check(server.poll() is None, f"the server ended with {server.returncode}")
+    more = use_up(server)
+    ended(server, 0)
+    server = served(folder, 1)
+    last = called(b"after the crowd")
+    last.read(last.open(1), 0, PIECE)
+    last.leave()
+    ended(server, 0)
+    print(f"{made} connections of random bytes in {NOISE_SECONDS:.0f} s, sixteen at once, and {more} of nothing: status 0, and the file opens again")
+
+
 def killed(folder):
     """The server is killed between a client's writes. What it had answered as committed is there when it is opened again."""
     known = bytearray(PIECE)
@@ -191,6 +238,7 @@ def main():
         check(made.returncode == 0, f"format: {made}")
         written_and_read(folder)
         noisy(folder)
+        crowded(folder)
         killed(folder)
 
 
