@@ -28,11 +28,11 @@ pub record Caller : Type 0 where
   pub conn : ℕ
   pub calls : ℕ
 
-module _ {K : Type 0} (calls_of : K → ℕ) (step : ℕ → List ℕ → K → List ℕ → K → Type 0) (kept : K → K → Type 0) (origin : Option K) where
-  -- The machine answered by one step of it, from a state to which it had come by calls since the server began, and which had made as
-  -- many calls at least as this connection had.
+module _ {K : Type 0} (calls_of : K → ℕ) (step : ℕ → List ℕ → K → List ℕ → K → Type 0) (kept : K → K → Type 0) (reached : K → Type 0) where
+  -- The machine answered by one step of it, from a state of which so much is known, and which had made as many calls at least as this
+  -- connection had.
   pub record Stepped (before after : K) (old : Caller) (told reply : List ℕ) (new : Caller) : Type 0 where
-    pub reached : ReachedFrom calls_of step kept origin before
+    pub known : reached before
     pub enough : old.calls ≤ calls_of before
     pub few : calls_of before < most_calls
     pub stepped : step old.conn told before reply after
@@ -40,14 +40,14 @@ module _ {K : Type 0} (calls_of : K → ℕ) (step : ℕ → List ℕ → K → 
 
   -- The machine had no call left: nothing is answered.
   pub record Spent (before : K) (old : Caller) (reply : List ℕ) (new : Caller) : Type 0 where
-    pub reached : ReachedFrom calls_of step kept origin before
+    pub known : reached before
     pub full : most_calls ≤ calls_of before
     pub nothing : reply ≡ []
     pub same : new ≡ old
 
   -- The machine found no memory, and stayed as it was.
   pub record Starved (before after : K) (old : Caller) (told reply : List ℕ) (new : Caller) : Type 0 where
-    pub reached : ReachedFrom calls_of step kept origin before
+    pub known : reached before
     pub enough : old.calls ≤ calls_of before
     pub few : calls_of before < most_calls
     pub stays : kept before after
@@ -55,7 +55,12 @@ module _ {K : Type 0} (calls_of : K → ℕ) (step : ℕ → List ℕ → K → 
     pub same : new ≡ old
 
   -- What a connection gets for a record, from such a state of the machine.
-  pub data Answers (old : Caller) (told reply : List ℕ) (new : Caller) : Type 0 where
-    Step : (before after : K) → Stepped before after old told reply new → Answers old told reply new
-    Full : (before : K) → Spent before old reply new → Answers old told reply new
-    Short : (before after : K) → Starved before after old told reply new → Answers old told reply new
+  pub data AnswersAt (old : Caller) (told reply : List ℕ) (new : Caller) : Type 0 where
+    Step : (before after : K) → Stepped before after old told reply new → AnswersAt old told reply new
+    Full : (before : K) → Spent before old reply new → AnswersAt old told reply new
+    Short : (before after : K) → Starved before after old told reply new → AnswersAt old told reply new
+
+-- The same from a state to which the machine had come by calls from that in which the server began.
+abbrev pub Answers : {K : Type 0} → (K → ℕ) → (ℕ → List ℕ → K → List ℕ → K → Type 0) → (K → K → Type 0) → (origin : Option K)
+    → Caller → List ℕ → List ℕ → Caller → Type 0
+Answers calls_of step kept origin = AnswersAt calls_of step kept (ReachedFrom calls_of step kept origin)

@@ -85,7 +85,7 @@ impl<C: Origin<K>, K: Machine> Counted<C, K> {
         ensures small { IfOk result (λ reply. length reply ≤ record_limit) }
         ensures answered { IfOk result (λ reply. Answers K.calls_of K.step K.kept C.origin
             (record { conn = conn; calls = mine.old.amount }) record_.now reply (record { conn = conn; calls = mine.new.amount })) }
-        ensures err { OnErr result (Starved K.calls_of K.step K.kept C.origin self.old.machine self.new.machine
+        ensures err { OnErr result (Starved K.calls_of K.step K.kept (ReachedFrom K.calls_of K.step K.kept C.origin) self.old.machine self.new.machine
             (record { conn = conn; calls = mine.old.amount }) record_.now (system_error_of record_.now) (record { conn = conn; calls = mine.new.amount })) }
     {
         self.book.audit(mine);

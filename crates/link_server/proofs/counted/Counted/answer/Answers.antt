@@ -5,7 +5,7 @@ use Rattle.link_server.proofs.counted.Counted.answer.Goals as goal
 
 pub returns-then-calls-ge-MOST_CALLS-clause-answered : goal.returns-then-calls-ge-MOST_CALLS-clause-answered
 returns-then-calls-ge-MOST_CALLS-clause-answered g c = Full c.self.inside.machine (record {
-  reached = c.self.invariant.reached;
+  known = c.self.invariant.reached;
   full = search rules;
   nothing = search rules;
   same = search rules;
@@ -13,7 +13,7 @@ returns-then-calls-ge-MOST_CALLS-clause-answered g c = Full c.self.inside.machin
 
 pub returns-clause-answered : goal.returns-clause-answered
 returns-clause-answered g c = Step c.self.inside.machine c.on_record.new.self (record {
-  reached = c.self.invariant.reached;
+  known = c.self.invariant.reached;
   enough = omega arith;
   few = search rules;
   stepped = c.in_ok-reply.ensures.step;
