@@ -1,6 +1,6 @@
 -- One call more.
-use Rattle.std.proofs.Common.{◌≡◌, ℕ, ◌+◌, List, [], ◌∷◌, ◌++◌, Option, Some, None, refl, sym, ap, ◌∙◌, arith}
-use Rattle.link_server.specs.Reaching.{Call, Made, Refused, Follows, Reaches, ReachedFrom, made_in}
+use Rattle.std.proofs.Common.{◌≡◌, ℕ, ◌+◌, List, [], ◌∷◌, ◌++◌, Option, Some, None, refl, arith}
+use Rattle.link_server.specs.Reaching.{Call, Made, Refused, Follows, ReachedFrom, made_in}
 
 made_join : {K : Type 0} (calls : List (Call K)) (one : Call K) → made_in (calls ++ one ∷ []) ≡ made_in calls + made_in (one ∷ [])
 made_join [] one = omega arith
@@ -22,10 +22,6 @@ module _ {K : Type 0} (calls_of : K → ℕ) (step : ℕ → List ℕ → K → 
   follows_refused first before after [] follows stays = (rw (← follows) stays, refl)
   follows_refused first before after (Made c m r next ∷ calls) follows stays = (follows.0, follows_refused next before after calls follows.1 stays)
   follows_refused first before after (Refused next ∷ calls) follows stays = (follows.0, follows_refused next before after calls follows.1 stays)
-
-  -- the server begins
-  pub reached_first : (origin : Option K) (first : K) → origin ≡ Some first → ReachedFrom calls_of step kept origin first
-  reached_first origin first is = rw is (record { calls = []; follows = refl; counted = omega arith })
 
   pub reached_made : (origin : Option K) (before after : K) (conn : ℕ) (message reply : List ℕ)
       → ReachedFrom calls_of step kept origin before → step conn message before reply after → calls_of after ≡ calls_of before + 1

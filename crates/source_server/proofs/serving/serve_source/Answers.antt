@@ -6,6 +6,7 @@ use Rattle.block_file.specs.Opened.{RefusedFor}
 use Rattle.block_file.specs.Stored.{flaw_of}
 use Rattle.disk_model.specs.Elapsed.{contents}
 use Rattle.source_server.proofs.Ending.{refused_ends, served_ends}
+use Rattle.source_server.specs.declared.machine.SourceMachine.{SourceMachine}
 use Rattle.source_server.proofs.serving.serve_source.Goals as goal
 
 pub returns-in-Ok-Ok-clause-ends : goal.returns-in-Ok-Ok-clause-ends
@@ -13,6 +14,7 @@ returns-in-Ok-Ok-clause-ends g c =
     let disk = c.in-Some.handed in
     let was : c.args.disk.now ≡ Some disk = search rules in
     let volume : g.D.Disk.Told → flaw_of (g.D.Disk.size disk) (contents (g.D.Disk.timeline disk)) ≡ None = search rules in
+    let machine : SourceMachine g.row.D.Denot g.row.M.Denot g.row.C.Denot g.row.W.Denot = record { core = c.in-Ok-Ok.core; clock = c.args.clock; draws = c.args.draws } in
     served_ends _ _ _ _ _ _ _ _ disk c.hand_back.result _ machine c.serve_all-machine.result.0 c.serve_all-machine.result.1 _ was volume
     (record { new = search rules; clock_is = search rules; draws_are = search rules; size = search rules; volume = search rules; tag = search rules })
     (record { served = c.serve_all-machine.ensures.served; stop = c.serve_all-machine.ensures.stop })
