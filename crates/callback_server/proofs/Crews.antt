@@ -1,14 +1,11 @@
 -- The workers' links, link by link.
-use Rattle.std.proofs.Common.{◌≡◌, ℕ, ◌+◌, ◌<◌, ◌≤◌, Bool, List, [], ◌∷◌, ◌++◌, length, take, drop, slice_index_or, map, refl, sym, ap, ◌∙◌, arith, append_assoc, append-nil}
+use Rattle.std.proofs.Common.{◌≡◌, ℕ, ◌+◌, ◌<◌, List, [], ◌∷◌, ◌++◌, length, take, drop, slice_index_or, map, refl, sym, ap, ◌∙◌, arith, append_assoc, append-nil}
 use Rattle.net_links.specs.Links.{Standing, IsTold, HangsUp}
 use Rattle.streams.specs.Stream.{Giving, Taking}
 use Rattle.copy_workers.specs.Workers.{AllUnsent}
 use Rattle.rpc_msg.specs.Watching.{Watch}
-use Rattle.link_server.specs.Answering.{Caller}
 use Rattle.link_server.specs.Keeping.{Books}
-use Rattle.link_server.specs.declared.tally.Tally.{Tally}
-use Rattle.callback_server.specs.Crew.{standing_of, Dials, HangsAll, ServesThen}
-use Rattle.callback_server.specs.Keeping.{Serves}
+use Rattle.callback_server.specs.Crew.{standing_of, Dials, HangsAll}
 
 -- one more link that took nothing
 pub unsent_last : {L : Type 0} (links : List (Watch L)) (link : Watch L) → AllUnsent links → link.sent ≡ 0 → AllUnsent (links ++ link ∷ [])
@@ -58,24 +55,3 @@ pub hangs_front : (crew rest : List (Watch Standing)) (first : Watch Standing) (
 hangs_front [] rest first before mid now some is others hung up accepted hangs = absurd (omega (arith, some))
 hangs_front (watch ∷ crew) rest first before mid now some is others hung up accepted hangs =
     hangs_first watch.link (standing_of crew) before mid now (rw is at hung) up accepted (rw others at hangs)
-
--- Connections were served while so many links were up that had been dialed; these were hung up then.
-pub serves_then : (answers : Caller → List ℕ → List ℕ → Caller → Type 0) (before dialed served now : Books) (links : List Standing) (tally : Tally)
-    → Dials (length links) before dialed → Serves answers dialed served tally → HangsAll links served now
-    → ServesThen answers before now links tally
-serves_then answers before dialed served now links tally dials serves hangs = record {
-  earlier = served.hung;
-  serves = record {
-    links = serves.links;
-    sums = serves.sums;
-    hung = serves.hung ∙ ap (λ (b : Books). b.hung ++ serves.links) dials;
-    all = serves.all;
-    starved = serves.starved;
-    records = serves.records;
-    count = serves.count;
-    up = let e = ap (λ (b : Books). b.up) dials in omega (arith, e, serves.up, hangs.up);
-    accepted = let e = ap (λ (b : Books). b.accepted) dials in omega (arith, e, serves.accepted, hangs.accepted);
-  };
-  hung = hangs.hung;
-  told = hangs.told;
-}

@@ -14,9 +14,10 @@ use std::alloc::Global;
 use std::sync::ledger::{Ledger, Share};
 use std::sync::{Mutex, Wait};
 
-// Serves connections of a net, one after the other, until as many were accepted as are asked for, or no more comes, or all records
-// are taken. Each is hung up as soon as it has ended.
-pub(crate) fn serve_each<
+/// Serves up to `conns` connections of a net, one after the other, and hangs each up as soon as it has ended. A connection is given
+/// 1,048,576 records, or all that are left of the server's 16,777,216. Where it wants memory, it ends, and is counted. No more is
+/// accepted where accepting fails, no connection is left, or no record is. The share of the line's ledger is all of it.
+pub fn serve_each<
     R: Wait,
     Q: Ledger,
     B: Ledger,

@@ -23,17 +23,10 @@ pub enum DialFault {
 }
 
 /// The links of workers.
-pub(crate) type Crew<'a, R, B, F, T> = Vec<Watched<WorkerLink<'a, R, B, F, T>>>;
+pub type Crew<'a, R, B, F, T> = Vec<Watched<WorkerLink<'a, R, B, F, T>>>;
 
-// Dials a port once for each worker, up to the first fault.
-pub(crate) fn dial_all<
-    'a,
-    R: Wait,
-    B: Ledger,
-    F: Source + Drop,
-    T: Sink + Drop,
-    N: Net<From = F, To = T>,
->(
+/// Dials a port once for each worker, up to the first fault.
+pub fn dial_all<'a, R: Wait, B: Ledger, F: Source + Drop, T: Sink + Drop, N: Net<From = F, To = T>>(
     rt: &'a R,
     alloc: Global,
     gate: &'a Gate,
@@ -69,14 +62,11 @@ pub(crate) fn dial_all<
     None
 }
 
-// Hangs the workers' links up.
-pub(crate) fn hang_all<
-    R: Wait,
-    B: Ledger,
-    F: Source + Drop,
-    T: Sink + Drop,
-    N: Net<From = F, To = T>,
->(crew: Crew<'_, R, B, F, T>, net: &mut N)
+/// Hangs the workers' links up, in their order.
+pub fn hang_all<R: Wait, B: Ledger, F: Source + Drop, T: Sink + Drop, N: Net<From = F, To = T>>(
+    crew: Crew<'_, R, B, F, T>,
+    net: &mut N,
+)
     requires up { N.Told → length crew.items ≤ N.up net.old }
     ensures hung { N.Told → HangsAll (standing_of crew.entry.items) (books_of N.hung N.up N.accepted net.old) (books_of N.hung N.up N.accepted net.new) }
     ensures coming { N.Told → N.coming net.new ≡ N.coming net.old }
