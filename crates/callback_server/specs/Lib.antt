@@ -1,0 +1,5 @@
+pub mod Crew
+pub mod Hanging
+pub mod Keeping
+pub mod Replies
+pub mod Serving
