@@ -32,6 +32,7 @@ pub struct Talk {
 }
 
 /// A source with a file, its draws, a client with its own, and what they said.
+#[derive(Drop)]
 struct Talking<'a> {
     alloc: Global,
     source: &'a mut SourceCore<BlindDisk, Realm>,
@@ -170,10 +171,11 @@ impl<'a> Talking<'a> {
         if self.client.client.calls() >= client_core::MOST_STEPS {
             return Err(Wrong::Lacks("a step"));
         }
-                if leaving {
-            return Ok(self
-                .client
-                .on_record(self.alloc, Side::Source, bytes, 0, self.draws)?);
+        if leaving {
+            return Ok(
+                self.client
+                    .on_record(self.alloc, Side::Source, bytes, 0, self.draws)?,
+            );
         }
         let client = &mut self.client.client;
         Ok(client.on_record(self.alloc, Side::Source, bytes, 0, self.draws)?)
