@@ -1,0 +1,4 @@
+pub mod Carrying
+pub mod Phasing
+pub mod Puts
+pub mod Sent

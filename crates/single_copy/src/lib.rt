@@ -1,0 +1,7 @@
+//! x
+#![tactic(auto)]
+
+mod answers;
+mod links;
+mod phases;
+mod sending;
