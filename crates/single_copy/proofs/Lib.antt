@@ -1,4 +1,9 @@
 pub mod Carrying
+pub mod Counting
+pub mod Looping
+pub mod Outcomes
 pub mod Phasing
 pub mod Puts
+pub mod Running
 pub mod Sent
+pub mod Turning
