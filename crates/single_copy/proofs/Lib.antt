@@ -1,5 +1,6 @@
 pub mod Carrying
 pub mod Counting
+pub mod Faulted
 pub mod Looping
 pub mod Outcomes
 pub mod Phasing

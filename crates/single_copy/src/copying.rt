@@ -6,6 +6,7 @@ ghost use Rattle.client_core.specs.Endings.{ways_of};
 ghost use Rattle.rpc_msg.specs.Watching.{is_down};
 ghost use Rattle.single_copy.specs.Copying as spec;
 ghost use Rattle.single_copy.specs.Drawing.{DrawHasCause};
+ghost use Rattle.single_copy.specs.Links as links;
 ghost use Rattle.single_copy.specs.Stepping.{RunsOut, RunsShort};
 ghost use Rattle.single_copy.specs.Turns.{conduct_of, terms_of};
 ghost use Rattle.single_copy.specs.declared.answers.Copied.TheVariants as answers;
@@ -18,7 +19,7 @@ use client_leaving::Leaving;
 use gss_mech::Mechanism;
 use nfs_base::CopySpec;
 use outcome::Mem;
-use rpc_msg::{Sink, Source, Watched};
+use rpc_msg::{Sink, Source, Watched, nexts_join};
 use std::alloc::Global;
 use streams::{Clock, Draws};
 
@@ -48,9 +49,9 @@ pub fn copy_once<L: Source + Sink, M: Mechanism, C: Clock, W: Draws>(
     ensures later { W.faults draws.old ≤ W.faults draws.new }
     ensures failing { W.failing draws.new ≡ W.failing draws.old }
 {
+    nexts_join::<L>();
     let phase = make_turns(alloc, source, dest, client, copy, clock, draws)?;
-    let faulty = is_faulty(source) || is_faulty(dest);
-    Ok(answer(phase, client.client.report(COPY), faulty))
+    Ok(answer(phase, client.client.report(COPY), any_faulty(source, dest)))
 }
 
 /// Makes turns until nothing is due, or a link stops them, and says how far the client is then.
@@ -95,4 +96,11 @@ fn both_up<L: Source + Sink>(source: &Watched<L>, dest: &Watched<L>) -> bool
     ensures down { result ≡ false → (is_down source.now.signs || is_down dest.now.signs) ≡ true }
 {
     is_up(source) && is_up(dest)
+}
+
+/// Whether a call of a link failed.
+fn any_faulty<L: Source + Sink>(source: &Watched<L>, dest: &Watched<L>) -> bool
+    ensures { result ≡ (links.is_faulty source.now.signs || links.is_faulty dest.now.signs) }
+{
+    is_faulty(source) || is_faulty(dest)
 }
