@@ -11,6 +11,7 @@ use Rattle.single_copy.specs.Phases.{due_in, parted, turns_in, went_on}
 use Rattle.single_copy.specs.Sending.{put_to}
 use Rattle.single_copy.specs.Stepping.{Counts, Halts, Done, Full, Fell, HearsShort, HearsTurn, Idles, OwnTurn, TurnsOn, Wants, other, turns_left}
 use Rattle.single_copy.specs.Turns.{Begins, BothUp, Event, Hears, IsTurn, Leaves, Moves, Parties, TakesFrom, Terms, Turn, due_at, due_of, listed, message_at, phase_after}
+use Rattle.single_copy.specs.declared.phases.Due.{Due}
 use Rattle.single_copy.specs.declared.phases.Due.TheVariants as dues
 use Rattle.single_copy.specs.declared.phases.Phase.{Phase}
 use Rattle.single_copy.specs.declared.phases.Phase.TheVariants as phases
@@ -152,3 +153,10 @@ dest_wants terms old was left left_now source dest client due short same = recor
   client = short.client;
   counted = record { source = omega (arith, same); dest = short.counted };
 }
+
+-- ---- what is due, as the code finds it
+
+pub due_by : {M : Type 0} (phase : Phase) (l : Leaving M) (source dest : Bool) (found due : Due) → source ≡ awaits Source l.client → dest ≡ awaits Dest l.client
+    → found ≡ due_in phase source dest → found ≡ due → due_at phase l ≡ due
+due_by phase l source dest found due source_is dest_is is now =
+    sym (is ∙ ap (λ a. due_in phase a dest) source_is ∙ ap (λ b. due_in phase (awaits Source l.client) b) dest_is) ∙ now
