@@ -19,7 +19,7 @@ use Rattle.single_copy.specs.declared.links.TheConstants.{MOST_RECORDS}
 use Rattle.single_copy.specs.declared.phases.Due.{Due}
 use Rattle.single_copy.specs.declared.phases.Phase.{Phase}
 use Rattle.single_copy.specs.declared.phases.Phase.TheVariants as phases
-use Rattle.single_copy.specs.declared.phases.TheConstants.{COPY}
+use Rattle.single_copy.specs.declared.phases.TheConstants.{COPY_NUMBER}
 use Rattle.single_copy.specs.declared.turns.Allowance.{Allowance}
 use Rattle.single_copy.proofs.Carrying.{TellsOn}
 use Rattle.single_copy.proofs.Counting.{acts_counted}
@@ -33,7 +33,7 @@ pub record Went {L M W : Type 0} (terms : Terms L M W) (start now : Parties L M 
   pub source : left.source + length (heard Source turns) ≡ MOST_RECORDS
   pub dest : left.dest + length (heard Dest turns) ≡ MOST_RECORDS
   pub steps : now.client.client.steps + turns_left phase left ≤ 2097154
-  pub new : phase ≡ phases.Fresh → copy_of COPY now.client.client ≡ None
+  pub new : phase ≡ phases.Fresh → copy_of COPY_NUMBER now.client.client ≡ None
   pub drawn : DrawHasCause (terms.conduct.faults start.draws) (terms.conduct.faults now.draws) phase
   pub later : terms.conduct.faults start.draws ≤ terms.conduct.faults now.draws
 
@@ -45,7 +45,7 @@ went_start terms start new = record {
   source = omega arith;
   dest = omega arith;
   steps = omega (arith, ap (λ l. l.client.steps) new);
-  new = λ fresh. ap (λ l. copy_of COPY l.client) new;
+  new = λ fresh. ap (λ l. copy_of COPY_NUMBER l.client) new;
   drawn = tt;
   later = omega arith;
 }
@@ -60,16 +60,16 @@ due_some Leaves due is = sym (ap is_nothing is)
 
 after_begun : {M : Type 0} (event : Event) (undrawn : Bool) (l : Leaving M) (was : Phase) (source dest : Bool) → due_of event ≡ due_in was source dest
     → is_fresh (phase_after event undrawn l was) ≡ false
-after_begun Begins undrawn l was source dest due = went_begun undrawn (report_of (copy_of COPY l.client)) was
-after_begun (Hears side message) undrawn l was source dest due = went_begun undrawn (report_of (copy_of COPY l.client)) was
+after_begun Begins undrawn l was source dest due = went_begun undrawn (report_of (copy_of COPY_NUMBER l.client)) was
+after_begun (Hears side message) undrawn l was source dest due = went_begun undrawn (report_of (copy_of COPY_NUMBER l.client)) was
 after_begun Leaves undrawn l was source dest due = left_begun was source dest (sym due)
 
 after_drawn : {M : Type 0} (before middle now : ℕ) (event : Event) (undrawn : Bool) (l : Leaving M) (was : Phase) (source dest : Bool) → due_of event ≡ due_in was source dest
     → before ≤ middle → (undrawn ≡ true → Rose middle now) → DrawHasCause before now (phase_after event undrawn l was)
 after_drawn before middle now Begins undrawn l was source dest due later rose =
-    went_drawn before middle now undrawn (report_of (copy_of COPY l.client)) was source dest (due_some Begins _ due) later rose
+    went_drawn before middle now undrawn (report_of (copy_of COPY_NUMBER l.client)) was source dest (due_some Begins _ due) later rose
 after_drawn before middle now (Hears side message) undrawn l was source dest due later rose =
-    went_drawn before middle now undrawn (report_of (copy_of COPY l.client)) was source dest (due_some (Hears side message) _ due) later rose
+    went_drawn before middle now undrawn (report_of (copy_of COPY_NUMBER l.client)) was source dest (due_some (Hears side message) _ due) later rose
 after_drawn before middle now Leaves undrawn l was source dest due later rose = left_drawn before now was source dest (due_some Leaves _ due)
 
 counted_more : (side : Side) (turns : List Turn) (turn : Turn) (left left_now : ℕ) → left + length (heard side turns) ≡ MOST_RECORDS

@@ -15,7 +15,7 @@ use Rattle.single_copy.specs.declared.phases.Due.{Due}
 use Rattle.single_copy.specs.declared.phases.Due.TheVariants as dues
 use Rattle.single_copy.specs.declared.phases.Phase.{Phase}
 use Rattle.single_copy.specs.declared.phases.Phase.TheVariants as phases
-use Rattle.single_copy.specs.declared.phases.TheConstants.{COPY}
+use Rattle.single_copy.specs.declared.phases.TheConstants.{COPY_NUMBER}
 use Rattle.single_copy.specs.declared.turns.Allowance.{Allowance}
 use Rattle.single_copy.proofs.Phasing.{begins_fresh, begun_turns, heard_turns, left_turns}
 
@@ -38,8 +38,8 @@ pub begins_on : {L M W : Type 0} (terms : Terms L M W) (old new : Parties L M W)
 begins_on terms old new was phase left due own =
     let becomes = own.is.becomes ∙ ap (λ e. phase_after e own.turn.out.undrawn new.client was) own.event_is in
     let fresh = begins_fresh was (awaits Source old.client.client) (awaits Dest old.client.client) due in
-    let now = begun_turns own.turn.out.undrawn (report_of (copy_of COPY new.client.client)) in
-    let is = becomes ∙ ap (went_on own.turn.out.undrawn (report_of (copy_of COPY new.client.client))) fresh in
+    let now = begun_turns own.turn.out.undrawn (report_of (copy_of COPY_NUMBER new.client.client)) in
+    let is = becomes ∙ ap (went_on own.turn.out.undrawn (report_of (copy_of COPY_NUMBER new.client.client))) fresh in
     record {
       turn = own.turn;
       is = own.is;
@@ -65,7 +65,7 @@ heard_fewer : {M : Type 0} (event : Event) (side : Side) (message : List ℕ) (u
     → phase ≡ phase_after event undrawn l was → turns_in phase ≤ turns_in was
 heard_fewer event side message undrawn l was phase is becomes =
     let now = becomes ∙ ap (λ e. phase_after e undrawn l was) is in
-    omega (arith, ap turns_in now, heard_turns undrawn (report_of (copy_of COPY l.client)) was)
+    omega (arith, ap turns_in now, heard_turns undrawn (report_of (copy_of COPY_NUMBER l.client)) was)
 
 pub source_on : {L M W : Type 0} (terms : Terms L M W) (old new : Parties L M W) (was phase : Phase) (left left_now : Allowance) → BothUp old
     → due_at was old.client ≡ dues.Hear Source

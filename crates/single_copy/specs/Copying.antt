@@ -16,7 +16,7 @@ use Rattle.single_copy.specs.declared.links.TheConstants.{MOST_RECORDS}
 use Rattle.single_copy.specs.declared.phases.Due.TheVariants as dues
 use Rattle.single_copy.specs.declared.phases.Phase.{Phase}
 use Rattle.single_copy.specs.declared.phases.Phase.TheVariants.{Fresh}
-use Rattle.single_copy.specs.declared.phases.TheConstants.{COPY}
+use Rattle.single_copy.specs.declared.phases.TheConstants.{COPY_NUMBER}
 
 -- a client that was just made, and has taken no leave
 abbrev pub IsNew : {M : Type 0} → Leaving M → Type 0
@@ -40,7 +40,7 @@ pub data Stops {L M W : Type 0} (terms : Terms L M W) (turns : List Turn) (phase
 
 -- what is answered, where both links and the client stand so
 abbrev pub answer_at : {L M W : Type 0} → Phase → Parties L M W → Copied
-answer_at phase now = answer_of phase (report_of (copy_of COPY now.client.client)) (is_faulty now.source.signs || is_faulty now.dest.signs)
+answer_at phase now = answer_of phase (report_of (copy_of COPY_NUMBER now.client.client)) (is_faulty now.source.signs || is_faulty now.dest.signs)
 
 pub record Copies {L M W : Type 0} (terms : Terms L M W) (old : Parties L M W) (copied : Copied) (now : Parties L M W) : Type 0 where
   pub turns : List Turn

@@ -22,7 +22,7 @@ use Rattle.single_copy.specs.Sending.{put_to}
 use Rattle.single_copy.specs.declared.phases.Due.{Due}
 use Rattle.single_copy.specs.declared.phases.Due.TheVariants as dues
 use Rattle.single_copy.specs.declared.phases.Phase.{Phase}
-use Rattle.single_copy.specs.declared.phases.TheConstants.{COPY}
+use Rattle.single_copy.specs.declared.phases.TheConstants.{COPY_NUMBER}
 
 -- ---- turns
 
@@ -84,7 +84,7 @@ HearsBy true ways gives side message second l before after end = IsRecord ways g
 
 -- the client's own part of its leave stays
 pub record Begun {M W : Type 0} (conduct : Conduct M W) (second : ℕ) (l : Leaving M) (before after : W) (end : Leaving M × Outbox) : Type 0 where
-  pub step : IsBegun (conduct.ways l.client.setting) conduct.draws COPY conduct.copy second l.client before after (end.0.client, end.1)
+  pub step : IsBegun (conduct.ways l.client.setting) conduct.draws COPY_NUMBER conduct.copy second l.client before after (end.0.client, end.1)
   pub source : end.0.source ≡ l.source
   pub dest : end.0.dest ≡ l.dest
 
@@ -125,8 +125,8 @@ pub record Moves {L M W : Type 0} (terms : Terms L M W) (side : Side) (turn : Tu
 -- ---- a turn, and turns in their order
 
 abbrev pub phase_after : Event → (undrawn : Bool) → {M : Type 0} → Leaving M → Phase → Phase
-phase_after Begins undrawn l phase = went_on undrawn (report_of (copy_of COPY l.client)) phase
-phase_after (Hears side message) undrawn l phase = went_on undrawn (report_of (copy_of COPY l.client)) phase
+phase_after Begins undrawn l phase = went_on undrawn (report_of (copy_of COPY_NUMBER l.client)) phase
+phase_after (Hears side message) undrawn l phase = went_on undrawn (report_of (copy_of COPY_NUMBER l.client)) phase
 phase_after Leaves undrawn l phase = parted phase
 
 pub record BothUp {L M W : Type 0} (p : Parties L M W) : Type 0 where

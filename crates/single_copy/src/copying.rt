@@ -13,7 +13,7 @@ ghost use Rattle.single_copy.specs.declared.answers.Copied.TheVariants as answer
 
 use crate::answers::{Copied, answer};
 use crate::links::{MOST_RECORDS, is_faulty, is_up};
-use crate::phases::{COPY, Phase};
+use crate::phases::{COPY_NUMBER, Phase};
 use crate::turns::{Allowance, turn};
 use client_leaving::Leaving;
 use gss_mech::Mechanism;
@@ -51,7 +51,7 @@ pub fn copy_once<L: Source + Sink, M: Mechanism, C: Clock, W: Draws>(
 {
     nexts_join::<L>();
     let phase = make_turns(alloc, source, dest, client, copy, clock, draws)?;
-    Ok(answer(phase, client.client.report(COPY), any_faulty(source, dest)))
+    Ok(answer(phase, client.client.report(COPY_NUMBER), any_faulty(source, dest)))
 }
 
 /// Makes turns until nothing is due, or a link stops them, and says how far the client is then.

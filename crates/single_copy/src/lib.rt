@@ -17,4 +17,4 @@ mod turns;
 pub use answers::{Copied, LastReport};
 pub use copying::copy_once;
 pub use links::MOST_RECORDS;
-pub use phases::{COPY, Due, Phase};
+pub use phases::{COPY_NUMBER, Due, Phase};

@@ -59,7 +59,8 @@ pub(crate) fn is_faulty<L: Source + Sink>(link: &Watched<L>) -> bool
     }
 }
 
-/// Puts the mark of a record, and the record.
+/// Puts the mark of a record, and the record. One that is longer than [`RECORD_LIMIT`] isn't put: no contract says that the records
+/// which a client sends are shorter.
 pub(crate) fn send<L: Source + Sink>(link: &mut Watched<L>, bytes: &[u8])
     ensures { spec.Sends L.gives L.takes link.old link.new (spec.carried bytes.now) }
 {

@@ -7,8 +7,8 @@ use crate::answers::{LastReport, last_report};
 use client_copies::Report;
 use nfs_base::Side;
 
-/// The number of a client's one copy.
-pub const COPY: u8 = 1;
+/// The number of a client's one copy: the first of those from 1 to 15 that a client gives to its copies.
+pub const COPY_NUMBER: u8 = 1;
 
 /// How far a client is with its one copy.
 #[derive(Clone, Copy)]

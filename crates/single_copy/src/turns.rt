@@ -10,11 +10,11 @@ ghost use Rattle.single_copy.specs.Stepping as spec;
 ghost use Rattle.single_copy.specs.Turns.{Begins, Leaves, conduct_of, due_at, terms_of};
 ghost use Rattle.single_copy.specs.declared.phases.Due.TheVariants as dues;
 ghost use Rattle.single_copy.specs.declared.phases.Phase.TheVariants as phases;
-ghost use Rattle.single_copy.specs.declared.phases.TheConstants.{COPY};
+ghost use Rattle.single_copy.specs.declared.phases.TheConstants.{COPY_NUMBER};
 
 use crate::acts::hear;
 use crate::links::{Took, take};
-use crate::phases::{COPY, Due, Phase};
+use crate::phases::{COPY_NUMBER, Due, Phase};
 use crate::sending::send_all;
 use client_leaving::Leaving;
 use gss_mech::Mechanism;
@@ -46,7 +46,7 @@ pub(crate) fn turn<L: Source + Sink, M: Mechanism, C: Clock, W: Draws>(
     requires source_up { is_down source.old.signs ≡ false }
     requires dest_up { is_down dest.old.signs ≡ false }
     requires few { client.old.client.steps < MOST_STEPS }
-    requires new { phase ≡ phases.Fresh → copy_of COPY client.old.client ≡ None }
+    requires new { phase ≡ phases.Fresh → copy_of COPY_NUMBER client.old.client ≡ None }
     ensures some { IfOk result (λ told. IfSome told (λ now. spec.TurnsOn
         (terms_of L.gives L.takes (conduct_of (ways_of M.mic_of M.derived M.finished M.started M.accepted) W.gives W.faults copy))
         (record { source = source.old; dest = dest.old; client = client.old; draws = draws.old }) phase left.old
@@ -84,7 +84,7 @@ fn begin_turn<L: Source + Sink, M: Mechanism, C: Clock, W: Draws>(
     requires source_up { is_down source.old.signs ≡ false }
     requires dest_up { is_down dest.old.signs ≡ false }
     requires few { client.old.client.steps < MOST_STEPS }
-    requires new { copy_of COPY client.old.client ≡ None }
+    requires new { copy_of COPY_NUMBER client.old.client ≡ None }
     requires due { due_at phase client.old ≡ dues.Begin }
     ensures turn { IfOk result (λ now. spec.OwnTurn
         (terms_of L.gives L.takes (conduct_of (ways_of M.mic_of M.derived M.finished M.started M.accepted) W.gives W.faults copy)) Begins
@@ -97,10 +97,10 @@ fn begin_turn<L: Source + Sink, M: Mechanism, C: Clock, W: Draws>(
     ensures failing { W.failing draws.new ≡ W.failing draws.old }
 {
     let now = clock.now();
-    let out = client.client.begin_copy(alloc, COPY, copy, now, draws)?;
+    let out = client.client.begin_copy(alloc, COPY_NUMBER, copy, now, draws)?;
     send_all(source, Side::Source, out.sent.as_slice());
     send_all(dest, Side::Dest, out.sent.as_slice());
-    Ok(phase.after(out.undrawn, client.client.report(COPY)))
+    Ok(phase.after(out.undrawn, client.client.report(COPY_NUMBER)))
 }
 
 /// Leave is taken.
@@ -163,7 +163,7 @@ fn hear_turn<L: Source + Sink, M: Mechanism, C: Clock, W: Draws>(
             let out = hear(alloc, client, phase, side, here.record(), now, draws)?;
             send_all(here, side, out.sent.as_slice());
             send_all(there, other(side), out.sent.as_slice());
-            Ok(Some(phase.after(out.undrawn, client.client.report(COPY))))
+            Ok(Some(phase.after(out.undrawn, client.client.report(COPY_NUMBER))))
         }
         Took::Full | Took::Down => Ok(None),
     }

@@ -1,48 +1,17 @@
-use Rattle.std.proofs.Common.{refl, sym, ap, ◌∙◌}
-use Rattle.client_core.specs.Endings.{ways_of}
-use Rattle.client_core.specs.Telling.{awaits}
-use Rattle.nfs_base.specs.declared.side.Side.TheVariants.{Source, Dest}
-use Rattle.single_copy.specs.Stepping.{Done}
-use Rattle.single_copy.specs.Turns.{Begins, Leaves, conduct_of, terms_of}
+use Rattle.std.proofs.Common.{refl}
 use Rattle.single_copy.proofs.Outcomes.{err_weaker, none_weaker, some_join}
-use Rattle.single_copy.proofs.Phasing.{begins_fresh}
-use Rattle.single_copy.proofs.Turning.{begins_on, dest_idles, dest_on, dest_wants, due_by, leaves_on, own_wants, source_idles, source_on, source_wants}
+use Rattle.single_copy.proofs.Turning.{begins_on, dest_idles, dest_on, dest_wants, due_by, leaves_on, source_idles, source_on, source_wants}
 use Rattle.single_copy.proofs.turns.turn.Goals as goal
-
-pub begin_turn-requires-clause-due : goal.begin_turn-requires-clause-due
-begin_turn-requires-clause-due g c = due_by c.args.phase c.args.client.now _ _ _ _ c.awaits.ensures c.awaits-2.ensures c.due.ensures c.in-Begin.is
-
-pub begin_turn-requires-clause-new : goal.begin_turn-requires-clause-new
-begin_turn-requires-clause-new g c = c.requires.new (begins_fresh c.args.phase _ _ (sym c.due.ensures ∙ c.in-Begin.is))
-
-pub leave_turn-requires-clause-due : goal.leave_turn-requires-clause-due
-leave_turn-requires-clause-due g c = due_by c.args.phase c.args.client.now _ _ _ _ c.awaits.ensures c.awaits-2.ensures c.due.ensures c.in-Leave.is
 
 pub returns-in_ok-begin_turn-in-Begin-clause-some : goal.returns-in_ok-begin_turn-in-Begin-clause-some
 returns-in_ok-begin_turn-in-Begin-clause-some g c =
     let due = due_by c.args.phase c.args.client.now _ _ _ _ c.awaits.ensures c.awaits-2.ensures c.due.ensures c.in-Begin.is in
     begins_on _ _ _ c.args.phase _ c.args.left.now due c.in_ok-begin_turn-in-Begin.ensures.turn
 
-pub returns-in_err-begin_turn-in-Begin-clause-err : goal.returns-in_err-begin_turn-in-Begin-clause-err
-returns-in_err-begin_turn-in-Begin-clause-err g c =
-    let due = due_by c.args.phase c.args.client.now _ _ _ _ c.awaits.ensures c.awaits-2.ensures c.due.ensures c.in-Begin.is in
-    own_wants _ Begins _ c.args.phase c.args.left.now _ _ _ (sym due) refl refl c.in_err-begin_turn-in-Begin.ensures.err_source
-    c.in_err-begin_turn-in-Begin.ensures.err_dest c.in_err-begin_turn-in-Begin.ensures.err_client
-
 pub returns-in_ok-leave_turn-in-Leave-clause-some : goal.returns-in_ok-leave_turn-in-Leave-clause-some
 returns-in_ok-leave_turn-in-Leave-clause-some g c =
     let due = due_by c.args.phase c.args.client.now _ _ _ _ c.awaits.ensures c.awaits-2.ensures c.due.ensures c.in-Leave.is in
     leaves_on _ _ _ c.args.phase _ c.args.left.now due (c.in_ok-leave_turn-in-Leave.ensures.turn c.args.copy)
-
-pub returns-in_err-leave_turn-in-Leave-clause-err : goal.returns-in_err-leave_turn-in-Leave-clause-err
-returns-in_err-leave_turn-in-Leave-clause-err g c =
-    let due = due_by c.args.phase c.args.client.now _ _ _ _ c.awaits.ensures c.awaits-2.ensures c.due.ensures c.in-Leave.is in
-    own_wants _ Leaves _ c.args.phase c.args.left.now _ _ _ (sym due) refl refl c.in_err-leave_turn-in-Leave.ensures.err_source
-    c.in_err-leave_turn-in-Leave.ensures.err_dest c.in_err-leave_turn-in-Leave.ensures.err_client
-
-pub returns-in-Nothing-clause-none : goal.returns-in-Nothing-clause-none
-returns-in-Nothing-clause-none g c =
-    Done (due_by c.args.phase c.args.client.now _ _ _ _ c.awaits.ensures c.awaits-2.ensures c.due.ensures c.in-Nothing.is) refl
 
 pub returns-in-Hear-Source-clause-some : goal.returns-in-Hear-Source-clause-some
 returns-in-Hear-Source-clause-some g c =
