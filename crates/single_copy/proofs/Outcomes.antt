@@ -19,3 +19,7 @@ none_weaker (Err e) P Q p f = tt
 pub err_weaker : {T E : Type 0} (r : Result T E) (P Q : Type 0) → OnErr r P → (P → Q) → OnErr r Q
 err_weaker (Ok v) P Q p f = tt
 err_weaker (Err e) P Q p f = f p
+
+pub on_err : {T E : Type 0} (r : Result T E) (P : Type 0) → P → OnErr r P
+on_err (Ok v) P p = tt
+on_err (Err e) P p = p

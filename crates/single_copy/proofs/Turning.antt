@@ -96,7 +96,9 @@ dest_on terms old new was phase left left_now up due h dest source =
 -- ---- no turn
 
 same_parties : {L M W : Type 0} (a b : Parties L M W) → a.source ≡ b.source → a.dest ≡ b.dest → a.client ≡ b.client → a.draws ≡ b.draws → a ≡ b
-same_parties a b source dest client draws = cc
+same_parties a b source dest client draws =
+    ap (λ s. record a { source = s }) source ∙ ap (λ d. record a { source = b.source; dest = d }) dest
+    ∙ ap (λ l. record b { client = l; draws = a.draws }) client ∙ ap (λ w. record b { draws = w }) draws
 
 source_halts : {L M W : Type 0} (terms : Terms L M W) (old new : Parties L M W) (was : Phase) (left : Allowance) (why : ((left.source ≡ 0) × (new.source ≡ old.source)) ⊎ Falls terms.gives terms.takes old.source new.source)
     → BothUp old → due_at was old.client ≡ dues.Hear Source → new.dest ≡ old.dest → new.client ≡ old.client → new.draws ≡ old.draws → Halts terms old was left new

@@ -1,6 +1,7 @@
 use Rattle.std.proofs.Common.{sym, ◌∙◌}
 use Rattle.single_copy.proofs.Faulted.{draw_faulted}
 use Rattle.single_copy.proofs.Looping.{out_copies, short_starves}
+use Rattle.single_copy.proofs.Outcomes.{on_err}
 use Rattle.single_copy.proofs.copying.copy_once.Goals as goal
 
 pub returns-clause-ok : goal.returns-clause-ok
@@ -13,4 +14,4 @@ returns-clause-draw_fault g c = λ fault.
     draw_faulted _ _ c.in_ok-phase.phase c.report.result c.any_faulty.result c.in_ok-phase.ensures.drawn (sym c.answer.ensures ∙ fault)
 
 pub returns-in_err-phase-clause-err : goal.returns-in_err-phase-clause-err
-returns-in_err-phase-clause-err g c = short_starves _ _ _ _ _ c.nexts_join.ensures.more c.in_err-phase.ensures.err
+returns-in_err-phase-clause-err g c = on_err _ _ (short_starves _ _ _ _ _ c.nexts_join.ensures.more c.in_err-phase.ensures.err)
