@@ -20,7 +20,7 @@ returns-in-Hear-Source-clause-some g c =
     let m = g.M.Mechanism in
     let terms = terms_of g.L.Stream.gives g.L.Stream.takes
     (conduct_of (ways_of m.mic_of m.derived m.finished m.started m.accepted) g.W.Draws.gives g.W.Draws.faults c.args.copy) in
-    let due = due_by c.args.phase c.args.client.now _ _ _ _ c.awaits.ensures c.awaits-2.ensures c.due.ensures c.in-Hear-Source.is in
+    let due = due_by c.args.phase c.args.client.now _ _ _ _ c.awaits.ensures c.awaits-2.ensures c.due.ensures (rw c.in-Hear-Source.field-0-is at c.in-Hear-Source.is) in
     some_join c.hear_turn.result _ _ _ c.hear_turn.ensures.some c.hear_turn.ensures.counted
     (λ now h counted. source_on terms (record { source = c.args.source.now; dest = c.args.dest.now; client = c.args.client.now; draws = c.args.draws.now })
     (record { source = c.hear_turn.new.here; dest = c.hear_turn.new.there; client = c.hear_turn.new.client; draws = c.hear_turn.new.draws }) c.args.phase now c.args.left.now (record c.args.left.now { source = c.hear_turn.new.left })
@@ -31,7 +31,7 @@ returns-in-Hear-Source-clause-none g c =
     let m = g.M.Mechanism in
     let terms = terms_of g.L.Stream.gives g.L.Stream.takes
     (conduct_of (ways_of m.mic_of m.derived m.finished m.started m.accepted) g.W.Draws.gives g.W.Draws.faults c.args.copy) in
-    let due = due_by c.args.phase c.args.client.now _ _ _ _ c.awaits.ensures c.awaits-2.ensures c.due.ensures c.in-Hear-Source.is in
+    let due = due_by c.args.phase c.args.client.now _ _ _ _ c.awaits.ensures c.awaits-2.ensures c.due.ensures (rw c.in-Hear-Source.field-0-is at c.in-Hear-Source.is) in
     none_weaker c.hear_turn.result _ _ c.hear_turn.ensures.none
     (λ idles. source_idles terms (record { source = c.args.source.now; dest = c.args.dest.now; client = c.args.client.now; draws = c.args.draws.now })
     (record { source = c.hear_turn.new.here; dest = c.hear_turn.new.there; client = c.hear_turn.new.client; draws = c.hear_turn.new.draws }) c.args.phase c.args.left.now c.hear_turn.new.left
@@ -42,7 +42,7 @@ returns-in-Hear-Source-clause-err g c =
     let m = g.M.Mechanism in
     let terms = terms_of g.L.Stream.gives g.L.Stream.takes
     (conduct_of (ways_of m.mic_of m.derived m.finished m.started m.accepted) g.W.Draws.gives g.W.Draws.faults c.args.copy) in
-    let due = due_by c.args.phase c.args.client.now _ _ _ _ c.awaits.ensures c.awaits-2.ensures c.due.ensures c.in-Hear-Source.is in
+    let due = due_by c.args.phase c.args.client.now _ _ _ _ c.awaits.ensures c.awaits-2.ensures c.due.ensures (rw c.in-Hear-Source.field-0-is at c.in-Hear-Source.is) in
     err_weaker c.hear_turn.result _ _ c.hear_turn.ensures.err
     (λ short. source_wants terms (record { source = c.args.source.now; dest = c.args.dest.now; client = c.args.client.now; draws = c.args.draws.now }) c.args.phase c.args.left.now
     (record c.args.left.now { source = c.hear_turn.new.left }) c.hear_turn.new.here c.hear_turn.new.there c.hear_turn.new.client due short refl)
@@ -52,7 +52,7 @@ returns-in-Hear-Dest-clause-some g c =
     let m = g.M.Mechanism in
     let terms = terms_of g.L.Stream.gives g.L.Stream.takes
     (conduct_of (ways_of m.mic_of m.derived m.finished m.started m.accepted) g.W.Draws.gives g.W.Draws.faults c.args.copy) in
-    let due = due_by c.args.phase c.args.client.now _ _ _ _ c.awaits.ensures c.awaits-2.ensures c.due.ensures c.in-Hear-Dest.is in
+    let due = due_by c.args.phase c.args.client.now _ _ _ _ c.awaits.ensures c.awaits-2.ensures c.due.ensures (rw c.in-Hear-Dest.field-0-is at c.in-Hear-Dest.is) in
     some_join c.hear_turn-in-Hear-Dest.result _ _ _ c.hear_turn-in-Hear-Dest.ensures.some c.hear_turn-in-Hear-Dest.ensures.counted
     (λ now h counted. dest_on terms (record { source = c.args.source.now; dest = c.args.dest.now; client = c.args.client.now; draws = c.args.draws.now })
     (record { source = c.hear_turn-in-Hear-Dest.new.there; dest = c.hear_turn-in-Hear-Dest.new.here; client = c.hear_turn-in-Hear-Dest.new.client; draws = c.hear_turn-in-Hear-Dest.new.draws }) c.args.phase now c.args.left.now (record c.args.left.now { dest = c.hear_turn-in-Hear-Dest.new.left })
@@ -63,7 +63,7 @@ returns-in-Hear-Dest-clause-none g c =
     let m = g.M.Mechanism in
     let terms = terms_of g.L.Stream.gives g.L.Stream.takes
     (conduct_of (ways_of m.mic_of m.derived m.finished m.started m.accepted) g.W.Draws.gives g.W.Draws.faults c.args.copy) in
-    let due = due_by c.args.phase c.args.client.now _ _ _ _ c.awaits.ensures c.awaits-2.ensures c.due.ensures c.in-Hear-Dest.is in
+    let due = due_by c.args.phase c.args.client.now _ _ _ _ c.awaits.ensures c.awaits-2.ensures c.due.ensures (rw c.in-Hear-Dest.field-0-is at c.in-Hear-Dest.is) in
     none_weaker c.hear_turn-in-Hear-Dest.result _ _ c.hear_turn-in-Hear-Dest.ensures.none
     (λ idles. dest_idles terms (record { source = c.args.source.now; dest = c.args.dest.now; client = c.args.client.now; draws = c.args.draws.now })
     (record { source = c.hear_turn-in-Hear-Dest.new.there; dest = c.hear_turn-in-Hear-Dest.new.here; client = c.hear_turn-in-Hear-Dest.new.client; draws = c.hear_turn-in-Hear-Dest.new.draws }) c.args.phase c.args.left.now c.hear_turn-in-Hear-Dest.new.left
@@ -74,7 +74,7 @@ returns-in-Hear-Dest-clause-err g c =
     let m = g.M.Mechanism in
     let terms = terms_of g.L.Stream.gives g.L.Stream.takes
     (conduct_of (ways_of m.mic_of m.derived m.finished m.started m.accepted) g.W.Draws.gives g.W.Draws.faults c.args.copy) in
-    let due = due_by c.args.phase c.args.client.now _ _ _ _ c.awaits.ensures c.awaits-2.ensures c.due.ensures c.in-Hear-Dest.is in
+    let due = due_by c.args.phase c.args.client.now _ _ _ _ c.awaits.ensures c.awaits-2.ensures c.due.ensures (rw c.in-Hear-Dest.field-0-is at c.in-Hear-Dest.is) in
     err_weaker c.hear_turn-in-Hear-Dest.result _ _ c.hear_turn-in-Hear-Dest.ensures.err
     (λ short. dest_wants terms (record { source = c.args.source.now; dest = c.args.dest.now; client = c.args.client.now; draws = c.args.draws.now }) c.args.phase c.args.left.now
     (record c.args.left.now { dest = c.hear_turn-in-Hear-Dest.new.left }) c.hear_turn-in-Hear-Dest.new.there c.hear_turn-in-Hear-Dest.new.here c.hear_turn-in-Hear-Dest.new.client due short refl)
