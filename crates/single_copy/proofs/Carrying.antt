@@ -73,7 +73,7 @@ pub goes_join : {L : Type 0} (gives : L → Giving) (takes : L → Taking) (a b 
     → Goes gives takes a b records bytes → is_down b.signs ≡ false → Goes gives takes b c more rest → Goes gives takes a c (records ++ more) (bytes ++ rest)
 goes_join gives takes a b c records more bytes rest one up two = record {
   brought = λ start earlier told.
-  subst (HasTold (left_of gives) start c) (append_assoc earlier records more) (two.brought start (earlier ++ records) (one.brought start earlier told));
+      subst (HasTold (left_of gives) start c) (append_assoc earlier records more) (two.brought start (earlier ++ records) (one.brought start earlier told));
   front = front_more _ _ _ bytes rest (one.whole up) two.front;
   whole = λ still. Appends-trans _ _ _ bytes rest (one.whole up) (two.whole still);
   down = λ down. absurd (false≢true (sym up ∙ ap (λ w. is_down w.signs) (one.down down) ∙ down));

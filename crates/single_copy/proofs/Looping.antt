@@ -91,7 +91,7 @@ went_more terms start now next was phase left left_now went on =
       steps = omega (arith, counted, went.steps, on.fewer);
       new = λ fresh. absurd (false≢true (sym (after_begun on.turn.event on.turn.out.undrawn next.client was _ _ is.due) ∙ ap is_fresh (sym is.becomes) ∙ ap is_fresh fresh));
       drawn = subst (DrawHasCause (terms.conduct.faults start.draws) (terms.conduct.faults next.draws)) (sym is.becomes)
-      (after_drawn _ (terms.conduct.faults now.draws) _ on.turn.event on.turn.out.undrawn next.client was _ _ is.due went.later is.acts.undrawn);
+          (after_drawn _ (terms.conduct.faults now.draws) _ on.turn.event on.turn.out.undrawn next.client was _ _ is.due went.later is.acts.undrawn);
       later = omega (arith, went.later, is.acts.later);
     }
 
@@ -188,7 +188,7 @@ short_starves terms start source dest client tells short = record {
   client = short.client;
   few = short.few;
   source = link_starves terms _ start.source short.last.source source _ _ tells
-  (goes_runs terms Source start short.last phases.Fresh short.phase short.turns tells short.runs) short.up.source short.source;
+      (goes_runs terms Source start short.last phases.Fresh short.phase short.turns tells short.runs) short.up.source short.source;
   dest = link_starves terms _ start.dest short.last.dest dest _ _ tells
-  (goes_runs terms Dest start short.last phases.Fresh short.phase short.turns tells short.runs) short.up.dest short.dest;
+      (goes_runs terms Dest start short.last phases.Fresh short.phase short.turns tells short.runs) short.up.dest short.dest;
 }

@@ -59,15 +59,15 @@ pub sends_join : {L : Type 0} (gives : L → Giving) (takes : L → Taking) (a b
 sends_join gives takes a b c first second one two =
     elim (cases_Bool (is_down b.signs)) [
       | inl is ↦ (
-        let same = two.down is in
-        subst (λ last. Sends gives takes a last (first ++ second)) (sym same) (record {
-          front = front_wider _ _ first second one.front;
-          whole = λ up. not_both _ up is;
-          down = λ down. one.down down;
-          failed = λ up down. one.failed up down;
-          told = λ start records told. one.told start records told;
-          stays = one.stays;
-        }))
+          let same = two.down is in
+          subst (λ last. Sends gives takes a last (first ++ second)) (sym same) (record {
+            front = front_wider _ _ first second one.front;
+            whole = λ up. not_both _ up is;
+            down = λ down. one.down down;
+            failed = λ up down. one.failed up down;
+            told = λ start records told. one.told start records told;
+            stays = one.stays;
+          }))
       | inr is ↦ record {
         front = front_more _ _ _ first second (one.whole is) two.front;
         whole = λ up. Appends-trans _ _ _ first second (one.whole is) (two.whole up);

@@ -51,7 +51,11 @@ pub fn copy_once<L: Source + Sink, M: Mechanism, C: Clock, W: Draws>(
 {
     nexts_join::<L>();
     let phase = make_turns(alloc, source, dest, client, copy, clock, draws)?;
-    Ok(answer(phase, client.client.report(COPY_NUMBER), any_faulty(source, dest)))
+    Ok(answer(
+        phase,
+        client.client.report(COPY_NUMBER),
+        any_faulty(source, dest),
+    ))
 }
 
 /// Makes turns until nothing is due, or a link stops them, and says how far the client is then.
@@ -82,7 +86,9 @@ fn make_turns<L: Source + Sink, M: Mechanism, C: Clock, W: Draws>(
     };
     let mut phase = Phase::Fresh;
     'turns: while both_up(source, dest) {
-        match turn(alloc, source, dest, &mut left, client, phase, copy, clock, draws)? {
+        match turn(
+            alloc, source, dest, &mut left, client, phase, copy, clock, draws,
+        )? {
             None => return Ok(phase),
             Some(now) => phase = now,
         }

@@ -35,4 +35,3 @@ fn is_to(side: Side, to: To) -> bool
         _ => false,
     }
 }
-

@@ -61,10 +61,33 @@ pub(crate) fn turn<L: Source + Sink, M: Mechanism, C: Clock, W: Draws>(
     ensures later { W.faults draws.old ≤ W.faults draws.new }
     ensures failing { W.failing draws.new ≡ W.failing draws.old }
 {
-    match phase.due(client.client.awaits(Side::Source), client.client.awaits(Side::Dest)) {
+    match phase.due(
+        client.client.awaits(Side::Source),
+        client.client.awaits(Side::Dest),
+    ) {
         Due::Begin => Ok(Some(begin_turn(alloc, source, dest, client, phase, copy, clock, draws)?)),
-        Due::Hear(Side::Source) => hear_turn(alloc, Side::Source, source, dest, &mut left.source, client, phase, clock, draws),
-        Due::Hear(Side::Dest) => hear_turn(alloc, Side::Dest, dest, source, &mut left.dest, client, phase, clock, draws),
+        Due::Hear(Side::Source) => hear_turn(
+            alloc,
+            Side::Source,
+            source,
+            dest,
+            &mut left.source,
+            client,
+            phase,
+            clock,
+            draws,
+        ),
+        Due::Hear(Side::Dest) => hear_turn(
+            alloc,
+            Side::Dest,
+            dest,
+            source,
+            &mut left.dest,
+            client,
+            phase,
+            clock,
+            draws,
+        ),
         Due::Leave => Ok(Some(leave_turn(alloc, source, dest, client, phase, clock, draws)?)),
         Due::Nothing => Ok(None),
     }
@@ -97,7 +120,9 @@ fn begin_turn<L: Source + Sink, M: Mechanism, C: Clock, W: Draws>(
     ensures failing { W.failing draws.new ≡ W.failing draws.old }
 {
     let now = clock.now();
-    let out = client.client.begin_copy(alloc, COPY_NUMBER, copy, now, draws)?;
+    let out = client
+        .client
+        .begin_copy(alloc, COPY_NUMBER, copy, now, draws)?;
     send_all(source, Side::Source, out.sent.as_slice());
     send_all(dest, Side::Dest, out.sent.as_slice());
     Ok(phase.after(out.undrawn, client.client.report(COPY_NUMBER)))
