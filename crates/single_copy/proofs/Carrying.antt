@@ -1,16 +1,15 @@
 -- What a link brings and takes, turn after turn.
-use Rattle.std.proofs.Common.{◌≡◌, ℕ, ◌+◌, ◌≤◌, ◌<◌, Bool, true, false, nat_lt, min, List, [], ◌∷◌, ◌++◌, ◌⊎◌, inl, inr, length, refl, sym, ap, subst, ◌∙◌, arith, append-nil, append_assoc}
-use Rattle.std.proofs.lemmas.Bool.{false≢true, true≢false, cases_Bool}
+use Rattle.std.proofs.Common.{◌≡◌, ℕ, true, false, List, [], ◌∷◌, ◌++◌, ◌⊎◌, inl, inr, refl, sym, ap, subst, ◌∙◌, arith, append-nil, append_assoc}
+use Rattle.std.proofs.lemmas.Bool.{false≢true, cases_Bool}
 use Rattle.std.specs.Io.KnownBytes.{Appends}
 use Rattle.std.proofs.KnownBytes.{Appends-nil, Appends-trans}
 use Rattle.outcome.specs.Causes.{Rose}
-use Rattle.rpc_msg.specs.Watching.{Watch, Signs, Why, Ended, Failed, TooLarge, TooLong, GoesDown, HasTold, NextIs, Reads, Because, is_down, signs_of, standing}
-use Rattle.rpc_msg.specs.declared.watched.Got.TheVariants as got
-use Rattle.streams.specs.FrontLaws.{front_none, front_wider, front_more}
+use Rattle.rpc_msg.specs.Watching.{Watch, Signs, Why, Ended, Failed, TooLarge, TooLong, HasTold, Reads, Because, is_down, signs_of, standing}
+use Rattle.streams.specs.FrontLaws.{front_none, front_more}
 use Rattle.streams.specs.Sink.{AppendsFront}
 use Rattle.streams.specs.Stream.{Giving, Taking, faults_of, left_of}
 use Rattle.single_copy.specs.Links.{Brings, Carries, Falls, Sends, Stays, is_faulty}
-use Rattle.single_copy.proofs.Puts.{not_both, sends_none, stays_join, stays_same}
+use Rattle.single_copy.proofs.Puts.{not_both, stays_join, stays_same}
 
 -- What the calls of a watched link tell, taken together.
 abbrev pub TellsOn : {L : Type 0} → (L → Giving) → Type 0

@@ -1,5 +1,5 @@
 -- A failed draw is answered only where the draws' count of faults rose.
-use Rattle.std.proofs.Common.{◌≡◌, ℕ, Bool, true, false, Option, Some, None, refl, sym, ap, ◌∙◌}
+use Rattle.std.proofs.Common.{◌≡◌, ℕ, Bool, true, false, Option, refl, sym, ap, ◌∙◌}
 use Rattle.std.proofs.lemmas.Bool.{false≢true}
 use Rattle.outcome.specs.Causes.{Rose}
 use Rattle.client_copies.specs.declared.copy.Report.{Report}

@@ -1,9 +1,8 @@
 -- Turns, one after the other, until no more are made.
-use Rattle.std.proofs.Common.{◌≡◌, ℕ, ◌+◌, ◌*◌, ◌<◌, ◌≤◌, ◌||◌, Bool, true, false, List, [], ◌∷◌, ◌++◌, Option, Some, None, length, refl, sym, ap, subst, ◌∙◌, arith, length-append}
+use Rattle.std.proofs.Common.{◌≡◌, ℕ, ◌+◌, ◌≤◌, ◌||◌, Bool, true, false, List, [], ◌∷◌, ◌++◌, None, length, refl, sym, ap, subst, ◌∙◌, arith, length-append}
 use Rattle.std.proofs.lemmas.Bool.{false≢true}
 use Rattle.outcome.specs.Causes.{Rose}
-use Rattle.client_core.specs.State.{new_client}
-use Rattle.client_core.specs.Telling.{awaits, copy_of, report_of}
+use Rattle.client_core.specs.Telling.{copy_of, report_of}
 use Rattle.client_leaving.specs.declared.leaving.Leaving.{Leaving}
 use Rattle.nfs_base.specs.declared.side.Side.{Side}
 use Rattle.nfs_base.specs.declared.side.Side.TheVariants.{Source, Dest}
@@ -13,7 +12,7 @@ use Rattle.single_copy.specs.Copying.{Copies, IsNew, Starves, Stops, answer_at}
 use Rattle.single_copy.specs.Drawing.{DrawHasCause}
 use Rattle.single_copy.specs.Phases.{due_in}
 use Rattle.single_copy.specs.Stepping.{Counts, Halts, Done, Full, Fell, RunsOut, RunsShort, TurnsOn, Wants, left_at, turns_left}
-use Rattle.single_copy.specs.Turns.{Begins, BothUp, Event, Hears, IsTurn, Leaves, Parties, Runs, Terms, Turn, due_at, due_of, heard, listed, message_at, phase_after, told}
+use Rattle.single_copy.specs.Turns.{Begins, BothUp, Event, Hears, Leaves, Parties, Runs, Terms, Turn, due_of, heard, listed, message_at, phase_after}
 use Rattle.single_copy.specs.declared.answers.Copied.{Copied}
 use Rattle.single_copy.specs.declared.links.TheConstants.{MOST_RECORDS}
 use Rattle.single_copy.specs.declared.phases.Due.{Due}
@@ -23,7 +22,7 @@ use Rattle.single_copy.specs.declared.phases.TheConstants.{COPY_NUMBER}
 use Rattle.single_copy.specs.declared.turns.Allowance.{Allowance}
 use Rattle.single_copy.proofs.Carrying.{TellsOn}
 use Rattle.single_copy.proofs.Counting.{acts_counted}
-use Rattle.single_copy.proofs.Phasing.{is_fresh, is_leave, is_nothing, left_begun, left_drawn, went_begun, went_drawn}
+use Rattle.single_copy.proofs.Phasing.{is_fresh, is_nothing, left_begun, left_drawn, went_begun, went_drawn}
 use Rattle.single_copy.proofs.Running.{goes_runs, heard_more, link_starves, link_stops, runs_more}
 
 -- What holds between two turns.

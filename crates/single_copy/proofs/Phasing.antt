@@ -1,11 +1,11 @@
 -- How far a client is, turn after turn.
-use Rattle.std.proofs.Common.{◌≡◌, ℕ, ◌+◌, ◌<◌, ◌≤◌, min, Bool, true, false, Option, Some, None, refl, sym, ap, ◌∙◌, arith}
+use Rattle.std.proofs.Common.{◌≡◌, ℕ, ◌<◌, ◌≤◌, Bool, true, false, Option, Some, None, refl, sym, ap, arith}
 use Rattle.std.proofs.lemmas.Bool.{false≢true}
 use Rattle.outcome.specs.Causes.{Rose}
 use Rattle.client_copies.specs.declared.copy.Report.{Report}
 use Rattle.single_copy.specs.Drawing.{DrawHasCause}
 use Rattle.single_copy.specs.LastReports.{last_of}
-use Rattle.single_copy.specs.Phases.{asked, due_in, parted, told, turns_in, went_on}
+use Rattle.single_copy.specs.Phases.{asked, due_in, parted, turns_in, went_on}
 use Rattle.single_copy.specs.declared.answers.LastReport.{LastReport}
 use Rattle.single_copy.specs.declared.phases.Due.{Due}
 use Rattle.single_copy.specs.declared.phases.Due.TheVariants.{Begin, Hear, Leave, Nothing}

@@ -1,17 +1,12 @@
 -- Bytes that are put to a link one after the other.
-use Rattle.std.proofs.Common.{◌≡◌, ℕ, ◌+◌, ◌-◌, ◌≤◌, Bool, true, false, min, List, [], ◌∷◌, ◌++◌, length, take, drop, refl, sym, ap, subst, ◌∙◌, inl, inr, arith, append-nil, take-append-drop, length-drop}
+use Rattle.std.proofs.Common.{◌≡◌, ℕ, ◌+◌, ◌-◌, Bool, true, false, List, [], ◌++◌, length, take, drop, refl, sym, ap, subst, ◌∙◌, inl, inr, arith, take-append-drop, length-drop}
 use Rattle.std.proofs.Math.Seq.{take-add, take-length}
-use Rattle.std.proofs.lemmas.Bool.{false≢true, true≢false, cases_Bool}
-use Rattle.std.specs.Io.KnownBytes.{Appends, Keeps}
-use Rattle.std.proofs.KnownBytes.{Appends-nil, Appends-trans, Keeps-refl}
-use Rattle.outcome.specs.Causes.{Rose}
-use Rattle.rpc_msg.specs.Watching.{Watch, Signs, Failed, HasTold, PutsThrough, is_down, no_signs, signs_of}
-use Rattle.streams.specs.FrontLaws.{front_none, front_all, front_wider, front_more}
-use Rattle.streams.specs.Sink.{AppendsFront, PutsBytes, PutHasCause}
-use Rattle.streams.specs.Stream.{Giving, Taking, left_of}
-use Rattle.streams.specs.declared.sink.Put.{Put}
-use Rattle.streams.specs.declared.sink.Put.TheVariants as puts
-use Rattle.single_copy.specs.Links.{Sends, Stays, is_failed, offered}
+use Rattle.std.proofs.lemmas.Bool.{false≢true, cases_Bool}
+use Rattle.std.proofs.KnownBytes.{Appends-nil, Appends-trans}
+use Rattle.rpc_msg.specs.Watching.{Watch, is_down}
+use Rattle.streams.specs.FrontLaws.{front_none, front_wider, front_more}
+use Rattle.streams.specs.Stream.{Giving, Taking}
+use Rattle.single_copy.specs.Links.{Sends, Stays}
 
 pub stays_same : {L : Type 0} (gives : L → Giving) (takes : L → Taking) (link : L) → Stays gives takes link link
 stays_same gives takes link = record { whole = refl; takes_failing = refl; puts_failing = refl; takes_later = omega arith; puts_later = omega arith }

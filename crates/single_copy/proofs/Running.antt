@@ -1,12 +1,10 @@
 -- Turns in their order, and what both links bring and take in them.
-use Rattle.std.proofs.Common.{◌≡◌, ℕ, ◌+◌, ◌≤◌, Bool, true, false, List, [], ◌∷◌, ◌++◌, Option, Some, None, inl, inr, length, refl, sym, ap, subst, ◌∙◌, arith, append-nil, append_assoc, length-append}
-use Rattle.std.specs.List.{flat_map}
+use Rattle.std.proofs.Common.{◌≡◌, ℕ, false, List, [], ◌∷◌, ◌++◌, Option, Some, None, refl, sym, ap, subst, ◌∙◌, append-nil, append_assoc}
 use Rattle.nfs_base.specs.declared.side.Side.{Side}
 use Rattle.nfs_base.specs.declared.side.Side.TheVariants.{Source, Dest}
-use Rattle.outbox.specs.declared.outgoing.Outbox.{Outbox}
 use Rattle.rpc_msg.specs.Watching.{Watch, is_down}
 use Rattle.single_copy.specs.Copying.{FallsAt, Stops, Done, Down, Full, Fell}
-use Rattle.single_copy.specs.Links.{Brings, Carries, Falls, Sends}
+use Rattle.single_copy.specs.Links.{Carries, Sends}
 use Rattle.single_copy.specs.Sending.{put_to}
 use Rattle.single_copy.specs.Turns.{BothUp, IsTurn, Moves, Parties, Runs, TakesFrom, Terms, Turn, heard, listed, message_at, told}
 use Rattle.single_copy.specs.declared.phases.Phase.{Phase}

@@ -1,20 +1,17 @@
 -- A turn, of its parts.
-use Rattle.std.proofs.Common.{◌≡◌, ℕ, ◌+◌, ◌<◌, ◌≤◌, Bool, true, false, List, [], ◌∷◌, Option, Some, None, length, refl, sym, ap, subst, ◌∙◌, ◌⊎◌, inl, inr, arith}
+use Rattle.std.proofs.Common.{◌≡◌, ℕ, ◌+◌, ◌≤◌, Bool, List, None, refl, sym, ap, ◌∙◌, ◌⊎◌, inl, inr, arith}
 use Rattle.client_core.specs.Telling.{awaits, copy_of, report_of}
 use Rattle.client_leaving.specs.declared.leaving.Leaving.{Leaving}
 use Rattle.nfs_base.specs.declared.side.Side.{Side}
 use Rattle.nfs_base.specs.declared.side.Side.TheVariants.{Source, Dest}
 use Rattle.rpc_msg.specs.Watching.{Watch}
-use Rattle.single_copy.specs.Copying.{FallsAt}
-use Rattle.single_copy.specs.Links.{Brings, Falls, Sends}
-use Rattle.single_copy.specs.Phases.{due_in, parted, turns_in, went_on}
-use Rattle.single_copy.specs.Sending.{put_to}
-use Rattle.single_copy.specs.Stepping.{Counts, Halts, Done, Full, Fell, HearsShort, HearsTurn, Idles, OwnTurn, TurnsOn, Wants, other, turns_left}
-use Rattle.single_copy.specs.Turns.{Begins, BothUp, Event, Hears, IsTurn, Leaves, Moves, Parties, TakesFrom, Terms, Turn, due_at, due_of, listed, message_at, phase_after}
+use Rattle.single_copy.specs.Links.{Brings, Falls}
+use Rattle.single_copy.specs.Phases.{due_in, turns_in, went_on}
+use Rattle.single_copy.specs.Stepping.{Halts, Full, Fell, HearsShort, HearsTurn, Idles, OwnTurn, TurnsOn, Wants, other}
+use Rattle.single_copy.specs.Turns.{Begins, BothUp, Event, Hears, Leaves, Parties, TakesFrom, Terms, due_at, due_of, message_at, phase_after}
 use Rattle.single_copy.specs.declared.phases.Due.{Due}
 use Rattle.single_copy.specs.declared.phases.Due.TheVariants as dues
 use Rattle.single_copy.specs.declared.phases.Phase.{Phase}
-use Rattle.single_copy.specs.declared.phases.Phase.TheVariants as phases
 use Rattle.single_copy.specs.declared.phases.TheConstants.{COPY_NUMBER}
 use Rattle.single_copy.specs.declared.turns.Allowance.{Allowance}
 use Rattle.single_copy.proofs.Phasing.{begins_fresh, begun_turns, heard_turns, left_turns}

@@ -1,5 +1,5 @@
 -- What is answered of a copy: its last report, or why it has none.
-use Rattle.std.specs.Prelude.{Bool, true, false, if◌then◌else◌, Option, Some, None}
+use Rattle.std.specs.Prelude.{Bool, false, if◌then◌else◌, Option, Some, None}
 use Rattle.client_copies.specs.declared.copy.Report.{Report}
 use Rattle.nfs_base.specs.declared.status.TheConstants.Status.{BADSESSION}
 use Rattle.single_copy.specs.LastReports.{is_stable}

@@ -1,6 +1,6 @@
 -- One copy from its begin to its end: the turns that were made, why no more were, what is answered, and what both links brought
 -- and took.
-use Rattle.std.specs.Prelude.{◌≡◌, ℕ, ◌≤◌, ◌||◌, ◌⊎◌, Bool, true, false, List, ◌++◌, length}
+use Rattle.std.specs.Prelude.{◌≡◌, ◌≤◌, ◌||◌, true, List, ◌++◌, length}
 use Rattle.rpc_msg.specs.Watching.{Watch, is_down}
 use Rattle.nfs_base.specs.declared.side.Side.{Side}
 use Rattle.nfs_base.specs.declared.side.Side.TheVariants.{Source, Dest}

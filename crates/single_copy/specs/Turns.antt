@@ -12,7 +12,6 @@ use Rattle.outbox.specs.declared.outgoing.Outbox.{Outbox}
 use Rattle.client_steps.specs.declared.setting.Setting.{Setting}
 use Rattle.client_core.specs.Commands.{IsBegun}
 use Rattle.client_core.specs.Endings.{Ways}
-use Rattle.client_core.specs.State.{ClientState}
 use Rattle.client_core.specs.Telling.{awaits, copy_of, report_of}
 use Rattle.client_leaving.specs.Leaving.{IsClients, IsRecord, farewell_step}
 use Rattle.client_leaving.specs.declared.leaving.Leaving.{Leaving}

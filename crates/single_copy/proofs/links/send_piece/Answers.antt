@@ -1,5 +1,5 @@
-use Rattle.std.proofs.Common.{◌≤◌, length, subst, ap, ◌∙◌, arith, length-drop}
-use Rattle.single_copy.specs.Links.{is_failed, offered}
+use Rattle.std.proofs.Common.{ap, ◌∙◌, arith, length-drop}
+use Rattle.single_copy.specs.Links.{is_failed}
 use Rattle.single_copy.proofs.Puts.{sends_more, sends_rest}
 use Rattle.single_copy.proofs.links.send_piece.Goals as goal
 
