@@ -1,0 +1,10 @@
+pub mod Carrying
+pub mod Counting
+pub mod Faulted
+pub mod Looping
+pub mod Outcomes
+pub mod Phasing
+pub mod Puts
+pub mod Running
+pub mod Sent
+pub mod Turning

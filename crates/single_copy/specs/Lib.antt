@@ -1,0 +1,9 @@
+pub mod Answers
+pub mod Copying
+pub mod Drawing
+pub mod LastReports
+pub mod Links
+pub mod Phases
+pub mod Sending
+pub mod Stepping
+pub mod Turns
