@@ -1,6 +1,6 @@
 -- The workers' links, link by link.
-use Rattle.std.proofs.Common.{◌≡◌, ℕ, ◌+◌, ◌<◌, List, [], ◌∷◌, ◌++◌, length, take, drop, slice_index_or, map, refl, sym, ap, ◌∙◌, arith, append_assoc, append-nil}
-use Rattle.net_links.specs.Links.{Standing, IsTold, HangsUp}
+use Rattle.std.proofs.Common.{◌≡◌, ℕ, ◌+◌, ◌<◌, List, [], ◌∷◌, ◌++◌, length, take, drop, slice_index_or, refl, sym, ap, ◌∙◌, arith, append_assoc, append-nil}
+use Rattle.net_links.specs.Links.{Standing, HangsUp}
 use Rattle.streams.specs.Stream.{Giving, Taking}
 use Rattle.copy_workers.specs.Workers.{AllUnsent}
 use Rattle.rpc_msg.specs.Watching.{Watch}

@@ -1,4 +1,5 @@
 pub mod Crew
+pub mod CrewLaws
 pub mod Hanging
 pub mod Keeping
 pub mod Replies
