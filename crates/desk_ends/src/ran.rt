@@ -27,10 +27,14 @@ pub struct Counts {
     pub down: u32,
 }
 
-/// What came of it.
-#[derive(Drop)]
-pub struct Ran {
+/// What was seen of the workers, of their links and of the client.
+#[derive(Clone, Copy)]
+pub struct Seen {
     pub counts: Counts,
+
+    /// How many calls the client's leave took; None where an answer was awaited still, or a server could be called without being set
+    /// up anew.
+    pub leave: Option<u32>,
 
     /// How many READs were put of which no answer was given yet, at the moment at which they were most.
     pub most: u64,
@@ -40,6 +44,12 @@ pub struct Ran {
 
     /// What the client said last of its two copies.
     pub reports: [Option<Report>; 2],
+}
+
+/// What came of it.
+#[derive(Drop)]
+pub struct Ran {
+    pub seen: Seen,
 
     pub source: SourceCore<MemoryDisk, Realm>,
 

@@ -1,5 +1,6 @@
 use crate::ends::{ClientEnd, SourceEnd, StillClock};
 use crate::plan::Plan;
+use crate::ran::{Counts, Seen};
 use crate::reads::Reads;
 use core_desk::CoreDesk;
 use dest_core::DestCore;
@@ -54,7 +55,7 @@ impl<'a, R: Wait, L: Ledger, T: Ledger, G: Ledger> Room<'a, R, L, T, G> {
                 .client
                 .lock(self.rt)
                 .begin(self.alloc, j, self.plan.spec(j))?;
-            self.carry(out)?;
+            let _sent = self.carry(out)?;
         }
         Ok(())
     }
@@ -71,7 +72,7 @@ impl<'a, R: Wait, L: Ledger, T: Ledger, G: Ledger> Room<'a, R, L, T, G> {
             .client
             .lock(self.rt)
             .take(self.alloc, Side::Dest, bytes)?;
-        self.carry(out)?;
+        let _sent = self.carry(out)?;
         let is_over = self.client.lock(self.rt).is_over(self.plan.copies());
         if is_over {
             self.desk.lock(self.rt).close();
@@ -79,12 +80,22 @@ impl<'a, R: Wait, L: Ledger, T: Ledger, G: Ledger> Room<'a, R, L, T, G> {
         Ok(())
     }
 
-    /// Carries what the client sends to the servers, and the answers back, until nothing is under way.
-    fn carry(&self, out: Outbox) -> Result<(), Wrong> {
+    /// The client takes leave of both servers. How many calls that takes; None where an answer is awaited still, or a server
+    /// could be called without being set up anew.
+    pub(crate) fn leave(&self) -> Result<Option<u32>, Wrong> {
+        let out = self.client.lock(self.rt).leave(self.alloc)?;
+        let calls = self.carry(out)?;
+        let has_left = self.client.lock(self.rt).has_left();
+        Ok(if has_left { Some(calls) } else { None })
+    }
+
+    /// Carries what the client sends to the servers, and the answers back, until nothing is under way. How many records the client
+    /// sent.
+    fn carry(&self, out: Outbox) -> Result<u32, Wrong> {
         let mut waiting = out.sent.into_vec();
-        for _ in 0..MOST_RECORDS {
+        for sent in 0..MOST_RECORDS {
             if waiting.is_empty() {
-                return Ok(());
+                return Ok(sent);
             }
             let next = waiting.remove(0);
             self.deliver(&next, &mut waiting)?;
@@ -121,6 +132,19 @@ impl<'a, R: Wait, L: Ledger, T: Ledger, G: Ledger> Room<'a, R, L, T, G> {
                 Ok((Side::Dest, out))
             }
             To::Server(End::Client) | To::Conn(_) | To::Source(_) => Err(Wrong::Lacks("a server")),
+        }
+    }
+
+    /// What is seen of the links and of the client, where the workers came to this and the leave to that.
+    pub(crate) fn seen(&self, counts: Counts, leave: Option<u32>) -> Seen {
+        let reads = *self.reads.lock(self.rt);
+        let client = self.client.lock(self.rt);
+        Seen {
+            counts,
+            leave,
+            most: reads.most,
+            faults: reads.faults,
+            reports: [client.report(1), client.report(2)],
         }
     }
 

@@ -5,9 +5,9 @@ use crate::ends::{ClientEnd, SourceEnd, StillClock};
 use crate::link::RoomLink;
 use crate::making::{new_client, new_dest, new_source};
 use crate::plan::Plan;
-use crate::ran::{Counts, Ran, count_all};
+use crate::ran::{Counts, Ran, Seen, count_all};
 use crate::reads::Reads;
-use crate::room::Room;
+use crate::room::{MemoryDesk, Room};
 use copy_workers::{Gate, Resting, run_workers};
 use core_desk::{Core, CoreDesk};
 use dest_core::DestCore;
@@ -17,7 +17,7 @@ use outcome::Mem;
 use rpc_msg::{RecordFeed, Watched};
 use std::alloc::Global;
 use std::marker::{Brand, Send};
-use std::sync::ledger::{Blank, Book, Ledger, Share};
+use std::sync::ledger::{Blank, Ledger, Share};
 use std::sync::{Mutex, Wait};
 use std::thread::Threads;
 use streams::CountDraws;
@@ -31,15 +31,33 @@ struct Ends {
     client: ClientEnd,
 }
 
-/// Makes the ends, lets the client begin its copies, and then has them carried out by workers.
+/// The shares of landed bytes, of turns and of bytes given to send, each with all parts of its ledger.
+#[derive(Drop)]
+struct Shares<L: Ledger, T: Ledger, G: Ledger> {
+    landed: Share<L>,
+    turned: Share<T>,
+    given: Share<G>,
+}
+
+/// Makes the ends, lets the client begin its copies, has them carried out by workers, and then lets the client take leave.
 pub fn run<R: Threads + Wait + Sync>(rt: &R, alloc: Global, plan: Plan) -> Result<Ran, Wrong> {
-    let ends = Ends {
-        source: SourceEnd::new(new_source(alloc, plan.size)?),
-        dest: new_dest(alloc, plan.files(), plan.size)?,
-        client: ClientEnd::new(new_client(alloc)?),
-    };
+    let ends = Ends::new(alloc, plan)?;
     let (landed, turns, given) = (Blank::new(8), Blank::new(8), Blank::new(8));
     run_over::<Brand, Brand, Brand, R>(rt, alloc, plan, ends, landed, turns, given)
+}
+
+impl Ends {
+    /// The ends of a plan.
+    fn new(alloc: Global, plan: Plan) -> Result<Ends, Wrong> {
+        let source = SourceEnd::new(new_source(alloc, plan.size)?);
+        let dest = new_dest(alloc, plan.files(), plan.size)?;
+        let client = ClientEnd::new(new_client(alloc)?);
+        Ok(Ends {
+            source,
+            dest,
+            client,
+        })
+    }
 }
 
 /// The same over these ends, with the books of these ledgers.
@@ -61,71 +79,148 @@ fn run_over<L: Ledger + Send, T: Ledger + Send, G: Ledger + Send, R: Threads + W
         dest,
         client,
     } = ends;
-    let (landed_book, all) = landed.open::<L>();
-    let (turns_book, turned) = turns.open::<T>();
-    let (given_book, sends) = given.open::<G>();
-    let desk = Mutex::new(new_desk(dest, landed_book, turns_book, given_book)?);
-    let (source, client) = (Mutex::new(source), Mutex::new(client));
-    let reads = Mutex::new(Reads::none());
-    let room = Room {
-        rt,
-        alloc,
-        plan,
-        source: &source,
-        client: &client,
-        desk: &desk,
-        reads: &reads,
-    };
-    let counts = carry_out(&room, all, turned, sends)?;
-    let (reads, client) = (reads.into_inner(), client.into_inner());
-    Ok(Ran {
-        counts,
-        most: reads.most,
-        faults: reads.faults,
-        reports: [client.report(1), client.report(2)],
-        source: source.into_inner().core,
-        dest: desk.into_inner().hand_back(),
-    })
+    let (desk, shares) = new_desk::<L, T, G, _>(dest, landed, turns, given)?;
+    run_at(rt, alloc, plan, source, client, desk, shares)
 }
 
-/// The desk of a machine that landed nothing yet.
+/// The desk of a machine that landed nothing yet, with the books of these ledgers, and the shares of each.
 fn new_desk<L: Ledger, T: Ledger, G: Ledger, K: Core<CountDraws> + Drop>(
     core: K,
-    landed: Book<L>,
-    turns: Book<T>,
-    given: Book<G>,
-) -> Result<CoreDesk<L, T, G, K, StillClock, CountDraws>, Wrong>
-    requires { landed.total ≡ 0 }
+    landed: Blank,
+    turns: Blank,
+    given: Blank,
+) -> Result<
+    (
+        CoreDesk<L, T, G, K, StillClock, CountDraws>,
+        Shares<L, T, G>,
+    ),
+    Wrong,
+>
+    requires landed { (landed.name ≡ L.name) × (landed.parts ≡ L.parts) }
+    requires turns { (turns.name ≡ T.name) × (turns.parts ≡ T.parts) }
+    requires given { (given.name ≡ G.name) × (given.parts ≡ G.parts) }
+    ensures landed { IfOk result (λ made. (made.1.landed.parts ≡ L.parts) × (made.1.landed.amount ≡ 0)) }
+    ensures turned { IfOk result (λ made. (made.1.turned.parts ≡ T.parts) × (made.1.turned.amount ≡ 0)) }
+    ensures given { IfOk result (λ made. (made.1.given.parts ≡ G.parts) × (made.1.given.amount ≡ 0)) }
 {
     if core.landed() != 0 {
         return Err(Wrong::Lacks("a machine that is new"));
     }
-    Ok(CoreDesk::new(core, StillClock, CountDraws::new(), landed, turns, given))
+    let (landed_book, landed) = landed.open::<L>();
+    let (turns_book, turned) = turns.open::<T>();
+    let (given_book, given) = given.open::<G>();
+    let draws = CountDraws::new();
+    let desk = CoreDesk::new(core, StillClock, draws, landed_book, turns_book, given_book);
+    Ok((
+        desk,
+        Shares {
+            landed,
+            turned,
+            given,
+        },
+    ))
 }
 
-/// The client begins its copies, and the workers carry them out, each at a link.
-fn carry_out<L: Ledger + Send, T: Ledger + Send, G: Ledger + Send, R: Threads + Wait + Sync>(
+/// The same over these ends and this desk.
+fn run_at<L: Ledger + Send, T: Ledger + Send, G: Ledger + Send, R: Threads + Wait + Sync>(
+    rt: &R,
+    alloc: Global,
+    plan: Plan,
+    source: SourceEnd,
+    client: ClientEnd,
+    desk: MemoryDesk<L, T, G>,
+    shares: Shares<L, T, G>,
+) -> Result<Ran, Wrong>
+    requires landed { (shares.landed.parts ≡ L.parts) × (shares.landed.amount ≡ 0) × (8 ≤ L.parts) }
+    requires turned { (shares.turned.parts ≡ T.parts) × (shares.turned.amount ≡ 0) × (8 ≤ T.parts) }
+    requires given { (shares.given.parts ≡ G.parts) × (shares.given.amount ≡ 0) × (8 ≤ G.parts) }
+{
+    let (source, desk) = (Mutex::new(source), Mutex::new(desk));
+    let seen = copy_all(rt, alloc, plan, &source, client, &desk, shares);
+    ended(seen, source.into_inner(), desk.into_inner())
+}
+
+/// What came of it, by what was seen and what these ends are then.
+fn ended<L: Ledger, T: Ledger, G: Ledger>(
+    seen: Result<Seen, Wrong>,
+    source: SourceEnd,
+    desk: MemoryDesk<L, T, G>,
+) -> Result<Ran, Wrong> {
+    let seen = seen?;
+    Ok(Ran {
+        seen,
+        source: source.core,
+        dest: desk.hand_back(),
+    })
+}
+
+/// The client begins its copies, the workers carry them out, and then the client takes leave.
+fn copy_all<L: Ledger + Send, T: Ledger + Send, G: Ledger + Send, R: Threads + Wait + Sync>(
+    rt: &R,
+    alloc: Global,
+    plan: Plan,
+    source: &Mutex<SourceEnd>,
+    client: ClientEnd,
+    desk: &Mutex<MemoryDesk<L, T, G>>,
+    shares: Shares<L, T, G>,
+) -> Result<Seen, Wrong>
+    requires landed { (shares.landed.parts ≡ L.parts) × (shares.landed.amount ≡ 0) × (8 ≤ L.parts) }
+    requires turned { (shares.turned.parts ≡ T.parts) × (shares.turned.amount ≡ 0) × (8 ≤ T.parts) }
+    requires given { (shares.given.parts ≡ G.parts) × (shares.given.amount ≡ 0) × (8 ≤ G.parts) }
+{
+    let (client, reads) = (Mutex::new(client), Mutex::new(Reads::none()));
+    let room = Room {
+        rt,
+        alloc,
+        plan,
+        source,
+        client: &client,
+        desk,
+        reads: &reads,
+    };
+    copy_in(&room, shares)
+}
+
+/// The same in a room.
+fn copy_in<L: Ledger + Send, T: Ledger + Send, G: Ledger + Send, R: Threads + Wait + Sync>(
     room: &Room<'_, R, L, T, G>,
-    all: Share<L>,
-    turned: Share<T>,
-    given: Share<G>,
-) -> Result<Counts, Wrong>
-    requires all { (all.parts ≡ L.parts) × (all.amount ≡ 0) × (8 ≤ L.parts) }
-    requires turned { (turned.parts ≡ T.parts) × (turned.amount ≡ 0) × (8 ≤ T.parts) }
-    requires given { (given.parts ≡ G.parts) × (given.amount ≡ 0) × (8 ≤ G.parts) }
+    shares: Shares<L, T, G>,
+) -> Result<Seen, Wrong>
+    requires landed { (shares.landed.parts ≡ L.parts) × (shares.landed.amount ≡ 0) × (8 ≤ L.parts) }
+    requires turned { (shares.turned.parts ≡ T.parts) × (shares.turned.amount ≡ 0) × (8 ≤ T.parts) }
+    requires given { (shares.given.parts ≡ G.parts) × (shares.given.amount ≡ 0) × (8 ≤ G.parts) }
 {
     room.begin()?;
+    let counts = carry_out(room, shares)?;
+    let leave = room.leave()?;
+    Ok(room.seen(counts, leave))
+}
+
+/// The workers carry the copies out, each at a link.
+fn carry_out<L: Ledger + Send, T: Ledger + Send, G: Ledger + Send, R: Threads + Wait + Sync>(
+    room: &Room<'_, R, L, T, G>,
+    shares: Shares<L, T, G>,
+) -> Result<Counts, Wrong>
+    requires landed { (shares.landed.parts ≡ L.parts) × (shares.landed.amount ≡ 0) × (8 ≤ L.parts) }
+    requires turned { (shares.turned.parts ≡ T.parts) × (shares.turned.amount ≡ 0) × (8 ≤ T.parts) }
+    requires given { (shares.given.parts ≡ G.parts) × (shares.given.amount ≡ 0) × (8 ≤ G.parts) }
+{
     let gate = Gate::new();
     let mut links = links(room, &gate)?;
     if links.is_empty() || links.len() > 8 {
         return Err(Wrong::Lacks("a worker, or at most eight"));
     }
+    let Shares {
+        landed,
+        turned,
+        given,
+    } = shares;
     let report = run_workers(
         room.rt,
         room.alloc,
         &gate,
         room.desk,
-        all,
+        landed,
         turned,
         given,
         links.as_mut_slice(),

@@ -1,0 +1,41 @@
+#!/usr/bin/env python3
+"""Copies a file of 64 MiB by 1, 2, 4 and 8 workers, over a source, a destination and a client in memory. Prints the seconds
+that each takes, with the ratio of one worker's to it.
+
+What it takes to make the ends with the file is timed apart, and taken off. Each round runs all of them one after the other,
+and the fastest run of each counts. The source answers one call at a time and the destination lands one answer at a time, so
+no more than these two go on at once, however many workers there are.
+"""
+
+import sys
+
+from programs import built, timed
+
+MEBIBYTES = 64
+ROUNDS = 3
+WORKERS = (1, 2, 4, 8)
+
+
+def seconds_of(program, workers):
+    """Seconds that the program takes."""
+    ran = timed([program, str(workers), str(MEBIBYTES)])
+    landed = MEBIBYTES * 1_048_576 if workers else 0
+    if ran.printed != f"{workers} workers, {landed} bytes\n".encode():
+        sys.exit(f"{workers}: {ran.printed!r}")
+    return ran.seconds
+
+
+def main():
+    program = built("worker_bench")
+    best = dict.fromkeys((0, *WORKERS), float("inf"))
+    for _ in range(ROUNDS):
+        for workers in best:
+            best[workers] = min(best[workers], seconds_of(program, workers))
+    taken = {workers: best[workers] - best[0] for workers in WORKERS}
+    print(f"{'workers':>7} {'seconds':>8} {'ratio':>6}")
+    for workers in WORKERS:
+        print(f"{workers:7} {taken[workers]:8.2f} {taken[1] / taken[workers]:6.2f}")
+
+
+if __name__ == "__main__":
+    main()
