@@ -21,7 +21,7 @@ use two_ends::{Wrong, realm};
 use wire_xdr::{Items, Octets};
 
 /// How many bytes a READ is of.
-pub const CHUNK: usize = 65_536;
+pub(crate) const CHUNK: usize = 65_536;
 
 const SOURCE_TAG: u64 = 1;
 

@@ -47,6 +47,9 @@ pub struct Plan {
     pub copied: Copied,
 
     pub links: Links,
+
+    /// Whether the files are compared afterwards.
+    pub compares: bool,
 }
 
 impl Plan {

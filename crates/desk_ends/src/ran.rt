@@ -47,13 +47,12 @@ pub struct Seen {
 }
 
 /// What came of it.
-#[derive(Drop)]
+#[derive(Clone, Copy)]
 pub struct Ran {
     pub seen: Seen,
 
-    pub source: SourceCore<MemoryDisk, Realm>,
-
-    pub dest: DestCore<MemoryDisk, Realm>,
+    /// Whether each of the destination's files has the bytes of the source's, where the plan compares them.
+    pub same: Option<bool>,
 }
 
 /// What workers did together, by what is reported of each.
@@ -79,9 +78,32 @@ pub(crate) fn count_all<L: Ledger, T: Ledger, G: Ledger>(
     }
 }
 
+/// What came of it, by what was seen and these machines.
+pub(crate) fn told(
+    alloc: Global,
+    plan: &Plan,
+    seen: Result<Seen, Wrong>,
+    source: &mut SourceCore<MemoryDisk, Realm>,
+    dest: &mut DestCore<MemoryDisk, Realm>,
+) -> Result<Ran, Wrong> {
+    let seen = seen?;
+    if !plan.compares {
+        return Ok(Ran { seen, same: None });
+    }
+    let same = same_bytes(alloc, plan, source, dest)?;
+    Ok(Ran {
+        seen,
+        same: Some(same),
+    })
+}
+
 /// Whether each of the destination's files has the bytes of the source's.
-pub fn same_bytes(alloc: Global, plan: &Plan, ran: &mut Ran) -> Result<bool, Wrong> {
-    let Ran { source, dest, .. } = ran;
+fn same_bytes(
+    alloc: Global,
+    plan: &Plan,
+    source: &mut SourceCore<MemoryDisk, Realm>,
+    dest: &mut DestCore<MemoryDisk, Realm>,
+) -> Result<bool, Wrong> {
     let (mut here, mut there) = (vec![in alloc; 0; CHUNK]?, vec![in alloc; 0; CHUNK]?);
     for file in 1..=plan.files() {
         if !have_size(source, dest, file, u64::from(plan.size)) {

@@ -5,7 +5,7 @@ use crate::ends::{ClientEnd, SourceEnd, StillClock};
 use crate::link::RoomLink;
 use crate::making::{new_client, new_dest, new_source};
 use crate::plan::Plan;
-use crate::ran::{Counts, Ran, Seen, count_all};
+use crate::ran::{Counts, Ran, Seen, count_all, told};
 use crate::reads::Reads;
 use crate::room::{MemoryDesk, Room};
 use copy_workers::{Gate, Resting, run_workers};
@@ -39,7 +39,8 @@ struct Shares<L: Ledger, T: Ledger, G: Ledger> {
     given: Share<G>,
 }
 
-/// Makes the ends, lets the client begin its copies, has them carried out by workers, and then lets the client take leave.
+/// Makes the ends, lets the client begin its copies, has them carried out by workers, and lets the client take leave. Then the
+/// files are compared, where the plan says so.
 pub fn run<R: Threads + Wait + Sync>(rt: &R, alloc: Global, plan: Plan) -> Result<Ran, Wrong> {
     let ends = Ends::new(alloc, plan)?;
     let (landed, turns, given) = (Blank::new(8), Blank::new(8), Blank::new(8));
@@ -137,21 +138,19 @@ fn run_at<L: Ledger + Send, T: Ledger + Send, G: Ledger + Send, R: Threads + Wai
 {
     let (source, desk) = (Mutex::new(source), Mutex::new(desk));
     let seen = copy_all(rt, alloc, plan, &source, client, &desk, shares);
-    ended(seen, source.into_inner(), desk.into_inner())
+    ended(alloc, plan, seen, source.into_inner(), desk.into_inner())
 }
 
 /// What came of it, by what was seen and what these ends are then.
 fn ended<L: Ledger, T: Ledger, G: Ledger>(
+    alloc: Global,
+    plan: Plan,
     seen: Result<Seen, Wrong>,
     source: SourceEnd,
     desk: MemoryDesk<L, T, G>,
 ) -> Result<Ran, Wrong> {
-    let seen = seen?;
-    Ok(Ran {
-        seen,
-        source: source.core,
-        dest: desk.hand_back(),
-    })
+    let (mut source, mut dest) = (source.core, desk.hand_back());
+    told(alloc, &plan, seen, &mut source, &mut dest)
 }
 
 /// The client begins its copies, the workers carry them out, and then the client takes leave.

@@ -38,8 +38,9 @@ fn answer<R: Threads + Wait + Sync>(
     text: &mut String,
 ) -> Result<(), Wrong> {
     let plan = read_plan(alloc, call)?;
-    let mut ran = run(rt, alloc, plan)?;
-    tell(alloc, plan, &mut ran, text)
+    let ran = run(rt, alloc, plan)?;
+    tell(&plan, &ran, text)?;
+    Ok(())
 }
 
 /// The plan that a line asks for.
@@ -51,6 +52,7 @@ fn read_plan(alloc: Global, call: &str) -> Mem<Plan> {
         size: number(&words, 2),
         copied: copied(word(&words, 3)),
         links: links(word(&words, 0), number(&words, 4)),
+        compares: true,
     })
 }
 

@@ -1,22 +1,20 @@
 //! What is told of workers that ran: only what doesn't depend on which of them did what, and when.
 
 use client_copies::Report;
-use desk_ends::{Links, Plan, Ran, Seen, same_bytes};
+use desk_ends::{Links, Plan, Ran, Seen};
 use outcome::Mem;
-use std::alloc::Global;
 use std::fmt::Write;
-use two_ends::Wrong;
 
 /// Adds what the workers landed, why they ended, what the client said of its copies, whether the files are the same then, and how
 /// many calls it took to leave.
-pub fn tell(alloc: Global, plan: Plan, ran: &mut Ran, text: &mut String) -> Result<(), Wrong> {
-    let same = same_bytes(alloc, &plan, ran)?;
-    let seen = ran.seen;
-    tell_workers(text, plan.links, &seen)?;
-    tell_copies(text, seen.reports)?;
-    text.push_str(if same { ", same" } else { ", other" })?;
-    tell_leave(text, &seen)?;
-    Ok(())
+pub fn tell(plan: &Plan, ran: &Ran, text: &mut String) -> Mem<()> {
+    tell_workers(text, plan.links, &ran.seen)?;
+    tell_copies(text, ran.seen.reports)?;
+    text.push_str(match ran.same {
+        Some(true) => ", same",
+        Some(false) | None => ", other",
+    })?;
+    tell_leave(text, &ran.seen)
 }
 
 /// What landed by the workers and by the book, if that doesn't depend on when a link breaks; how many READs were under way at once

@@ -21,6 +21,7 @@ fn plan_of(workers: u32, mebibytes: u32) -> Plan {
         size: mebibytes.min(64) * 1_048_576,
         copied: Copied::Whole,
         links: Links::Free,
+        compares: false,
     }
 }
 
