@@ -28,7 +28,7 @@ use Rattle.wire_schedule.specs.declared.directive.Directive.TheVariants.{Once}
 use Rattle.wire_schedule.specs.declared.directive.Entry.{Entry}
 use Rattle.wire_schedule.specs.declared.event.Event.TheVariants as kinds
 use Rattle.wire_tally.specs.Tally.{no_tally, tallied}
-use Rattle.nfscopy.specs.Ends.{Ends, EndsAs, ServiceWords}
+use Rattle.nfscopy.specs.Ends.{CopyWords, Ends, EndsAs, ServiceWords}
 use Rattle.nfscopy.specs.ExitStatus.{code_of, gen_status}
 use Rattle.nfscopy.specs.GenEnds.{Counts, GenCarriesOut, GenEndIs, GenEnds, IsUnread, MayDiffer, Owes, gen_events}
 use Rattle.volume_format.specs.DiskWords.{DiskWords}
@@ -306,11 +306,11 @@ module _ {D M : Type 0} (w : DiskWords D) (r : RunWords M) (mebibytes : ℕ) (be
       result s.large s.ran.is s.ran.cause s.ran.tally s.is) put
 
 -- what the top call says for words that ask for it
-pub ends_gen : {D K M N : Type 0} (w : DiskWords D) (r : RunWords M) (s : ServiceWords D K N) (mebibytes : ℕ) (command : Option Command) (before now : Outside D)
+pub ends_gen : {D K M W N : Type 0} (w : DiskWords D) (r : RunWords M) (s : ServiceWords D K N) (c : CopyWords M W N) (mebibytes : ℕ) (command : Option Command) (before now : Outside D)
     (net : N) (code : ℕ) → Some (Gen mebibytes) ≡ command → EndsAs gen_status (GenEnds w r mebibytes before now) code → RunsKeep r (gen_events mebibytes)
-    → now.left ≡ before.left → now.reads ≡ before.reads → before.writes ≤ now.writes → Ends w r s command before now net net code
-ends_gen w r s mebibytes command before now net code asked ends kept left reads writes =
-    subst (λ (o : Option Command). Ends w r s o before now net net code) asked
+    → now.left ≡ before.left → now.reads ≡ before.reads → before.writes ≤ now.writes → Ends w r s c command before now net net code
+ends_gen w r s c mebibytes command before now net code asked ends kept left reads writes =
+    subst (λ (o : Option Command). Ends w r s c o before now net net code) asked
     (record {
       ends = (ends, kept, record { left = left; reads = reads });
       reads = omega (arith, reads);

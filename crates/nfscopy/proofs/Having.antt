@@ -2,10 +2,10 @@
 use Rattle.std.proofs.Common.{◌≡◌, true, Some}
 use Rattle.std.specs.Prelude.{Option, None, IfSome, is_some}
 use Rattle.volume_format.specs.DiskWords.{DiskWords}
-use Rattle.nfscopy.specs.Command.{is_format, service_in}
+use Rattle.nfscopy.specs.Command.{is_copy, is_format, service_in}
 use Rattle.nfscopy.specs.Ends.{HasDisks, MayOpen}
 use Rattle.nfscopy.specs.declared.command.Command.{Command}
-use Rattle.nfscopy.specs.declared.command.Command.TheVariants.{Run, Show, Gen, Format, ServeSource}
+use Rattle.nfscopy.specs.declared.command.Command.TheVariants.{Run, Show, Gen, Format, ServeSource, Copy}
 use Rattle.nfscopy.specs.declared.command.Service.{Service}
 
 pub both_suffice : {D : Type 0} (w : DiskWords D) (command : Option Command) (source dest : Option D) → service_in command ≡ None
@@ -16,6 +16,7 @@ both_suffice w (Some (Gen mebibytes)) source dest none there also = (there, also
 both_suffice w (Some Show) source dest none there also = tt
 both_suffice w (Some (Format v)) source dest none there also = there
 both_suffice w (Some (ServeSource s)) source dest none there also = absurd cc
+both_suffice w (Some (Copy o)) source dest none there also = tt
 
 pub one_suffices : {D : Type 0} (w : DiskWords D) (command : Option Command) (source dest : Option D) → is_format command ≡ true
     → is_some source ≡ true → HasDisks w command source dest
@@ -25,6 +26,7 @@ one_suffices w (Some (Gen mebibytes)) source dest is there = absurd cc
 one_suffices w (Some Show) source dest is there = tt
 one_suffices w (Some (Format v)) source dest is there = there
 one_suffices w (Some (ServeSource s)) source dest is there = absurd cc
+one_suffices w (Some (Copy o)) source dest is there = tt
 
 pub any_suffice : {D : Type 0} (w : DiskWords D) (command : Option Command) (source dest : Option D) → is_some source ≡ true → is_some dest ≡ true
     → IfSome source (MayOpen w) → HasDisks w command source dest
@@ -34,6 +36,7 @@ any_suffice w (Some (Gen mebibytes)) source dest there also opens = (there, also
 any_suffice w (Some Show) source dest there also opens = tt
 any_suffice w (Some (Format v)) source dest there also opens = there
 any_suffice w (Some (ServeSource s)) source dest there also opens = (there, opens)
+any_suffice w (Some (Copy o)) source dest there also opens = tt
 
 pub served_suffices : {D : Type 0} (w : DiskWords D) (service : Service) (command : Option Command) (source dest : Option D)
     → service_in command ≡ Some service → is_some source ≡ true → IfSome source (MayOpen w) → HasDisks w command source dest
@@ -43,3 +46,13 @@ served_suffices w service (Some (Gen mebibytes)) source dest is there opens = ab
 served_suffices w service (Some Show) source dest is there opens = tt
 served_suffices w service (Some (Format v)) source dest is there opens = there
 served_suffices w service (Some (ServeSource s)) source dest is there opens = (there, opens)
+served_suffices w service (Some (Copy o)) source dest is there opens = tt
+
+pub none_suffices : {D : Type 0} (w : DiskWords D) (command : Option Command) (source dest : Option D) → is_copy command ≡ true → HasDisks w command source dest
+none_suffices w None source dest is = tt
+none_suffices w (Some Run) source dest is = absurd cc
+none_suffices w (Some (Gen mebibytes)) source dest is = absurd cc
+none_suffices w (Some Show) source dest is = tt
+none_suffices w (Some (Format v)) source dest is = absurd cc
+none_suffices w (Some (ServeSource s)) source dest is = absurd cc
+none_suffices w (Some (Copy o)) source dest is = tt

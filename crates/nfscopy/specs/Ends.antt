@@ -2,12 +2,20 @@
 use Rattle.std.specs.Prelude.{◌≡◌, ℕ, ◌≤◌, true, false, Option, None, Some, IfSome, is_some, List, option_map}
 use Rattle.std.specs.Io.KnownBytes.{Appends}
 use Rattle.block_file.specs.Opened.{CanBeOpened, Opened}
+use Rattle.client_core.specs.Endings.{Ways}
+use Rattle.client_steps.specs.declared.setting.Setting.{Setting}
 use Rattle.disk_model.specs.Disk.{Image, MayLeave}
 use Rattle.disk_model.specs.Elapsed.{present}
 use Rattle.gss_ctx.specs.Seals.{Mic}
 use Rattle.gss_mech.specs.declared.mechanism.Accepted.{Accepted}
+use Rattle.linked_copy.specs.Ends.{CopyEnds}
+use Rattle.linked_copy.specs.Nets as nets
+use Rattle.linked_copy.specs.declared.copying.CopyOrder.{CopyOrder}
+use Rattle.linked_copy.specs.declared.ends.CopyEnd.{CopyEnd}
+use Rattle.nfs_base.specs.declared.copy_spec.CopySpec.{CopySpec}
 use Rattle.outcome.specs.Causes.{Rose}
 use Rattle.server_volume.specs.Store.{Seat}
+use Rattle.single_copy.specs.Turns.{Conduct, conduct_of}
 use Rattle.source_server.specs.Machine.{source_words, words_of}
 use Rattle.source_server.specs.Serving.{NetWords, ServeEnds, ServerWords}
 use Rattle.source_server.specs.declared.machine.SourceMachine.{SourceMachine}
@@ -20,16 +28,16 @@ use Rattle.volume_format.specs.declared.formatting.FormatEnd.{FormatEnd}
 use Rattle.nfscopy.specs.Command.{is_on_net}
 use Rattle.nfscopy.specs.declared.command.Command.{Command}
 use Rattle.nfscopy.specs.declared.command.Service.{Service}
-use Rattle.nfscopy.specs.declared.command.Command.TheVariants.{Run, Show, Gen, Format, ServeSource}
+use Rattle.nfscopy.specs.declared.command.Command.TheVariants.{Run, Show, Gen, Format, ServeSource, Copy}
 use Rattle.nfscopy.specs.declared.exit_status.ExitStatus.{ExitStatus}
 use Rattle.nfscopy.specs.declared.ends.UsageEnd.{UsageEnd}
 use Rattle.nfscopy.specs.declared.ends.UsageEnd.TheVariants.{Put, WriteFault}
-use Rattle.nfscopy.specs.ExitStatus.{code_of, format_status, serve_status, usage_status, run_status, gen_status, show_status}
+use Rattle.nfscopy.specs.ExitStatus.{code_of, copy_status, format_status, serve_status, usage_status, run_status, gen_status, show_status}
 use Rattle.nfscopy.specs.GenEnds.{GenEnds, gen_events}
 use Rattle.nfscopy.specs.Input.{asked}
 use Rattle.nfscopy.specs.Notice.{usage_text}
 use Rattle.volume_format.specs.DiskWords.{DiskWords}
-use Rattle.wire_run.specs.Setting.{source_peers, source_place}
+use Rattle.wire_run.specs.Setting.{dest_place, source_peers, source_place, user}
 use Rattle.nfscopy.specs.Outside.{Outside, SameDisks, SameInput}
 use Rattle.nfscopy.specs.RunEnds.{KeepsIf, RunEnds, RunWords, RunsKeep}
 use Rattle.nfscopy.specs.ShowEnds.{ShowEnds}
@@ -69,23 +77,45 @@ abbrev pub SourceEnds : {D K N : Type 0} → DiskWords D → ServiceWords D K N 
 SourceEnds w s service before now net net_now end =
     ServeEnds w s.net s.server service.conns before.taken now.taken before.writes now.writes net net_now before.source now.source end
 
--- how the program ends for its words, from what was outside before to what is outside then
-abbrev pub EndsBy : {D K M N : Type 0} → DiskWords D → RunWords M → ServiceWords D K N → Option Command → Outside D → Outside D → N → N → ℕ → Type 0
-EndsBy w r s None before now net net_now code =
-    EndsAs usage_status (UsageEnds before.taken now.taken before.writes now.writes) code × SameDisks before now
-EndsBy w r s (Some Run) before now net net_now code = EndsAs run_status (RunEnds w r before now) code × KeepsIf r (option_map asked before.left)
-EndsBy w r s (Some (Gen mebibytes)) before now net net_now code =
-    EndsAs gen_status (GenEnds w r mebibytes before now) code × RunsKeep r (gen_events mebibytes) × SameInput before now
-EndsBy w r s (Some Show) before now net net_now code = EndsAs show_status (ShowEnds before now) code × SameDisks before now
-EndsBy w r s (Some (Format v)) before now net net_now code =
-    EndsAs format_status (FormatEnds w v before now) code × (now.dest ≡ before.dest) × SameInput before now
-EndsBy w r s (Some (ServeSource service)) before now net net_now code =
-    EndsAs serve_status (SourceEnds w s service before now net net_now) code × (now.dest ≡ before.dest) × SameInput before now
+-- How a copy speaks of what it does: how its client and its draws do what they do, by what is copied; what the client knows; the draws; and
+-- its net's words.
+pub record CopyWords (M W N : Type 0) : Type 1 where
+  pub conduct : CopySpec → Conduct M W
+  pub setting : Setting M
+  pub draws : W
+  pub net : nets.NetWords N
 
--- The same; the counts of faults never fell, and a command that serves no connections leaves the net alone.
-pub record Ends {D K M N : Type 0} (w : DiskWords D) (r : RunWords M) (s : ServiceWords D K N) (command : Option Command) (before now : Outside D)
-    (net net_now : N) (code : ℕ) : Type 0 where
-  pub ends : EndsBy w r s command before now net net_now code
+-- what the client of every schedule knows, by this mechanism
+abbrev pub setting_by : {M : Type 0} → M → Setting M
+setting_by mech = record { mech = mech; me = user; source = source_place; dest = dest_place }
+
+abbrev pub copy_words : {M W N : Type 0} → (Setting M → Ways) → (W → Drawn → W → Type 0) → (W → ℕ) → M → W → nets.NetWords N → CopyWords M W N
+copy_words ways gives faults mech draws net = record { conduct = conduct_of ways gives faults; setting = setting_by mech; draws = draws; net = net }
+
+-- a copy is made by a client of two servers
+abbrev pub LinkedEnds : {D M W N : Type 0} → CopyWords M W N → CopyOrder → Outside D → Outside D → N → N → CopyEnd → Type 0
+LinkedEnds c order before now net net_now end =
+    CopyEnds (c.conduct order.copy) c.setting c.net c.draws before.taken now.taken before.writes now.writes net net_now end
+
+-- how the program ends for its words, from what was outside before to what is outside then
+abbrev pub EndsBy : {D K M W N : Type 0} → DiskWords D → RunWords M → ServiceWords D K N → CopyWords M W N → Option Command → Outside D → Outside D → N → N → ℕ → Type 0
+EndsBy w r s c None before now net net_now code =
+    EndsAs usage_status (UsageEnds before.taken now.taken before.writes now.writes) code × SameDisks before now
+EndsBy w r s c (Some Run) before now net net_now code = EndsAs run_status (RunEnds w r before now) code × KeepsIf r (option_map asked before.left)
+EndsBy w r s c (Some (Gen mebibytes)) before now net net_now code =
+    EndsAs gen_status (GenEnds w r mebibytes before now) code × RunsKeep r (gen_events mebibytes) × SameInput before now
+EndsBy w r s c (Some Show) before now net net_now code = EndsAs show_status (ShowEnds before now) code × SameDisks before now
+EndsBy w r s c (Some (Format v)) before now net net_now code =
+    EndsAs format_status (FormatEnds w v before now) code × (now.dest ≡ before.dest) × SameInput before now
+EndsBy w r s c (Some (ServeSource service)) before now net net_now code =
+    EndsAs serve_status (SourceEnds w s service before now net net_now) code × (now.dest ≡ before.dest) × SameInput before now
+EndsBy w r s c (Some (Copy order)) before now net net_now code =
+    EndsAs copy_status (LinkedEnds c order before now net net_now) code × SameDisks before now × SameInput before now
+
+-- The same; the counts of faults never fell, and a command that neither serves connections nor dials leaves the net alone.
+pub record Ends {D K M W N : Type 0} (w : DiskWords D) (r : RunWords M) (s : ServiceWords D K N) (c : CopyWords M W N) (command : Option Command)
+    (before now : Outside D) (net net_now : N) (code : ℕ) : Type 0 where
+  pub ends : EndsBy w r s c command before now net net_now code
   pub reads : before.reads ≤ now.reads
   pub writes : before.writes ≤ now.writes
   pub unserved : is_on_net command ≡ false → net_now ≡ net
@@ -103,3 +133,4 @@ HasDisks w (Some (Gen mebibytes)) source dest = (is_some source ≡ true) × (is
 HasDisks w (Some Show) source dest = Unit {0}
 HasDisks w (Some (Format v)) source dest = is_some source ≡ true
 HasDisks w (Some (ServeSource service)) source dest = (is_some source ≡ true) × IfSome source (MayOpen w)
+HasDisks w (Some (Copy order)) source dest = Unit {0}

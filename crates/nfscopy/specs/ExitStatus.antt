@@ -1,11 +1,13 @@
 -- The program's exit statuses, and the status of each end of a command. Own numbers.
 use Rattle.std.specs.Prelude.{ℕ}
+use Rattle.linked_copy.specs.declared.ends.CopyEnd.{CopyEnd}
+use Rattle.linked_copy.specs.declared.ends.CopyEnd.TheVariants as copy
 use Rattle.volume_format.specs.declared.formatting.FormatEnd.{FormatEnd}
 use Rattle.source_server.specs.declared.serving.ServeEnd.{ServeEnd}
 use Rattle.source_server.specs.declared.serving.ServeEnd.TheVariants as serve
 use Rattle.volume_format.specs.declared.formatting.FormatEnd.TheVariants as format
 use Rattle.nfscopy.specs.declared.exit_status.ExitStatus.{ExitStatus}
-use Rattle.nfscopy.specs.declared.exit_status.ExitStatus.TheVariants.{Done, Usage, Refused, ReadFault, WriteFault, NoMemory, DiskFault, NoVolume, NetFault, Mistaken}
+use Rattle.nfscopy.specs.declared.exit_status.ExitStatus.TheVariants.{Done, Usage, Refused, ReadFault, WriteFault, NoMemory, DiskFault, NoVolume, NetFault, CopyFailed, Mistaken}
 use Rattle.nfscopy.specs.declared.ends.UsageEnd.{UsageEnd}
 use Rattle.nfscopy.specs.declared.ends.UsageEnd.TheVariants as usage
 use Rattle.nfscopy.specs.declared.ends.RunEnd.{RunEnd}
@@ -25,6 +27,7 @@ code_of NoMemory = 5
 code_of DiskFault = 6
 code_of NoVolume = 7
 code_of NetFault = 8
+code_of CopyFailed = 9
 code_of Mistaken = 10
 
 abbrev pub usage_status : UsageEnd → ExitStatus
@@ -72,3 +75,12 @@ serve_status serve.NoMemory = NoMemory
 serve_status serve.DiskFault = DiskFault
 serve_status serve.NotVolume = NoVolume
 serve_status serve.NetFault = NetFault
+
+abbrev pub copy_status : CopyEnd → ExitStatus
+copy_status copy.Stable = Done
+copy_status copy.Failed = CopyFailed
+copy_status copy.LinkFault = NetFault
+copy_status copy.DrawFault = NetFault
+copy_status copy.DialFault = NetFault
+copy_status copy.WriteFault = WriteFault
+copy_status copy.NoMemory = NoMemory

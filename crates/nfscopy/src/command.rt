@@ -1,8 +1,11 @@
 ghost use Rattle.std.specs.Prelude.{◌≡◌, map};
 ghost use Rattle.std.specs.String.{string_bytes};
-ghost use Rattle.nfscopy.specs.Command.{command_of, format_of, is_format, is_path, mebibytes_of, of_five, of_four, of_one, of_two, serve_source_of, service_in, service_of, volume_of};
+ghost use Rattle.nfscopy.specs.Command.{command_of, copy_order_of, copy_spec_of, file_of, format_of, is_copy, is_format, is_path, mebibytes_of, of_five, of_four, of_nine, of_one, of_two, port_of, serve_source_of, service_in, service_of, volume_of};
+ghost use Rattle.wire_schedule.specs.Grammar.{consecutive_of};
 
 use large_copy::LargeCopy;
+use linked_copy::CopyOrder;
+use nfs_base::CopySpec;
 use volume_format::NewVolume;
 use wire_schedule::{number, number_u32};
 
@@ -23,6 +26,9 @@ pub enum Command {
 
     /// Serves the volume on the disk of a file as a source. The file is the first word behind the command's.
     ServeSource(Service),
+
+    /// Makes one copy by a client of two servers.
+    Copy(CopyOrder),
 }
 
 /// Where a server listens, and for how many connections.
@@ -59,6 +65,29 @@ impl Command {
                 blocks.as_bytes(),
                 tag.as_bytes(),
             ),
+            [
+                word,
+                source,
+                dest,
+                src_file,
+                src_off,
+                dst_file,
+                dst_off,
+                count,
+                consecutive,
+            ] => {
+                of_nine(
+                    word.as_bytes(),
+                    source.as_bytes(),
+                    dest.as_bytes(),
+                    src_file.as_bytes(),
+                    src_off.as_bytes(),
+                    dst_file.as_bytes(),
+                    dst_off.as_bytes(),
+                    count.as_bytes(),
+                    consecutive.as_bytes(),
+                )
+            }
             _ => None,
         }
     }
@@ -106,6 +135,26 @@ fn of_five(word: &[u8], path: &[u8], files: &[u8], blocks: &[u8], tag: &[u8]) ->
     }
 }
 
+fn of_nine(
+    word: &[u8],
+    source: &[u8],
+    dest: &[u8],
+    src_file: &[u8],
+    src_off: &[u8],
+    dst_file: &[u8],
+    dst_off: &[u8],
+    count: &[u8],
+    consecutive: &[u8],
+) -> Option<Command>
+    ensures { result ≡ of_nine word.now source.now dest.now src_file.now src_off.now dst_file.now dst_off.now count.now consecutive.now }
+{
+    if word != b"copy".as_slice() {
+        return None;
+    }
+    let copy = read_copy(src_file, src_off, dst_file, dst_off, count, consecutive)?;
+    Some(Command::Copy(read_order(source, dest, copy)?))
+}
+
 /// Whether these words make a volume on the disk of a file, which is the second of them.
 pub fn is_format(words: &[String]) -> bool
     ensures { result ≡ is_format (command_of (map string_bytes words.now)) }
@@ -118,6 +167,24 @@ pub fn is_format(words: &[String]) -> bool
         Command::Run => false,
         Command::Show => false,
         Command::Gen(_) => false,
+        Command::ServeSource(_) => false,
+        Command::Copy(_) => false,
+    }
+}
+
+/// Whether these words make a copy by a client of two servers.
+pub fn is_copy(words: &[String]) -> bool
+    ensures { result ≡ is_copy (command_of (map string_bytes words.now)) }
+{
+    let Some(command) = Command::from_words(words) else {
+        return false;
+    };
+    match command {
+        Command::Copy(_) => true,
+        Command::Run => false,
+        Command::Show => false,
+        Command::Gen(_) => false,
+        Command::Format(_) => false,
         Command::ServeSource(_) => false,
     }
 }
@@ -132,6 +199,7 @@ pub fn asked_service(words: &[String]) -> Option<Service>
         Command::Show => None,
         Command::Gen(_) => None,
         Command::Format(_) => None,
+        Command::Copy(_) => None,
     }
 }
 
@@ -194,4 +262,76 @@ fn read_service(port: &[u8], conns: &[u8]) -> Option<Service>
         port: port as u16,
         conns,
     })
+}
+
+/// A copy by these words, and where its servers are found.
+#[tactic(auto, unfolding(crate::specs::Command::copy_order_of))]
+fn read_order(source: &[u8], dest: &[u8], copy: CopySpec) -> Option<CopyOrder>
+    ensures { result ≡ copy_order_of source.now dest.now copy }
+{
+    Some(CopyOrder {
+        source_port: read_port(source)?,
+        dest_port: read_port(dest)?,
+        copy,
+    })
+}
+
+/// What is copied, by these words.
+#[tactic(auto, unfolding(crate::specs::Command::copy_spec_of))]
+fn read_copy(
+    src_file: &[u8],
+    src_off: &[u8],
+    dst_file: &[u8],
+    dst_off: &[u8],
+    count: &[u8],
+    consecutive: &[u8],
+) -> Option<CopySpec>
+    ensures { result ≡ copy_spec_of src_file.now src_off.now dst_file.now dst_off.now count.now consecutive.now }
+{
+    Some(CopySpec {
+        src_file: read_file(src_file)?,
+        src_off: number(src_off)?,
+        dst_file: read_file(dst_file)?,
+        dst_off: number(dst_off)?,
+        count: number(count)?,
+        consecutive: read_consecutive(consecutive)?,
+    })
+}
+
+/// A port of this machine.
+#[tactic(auto, unfolding(crate::specs::Command::port_of))]
+fn read_port(word: &[u8]) -> Option<u16>
+    ensures { result ≡ port_of word.now }
+{
+    let port = number_u32(word)?;
+    if port < 1 || port > 65_535 {
+        return None;
+    }
+    Some(port as u16)
+}
+
+/// A file's number.
+#[tactic(auto, unfolding(crate::specs::Command::file_of))]
+fn read_file(word: &[u8]) -> Option<u32>
+    ensures { result ≡ file_of word.now }
+{
+    let file = number_u32(word)?;
+    if file < 1 {
+        return None;
+    }
+    Some(file)
+}
+
+/// `c` where the copy has to be consecutive, else `n`.
+#[tactic(auto, unfolding(wire_schedule::specs::Grammar::consecutive_of))]
+fn read_consecutive(word: &[u8]) -> Option<bool>
+    ensures { result ≡ consecutive_of word.now }
+{
+    if word == b"c".as_slice() {
+        return Some(true);
+    }
+    if word == b"n".as_slice() {
+        return Some(false);
+    }
+    None
 }

@@ -1,7 +1,8 @@
 ghost use Rattle.std.specs.Prelude.{◌≡◌};
-ghost use Rattle.nfscopy.specs.ExitStatus.{code_of, format_status, serve_status, usage_status, run_status, gen_status, show_status};
+ghost use Rattle.nfscopy.specs.ExitStatus.{code_of, copy_status, format_status, serve_status, usage_status, run_status, gen_status, show_status};
 
 use crate::exit_status::ExitStatus;
+use linked_copy::CopyEnd;
 use source_server::ServeEnd;
 use volume_format::FormatEnd;
 
@@ -182,6 +183,22 @@ pub(crate) fn serve_code(end: ServeEnd) -> u8
         ServeEnd::DiskFault => ExitStatus::DiskFault,
         ServeEnd::NotVolume => ExitStatus::NoVolume,
         ServeEnd::NetFault => ExitStatus::NetFault,
+    };
+    status.code()
+}
+
+/// The exit status that says how a copy over a net ended.
+pub(crate) fn copy_code(end: CopyEnd) -> u8
+    ensures { result ≡ code_of (copy_status end) }
+{
+    let status = match end {
+        CopyEnd::Stable => ExitStatus::Done,
+        CopyEnd::Failed => ExitStatus::CopyFailed,
+        CopyEnd::LinkFault => ExitStatus::NetFault,
+        CopyEnd::DrawFault => ExitStatus::NetFault,
+        CopyEnd::DialFault => ExitStatus::NetFault,
+        CopyEnd::WriteFault => ExitStatus::WriteFault,
+        CopyEnd::NoMemory => ExitStatus::NoMemory,
     };
     status.code()
 }

@@ -28,8 +28,11 @@ pub enum ExitStatus {
     /// A disk has too few blocks for its volume, doesn't hold the volume that was written, or holds none that could be served.
     NoVolume = 7,
 
-    /// A server's listener counted a fault.
+    /// A server's listener counted a fault; or, of a copy, a link, a dial or the draws.
     NetFault = 8,
+
+    /// A copy failed, with a status of its own.
+    CopyFailed = 9,
 
     /// A record was accepted under another seal than its own, or as the answer to another call.
     Mistaken = 10,

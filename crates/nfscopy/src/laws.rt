@@ -1,5 +1,5 @@
 ghost use Rattle.std.specs.Prelude.{◌≡◌, true, None, Some, Option, IfSome, is_some};
-ghost use Rattle.nfscopy.specs.Command.{is_format, service_in};
+ghost use Rattle.nfscopy.specs.Command.{is_copy, is_format, service_in};
 ghost use Rattle.nfscopy.specs.Ends.{HasDisks, MayOpen};
 ghost use Rattle.nfscopy.specs.declared.command.Command.{Command};
 ghost use Rattle.nfscopy.specs.declared.command.Service.{Service};
@@ -8,7 +8,7 @@ ghost use Rattle.volume_format.specs.DiskWords.{disk_words};
 use disk_model::Disk;
 
 /// Disks that are there are enough for every command but a server's, and one in the source's place is for `format`; two are
-/// for every command where the source's may be opened, and that one is for a server.
+/// for every command where the source's may be opened, and that one is for a server. A copy by a client needs none.
 pub fn disks_suffice<D: Disk>()
     ensures both { (command : Option Command) (source dest : Option D) → service_in command ≡ None → is_some source ≡ true → is_some dest ≡ true
         → HasDisks (disk_words D.Told D.faults D.size D.timeline) command source dest }
@@ -18,4 +18,6 @@ pub fn disks_suffice<D: Disk>()
         → IfSome source (MayOpen (disk_words D.Told D.faults D.size D.timeline)) → HasDisks (disk_words D.Told D.faults D.size D.timeline) command source dest }
     ensures served { (service : Service) (command : Option Command) (source dest : Option D) → service_in command ≡ Some service → is_some source ≡ true
         → IfSome source (MayOpen (disk_words D.Told D.faults D.size D.timeline)) → HasDisks (disk_words D.Told D.faults D.size D.timeline) command source dest }
+    ensures none { (command : Option Command) (source dest : Option D) → is_copy command ≡ true
+        → HasDisks (disk_words D.Told D.faults D.size D.timeline) command source dest }
 {}

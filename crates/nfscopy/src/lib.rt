@@ -4,11 +4,13 @@
 //! what was put, and why. `specs/Ends.antt` has the definitions; for `run` they name the run of the schedule by three
 //! machines and its lines (crates `wire_run`, `wire_machine`), for `gen` that of a schedule that is made here (crates `large_copy`,
 //! `large_run`), for `show` the lines of a stream of records (crate `wire_show`), for `format` what a disk holds (crate
-//! `volume_format`), and for `serve-source` what each connection of a net got (crate `source_server`).
+//! `volume_format`), for `serve-source` what each connection of a net got (crate `source_server`), and for `copy` what a client did over two
+//! links (crates `linked_copy`, `single_copy`).
 #![tactic(auto)]
 
 mod command;
 mod commands;
+mod copying;
 mod ends;
 mod exit_status;
 mod generate;
@@ -20,7 +22,7 @@ mod show;
 mod summary;
 mod top;
 
-pub use command::{Command, Service, asked_service, is_format};
+pub use command::{Command, Service, asked_service, is_copy, is_format};
 pub use commands::{do_format, do_gen, do_run, do_show};
 pub use ends::{GenEnd, RunEnd, ShowEnd, UsageEnd};
 pub use exit_status::ExitStatus;

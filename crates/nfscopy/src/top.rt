@@ -2,7 +2,9 @@ ghost use Rattle.std.specs.Prelude.{map};
 ghost use Rattle.std.specs.String.{string_bytes};
 ghost use Rattle.nfscopy.specs.Command.{command_of};
 ghost use Rattle.link_server.specs.Keeping.{books_of};
-ghost use Rattle.nfscopy.specs.Ends.{Ends, HasDisks, service_words, source_by};
+ghost use Rattle.client_core.specs.Endings.{ways_of};
+ghost use Rattle.linked_copy.specs.Nets as nets;
+ghost use Rattle.nfscopy.specs.Ends.{Ends, HasDisks, copy_words, service_words, source_by};
 ghost use Rattle.nfscopy.specs.Outside.{outside};
 ghost use Rattle.server_volume.specs.Store.{seat_of};
 ghost use Rattle.source_server.specs.Serving.{net_words};
@@ -11,6 +13,7 @@ ghost use Rattle.nfscopy.specs.RunEnds.{run_words};
 
 use crate::command::Command;
 use crate::commands::{do_format, do_gen, do_run, do_show};
+use crate::copying::copy;
 use crate::run::usage;
 use crate::serving::serve;
 use disk_model::Disk;
@@ -29,8 +32,10 @@ use wire_run::Disks;
 /// records by the mechanism, and puts the transcript to `output`; `gen N` does so with a schedule of its own, which copies a file
 /// of N MiB, and puts a summary; `show` reads a stream of records and puts what they hold, line by line; `format PATH FILES BLOCKS
 /// TAG` makes an empty volume on the disk in the source's place, which is that of the file PATH; `serve-source PATH PORT CONNS`
-/// serves the volume on that disk to so many connections of the net, with the time of `clock` and the draws of `draws`. Words of no
-/// command put the line `usage`. What each status says of the input, the output, the disks and the net stands in `Ends`.
+/// serves the volume on that disk to so many connections of the net, with the time of `clock` and the draws of `draws`; `copy SPORT DPORT
+/// SFILE SOFF DFILE DOFF COUNT c` (or `n`) makes one copy by a client of the servers at these ports, with the same time and draws, and puts
+/// what became of it. Words of no command put the line `usage`. What each status says of the input, the output, the disks and the net
+/// stands in `Ends`.
 pub fn nfscopy<
     R: Threads + Wait + Sync,
     S: Source,
@@ -58,6 +63,8 @@ pub fn nfscopy<
     ensures { Ends (disk_words D.Told D.faults D.size D.timeline) (run_words mech.entry M.mic_of M.derived (λ m. M.started m.now) (λ m. M.accepted m.now) (λ m. M.finished m.now))
         (service_words (net_words N.Told N.coming N.faults (books_of N.hung N.up N.accepted))
         (source_by (disk_words D.Told D.faults D.size D.timeline) mech.entry clock draws (seat_of D.size D.fuse D.timeline D.faults) M.mic_of M.derived (λ m. M.accepted m.now) W.gives))
+        (copy_words (ways_of M.mic_of M.derived (λ m. M.finished m.now) (λ m. M.started m.now) (λ m. M.accepted m.now)) W.gives W.faults mech.entry draws
+        (nets.net_words N.Told (nets.books_of N.coming N.accepted N.up N.hung) N.faults))
         (command_of (map string_bytes words.now))
         (outside (S.gives input.old).left (K.takes output.old).taken (S.gives input.old).faults (K.takes output.old).faults disks.old.source disks.old.dest)
         (outside (S.gives input.new).left (K.takes output.new).taken (S.gives input.new).faults (K.takes output.new).faults disks.new.source disks.new.dest)
@@ -85,5 +92,6 @@ pub fn nfscopy<
                 net,
             )
         }
+        Command::Copy(order) => copy(alloc, order, mech, clock, draws, output, net),
     }
 }

@@ -3,14 +3,14 @@
 
 ghost use Rattle.std.specs.Prelude.{◌≡◌, true, map, Some};
 ghost use Rattle.std.specs.String.{string_bytes};
-ghost use Rattle.nfscopy.specs.Command.{command_of, is_format, service_in};
+ghost use Rattle.nfscopy.specs.Command.{command_of, is_copy, is_format, service_in};
 ghost use Rattle.nfscopy.specs.Ends.{HasDisks};
 ghost use Rattle.volume_format.specs.DiskWords.{disk_words};
 
 use disk_model::{Disk, FileDisk, MemoryDisk};
 use gss_mech::Realm;
 use net_links::TcpNet;
-use nfscopy::{ExitStatus, Service, asked_service, disks_suffice, is_format, nfscopy};
+use nfscopy::{ExitStatus, Service, asked_service, disks_suffice, is_copy, is_format, nfscopy};
 use outcome::Mem;
 use realm_file::read_realm;
 use std::alloc::Global;
@@ -197,12 +197,30 @@ fn at_port<R: Threads + Wait + Sync>(
     call(rt, threads, words, disks, &realm, net)
 }
 
+/// Does what the words of `copy` ask for, by the realm of its file.
+fn over_links<R: Threads + Wait + Sync>(rt: &HostRuntime, threads: &R, words: &[String]) -> ExitCode
+    requires { is_copy (command_of (map string_bytes words.now)) ≡ true }
+{
+    let Some(realm) = realm_of_file(rt) else {
+        return ExitCode::from(NOT_OPENED);
+    };
+    let disks: Disks<MemoryDisk> = Disks {
+        source: None,
+        dest: None,
+    };
+    disks_suffice::<MemoryDisk>();
+    call(rt, threads, words, disks, &realm, TcpNet::dialing(rt))
+}
+
 fn main(rt: HostRuntime) -> ExitCode {
     let Ok(words) = words(&rt) else {
         return ExitCode::from(ExitStatus::NoMemory.code());
     };
     if let Some(service) = asked_service(&words) {
         return at_port(&rt, &rt, &words, service);
+    }
+    if is_copy(&words) {
+        return over_links(&rt, &rt, &words);
     }
     let Ok(realm) = realm(rt.alloc()) else {
         return ExitCode::from(ExitStatus::NoMemory.code());

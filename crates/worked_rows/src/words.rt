@@ -28,6 +28,11 @@ fn words(rt: HostRuntime) -> Result<(), Fail> {
         &["serve-source", "-p", "1", "1"][..],
         &["serve-source", "p", "0", "1"][..],
         &["serve-source", "p", "1", "0"][..],
+        &["copy"][..],
+        &["copy", "2049", "2050", "1", "0", "1", "0", "10"][..],
+        &["copy", "0", "2050", "1", "0", "1", "0", "10", "c"][..],
+        &["copy", "2049", "2050", "1", "0", "1", "0", "10", "x"][..],
+        &["copy", "2049", "2050", "1", "0", "1", "0", "-10", "c"][..],
     ] {
         let text = Vec::from_slice(rt.alloc(), FIRST_COPY.as_bytes())?;
         let answer = ask(&rt, rt.alloc(), words, text, NO_FAULTS)?;
