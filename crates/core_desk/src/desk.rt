@@ -1,4 +1,4 @@
-ghost use Rattle.std.specs.Prelude.{◌≡◌, ◌+◌, ◌<◌, ◌≤◌, true, false, All, IfOk, OnErr};
+ghost use Rattle.std.specs.Prelude.{◌≡◌, ◌+◌, ◌<◌, ◌≤◌, true, false, All, IfOk, OnOk, OnErr};
 ghost use Rattle.copy_workers.specs.Desk.{chunk_limit, given_by, given_to, landed_by, Adds, IsModest, IsSmall};
 ghost use Rattle.outbox.specs.Counting.{landed_in, records_to};
 ghost use Rattle.rpc_msg.specs.Watching.{is_down};
@@ -93,6 +93,8 @@ impl<L: Ledger, T: Ledger, G: Ledger, K: Core<W>, C: Clock, W: Draws> CoreDesk<L
         ensures step { K.steps self.old.core < MOST_CALLS → IfOk result (λ out. Gave (λ now old told new. K.takes_record conn record_.now now self.old.draws self.new.draws old told new) same_sent self.old.core out self.new.core) }
         ensures full { MOST_CALLS ≤ K.steps self.old.core → IfOk result IsEmpty × (self.new ≡ self.old) }
         ensures rest { self.new ≡ record self.old { core = self.new.core; draws = self.new.draws } }
+        ensures small { IfOk result (λ out. All IsSmall out.sent) }
+        ensures counted { K.steps self.old.core < MOST_CALLS → OnOk result (K.steps self.new.core ≡ K.steps self.old.core + 1) }
         ensures err { OnErr result (self.new.core ≡ self.old.core) }
     {
         if self.core.calls() >= MOST_CALLS {
@@ -109,6 +111,7 @@ impl<L: Ledger, T: Ledger, G: Ledger, K: Core<W>, C: Clock, W: Draws> CoreDesk<L
         ensures step { K.steps self.old.core < MOST_CALLS → IfOk result (λ out. Gave K.ticks passed_sent self.old.core out self.new.core) }
         ensures full { MOST_CALLS ≤ K.steps self.old.core → IfOk result IsEmpty × (self.new ≡ self.old) }
         ensures rest { self.new ≡ record self.old { core = self.new.core; kept = self.new.kept } }
+        ensures later { K.steps self.old.core ≤ K.steps self.new.core }
         ensures err { OnErr result (self.new ≡ self.old) }
     {
         if self.core.calls() >= MOST_CALLS {
@@ -126,9 +129,10 @@ impl<L: Ledger, T: Ledger, G: Ledger, K: Core<W>, C: Clock, W: Draws> CoreDesk<L
         self.asked = true;
     }
 
-    /// The machine, lent.
+    /// The machine, lent. The book of landed bytes has what its jobs landed.
     pub fn core(&self) -> &K
-        ensures { result.now ≡ self.now.core }
+        ensures is { result.now ≡ self.now.core }
+        ensures booked { self.now.landed ≡ K.landed self.now.core }
     {
         &self.core
     }
@@ -307,6 +311,7 @@ impl<L: Ledger, T: Ledger, G: Ledger, N, K: Core<W> + Send, C: Clock + Send, W: 
         ensures modest { IfOk result (λ out. IsModest worker out) }
         ensures step { K.steps self.old.core < MOST_CALLS → IfOk result (λ out. Gave (λ now old told new. K.works worker now self.old.draws self.new.draws old told new) (Gives worker self.old.kept self.new.kept) self.old.core out self.new.core) }
         ensures full { MOST_CALLS ≤ K.steps self.old.core → IfOk result IsEmpty × (self.new.core ≡ self.old.core) }
+        ensures later { K.steps self.old.core ≤ K.steps self.new.core }
         ensures err { OnErr result (self.new.core ≡ self.old.core) }
         ensures asked { self.new.asked ≡ self.old.asked }
     {
@@ -354,6 +359,7 @@ impl<L: Ledger, T: Ledger, G: Ledger, N, K: Core<W> + Send, C: Clock + Send, W: 
         ensures step { K.steps self.old.core < MOST_CALLS → IfOk result (λ out. Gave (λ now old told new. K.takes_reply worker bytes.now now old told new) same_sent self.old.core out self.new.core) }
         ensures full { MOST_CALLS ≤ K.steps self.old.core → IfOk result IsEmpty × (self.new.core ≡ self.old.core) }
         ensures rest { self.new ≡ record self.old { core = self.new.core; landed = self.new.landed; turns = self.new.turns; given = self.new.given } }
+        ensures later { K.steps self.old.core ≤ K.steps self.new.core }
         ensures err { OnErr result (self.new.core ≡ self.old.core) }
     {
         let CoreDesk {
@@ -384,6 +390,7 @@ impl<L: Ledger, T: Ledger, G: Ledger, N, K: Core<W> + Send, C: Clock + Send, W: 
         ensures step { K.steps self.old.core < MOST_CALLS → IfOk result (λ out. K.fails_link worker self.old.core out self.new.core) }
         ensures full { MOST_CALLS ≤ K.steps self.old.core → IfOk result IsEmpty × (self.new ≡ self.old) }
         ensures rest { self.new ≡ record self.old { core = self.new.core } }
+        ensures later { K.steps self.old.core ≤ K.steps self.new.core }
         ensures err { OnErr result (self.new ≡ self.old) }
     {
         if self.core.calls() >= MOST_CALLS {

@@ -1,4 +1,4 @@
-ghost use Rattle.std.specs.Prelude.{◌≡◌, ℕ, ◌+◌, ◌<◌, ◌≤◌, List, All, IfOk, OnErr};
+ghost use Rattle.std.specs.Prelude.{◌≡◌, ℕ, ◌+◌, ◌<◌, ◌≤◌, List, All, IfOk, OnOk, OnErr};
 ghost use Rattle.copy_workers.specs.Desk.{chunk_limit, landed_by, IsSmall};
 ghost use Rattle.outbox.specs.Counting.{landed_in, records_to};
 ghost use Rattle.outbox.specs.declared.outgoing.Outbox.{Outbox};
@@ -49,13 +49,16 @@ pub trait Core<W: Draws> {
     ) -> Mem<Outbox>
         requires few { steps self.old < MOST_CALLS }
         ensures step { IfOk result (λ out. takes_record conn record_.now now draws.old draws.new self.old out self.new) }
+        ensures counted { OnOk result (steps self.new ≡ steps self.old + 1) }
         ensures landed { landed self.new ≡ landed self.old }
+        ensures small { IfOk result (λ out. All IsSmall out.sent) }
         ensures err { OnErr result (self.new ≡ self.old) };
 
     /// A second comes by itself.
     fn tick(&mut self, alloc: Global, now: u64) -> Mem<Outbox>
         requires few { steps self.old < MOST_CALLS }
         ensures step { IfOk result (λ out. ticks now self.old out self.new) }
+        ensures counted { OnOk result (steps self.new ≡ steps self.old + 1) }
         ensures landed { landed self.new ≡ landed self.old }
         ensures small { IfOk result (λ out. All IsSmall out.sent) }
         ensures err { OnErr result (self.new ≡ self.old) };
@@ -66,6 +69,7 @@ pub trait Core<W: Draws> {
         requires worker { 1 ≤ worker }
         requires workers { worker ≤ 8 }
         ensures step { IfOk result (λ out. works worker now draws.old draws.new self.old out self.new) }
+        ensures counted { OnOk result (steps self.new ≡ steps self.old + 1) }
         ensures landed { landed self.new ≡ landed self.old + landed_by result }
         ensures one { IfOk result (λ out. records_to worker out.sent ≤ 1) }
         ensures small { IfOk result (λ out. All IsSmall out.sent) }
@@ -84,6 +88,7 @@ pub trait Core<W: Draws> {
         requires worker { 1 ≤ worker }
         requires workers { worker ≤ 8 }
         ensures step { IfOk result (λ out. takes_reply worker record_.now now self.old out self.new) }
+        ensures counted { OnOk result (steps self.new ≡ steps self.old + 1) }
         ensures landed { landed self.new ≡ landed self.old + landed_by result }
         ensures one { IfOk result (λ out. records_to worker out.sent ≤ 1) }
         ensures small { IfOk result (λ out. All IsSmall out.sent) }
@@ -96,6 +101,7 @@ pub trait Core<W: Draws> {
         requires worker { 1 ≤ worker }
         requires workers { worker ≤ 8 }
         ensures step { IfOk result (λ out. fails_link worker self.old out self.new) }
+        ensures counted { OnOk result (steps self.new ≡ steps self.old + 1) }
         ensures landed { landed self.new ≡ landed self.old }
         ensures none { IfOk result (λ out. records_to worker out.sent ≡ 0) }
         ensures err { OnErr result (self.new ≡ self.old) };

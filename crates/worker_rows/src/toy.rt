@@ -1,6 +1,6 @@
 //! A machine that asks for records, and lands what comes.
 
-ghost use Rattle.std.specs.Prelude.{◌≡◌, ◌<◌, ◌≤◌, [], All, IfOk, OnErr};
+ghost use Rattle.std.specs.Prelude.{◌≡◌, ◌+◌, ◌<◌, ◌≤◌, [], All, IfOk, OnOk, OnErr};
 ghost use Rattle.copy_workers.specs.Desk.{IsSmall};
 ghost use Rattle.outbox.specs.Counting.{records_to};
 
@@ -99,6 +99,7 @@ impl Toy {
         ensures sent { IfOk result (λ out. out.sent ≡ []) }
         ensures notes { IfOk result (λ out. out.notes ≡ []) }
         ensures landed { self.new.landed ≡ self.old.landed }
+        ensures counted { OnOk result (self.new.steps ≡ self.old.steps + 1) }
         ensures err { OnErr result (self.new ≡ self.old) }
     {
         let out = nothing(alloc)?;
