@@ -4,10 +4,11 @@ use Rattle.std.specs.Prelude.{Option, Some}
 use Rattle.volume_format.specs.DiskWords.{DiskWords}
 use Rattle.volume_format.specs.Shapes.{Numbers}
 use Rattle.nfscopy.specs.declared.command.Command.{Command}
-use Rattle.nfscopy.specs.declared.command.Command.TheVariants.{Copy, Format, ServeSource}
+use Rattle.nfscopy.specs.declared.command.Command.TheVariants.{Copy, Format, ServeSource, ServeDest}
+use Rattle.nfscopy.specs.declared.command.DestOrder.{DestOrder}
 use Rattle.nfscopy.specs.declared.command.Service.{Service}
 use Rattle.linked_copy.specs.declared.copying.CopyOrder.{CopyOrder}
-use Rattle.nfscopy.specs.Ends.{CopyWords, Ends, EndsAs, FormatEnds, LinkedEnds, ServiceWords, SourceEnds}
+use Rattle.nfscopy.specs.Ends.{CopyWords, Ends, EndsAs, FormatEnds, LinkedEnds, ServedDestEnds, ServiceWords, SourceEnds}
 use Rattle.nfscopy.specs.ExitStatus.{copy_status, format_status, serve_status}
 use Rattle.nfscopy.specs.Outside.{Outside}
 use Rattle.nfscopy.specs.RunEnds.{RunWords}
@@ -32,6 +33,19 @@ ends_serve w r s c service command before now net net_now code asked ends dest l
     subst (λ (o : Option Command). Ends w r s c o before now net net_now code) asked
     (record {
       ends = (ends, dest, record { left = left; reads = reads });
+      reads = omega (arith, reads);
+      writes = writes;
+      unserved = λ none. absurd cc;
+    })
+
+pub ends_serve_dest : {D K M W N : Type 0} (w : DiskWords D) (r : RunWords M) (s : ServiceWords D K N) (c : CopyWords M W N) (order : DestOrder) (command : Option Command)
+    (before now : Outside D) (net net_now : N) (code : ℕ) → Some (ServeDest order) ≡ command
+    → EndsAs serve_status (ServedDestEnds w s order before now net net_now) code → now.source ≡ before.source → now.left ≡ before.left
+    → now.reads ≡ before.reads → before.writes ≤ now.writes → Ends w r s c command before now net net_now code
+ends_serve_dest w r s c order command before now net net_now code asked ends source left reads writes =
+    subst (λ (o : Option Command). Ends w r s c o before now net net_now code) asked
+    (record {
+      ends = (ends, source, record { left = left; reads = reads });
       reads = omega (arith, reads);
       writes = writes;
       unserved = λ none. absurd cc;

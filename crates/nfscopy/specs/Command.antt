@@ -7,7 +7,10 @@ use Rattle.volume_format.specs.Shapes.{Numbers, new_volume}
 use Rattle.wire_schedule.specs.Grammar.{consecutive_of}
 use Rattle.wire_schedule.specs.Numerals.{◌>>=◌, number_below, number_of}
 use Rattle.nfscopy.specs.declared.command.Command.{Command}
-use Rattle.nfscopy.specs.declared.command.Command.TheVariants.{Run, Show, Gen, Format, ServeSource, Copy}
+use Rattle.nfs_base.specs.declared.side.Side.TheVariants.{Source, Dest}
+use Rattle.nfscopy.specs.declared.command.Asked.{Asked}
+use Rattle.nfscopy.specs.declared.command.Command.TheVariants.{Run, Show, Gen, Format, ServeSource, ServeDest, Copy}
+use Rattle.nfscopy.specs.declared.command.DestOrder.{DestOrder}
 use Rattle.nfscopy.specs.declared.command.Service.{Service}
 use Rattle.nfscopy.specs.declared.command.TheConstants.{MOST_CONNS}
 
@@ -53,6 +56,24 @@ unfoldable pub port_of : List ℕ → Option ℕ
 port_of word = do
   p ← number_below (2 ^ 32) word
   if nat_le 1 p && nat_le p 65535 then Some p else None
+
+-- 1 to 8 workers
+unfoldable pub workers_of : List ℕ → Option ℕ
+workers_of word = do
+  w ← number_below (2 ^ 32) word
+  if nat_le 1 w && nat_le w 8 then Some w else None
+
+unfoldable pub dest_order_of : (port conns workers source : List ℕ) → Option DestOrder
+dest_order_of port conns workers source = do
+  s ← service_of port conns
+  w ← workers_of workers
+  p ← port_of source
+  Some (record { service = s; workers = w; source_port = p })
+
+-- `serve-dest`, without its first word
+unfoldable pub serve_dest_of : (path port conns workers source : List ℕ) → Option Command
+serve_dest_of path port conns workers source =
+    if is_path path then option_map ServeDest (dest_order_of port conns workers source) else None
 
 -- a file's number, which is 1 or more
 unfoldable pub file_of : List ℕ → Option ℕ
@@ -101,6 +122,10 @@ of_four word path port conns = if bytes_eq word (codes "serve-source") then serv
 abbrev pub of_five : (word path files blocks tag : List ℕ) → Option Command
 of_five word path files blocks tag = if bytes_eq word (codes "format") then format_of path files blocks tag else None
 
+abbrev pub of_six : (word path port conns workers source : List ℕ) → Option Command
+of_six word path port conns workers source =
+    if bytes_eq word (codes "serve-dest") then serve_dest_of path port conns workers source else None
+
 abbrev pub of_nine : (word source dest src_file src_off dst_file dst_off count consecutive : List ℕ) → Option Command
 of_nine word source dest src_file src_off dst_file dst_off count consecutive =
     if bytes_eq word (codes "copy") then copy_of source dest src_file src_off dst_file dst_off count consecutive else None
@@ -110,6 +135,7 @@ command_of (word ∷ []) = of_one word
 command_of (word ∷ number ∷ []) = of_two word number
 command_of (word ∷ path ∷ port ∷ conns ∷ []) = of_four word path port conns
 command_of (word ∷ path ∷ files ∷ blocks ∷ tag ∷ []) = of_five word path files blocks tag
+command_of (word ∷ path ∷ port ∷ conns ∷ workers ∷ source ∷ []) = of_six word path port conns workers source
 command_of (word ∷ source ∷ dest ∷ src_file ∷ src_off ∷ dst_file ∷ dst_off ∷ count ∷ consecutive ∷ []) =
     of_nine word source dest src_file src_off dst_file dst_off count consecutive
 command_of words = None
@@ -121,6 +147,7 @@ is_format (Some Run) = false
 is_format (Some Show) = false
 is_format (Some (Gen mebibytes)) = false
 is_format (Some (ServeSource s)) = false
+is_format (Some (ServeDest o)) = false
 is_format (Some (Copy o)) = false
 is_format None = false
 
@@ -132,11 +159,13 @@ is_copy (Some Show) = false
 is_copy (Some (Gen mebibytes)) = false
 is_copy (Some (Format v)) = false
 is_copy (Some (ServeSource s)) = false
+is_copy (Some (ServeDest o)) = false
 is_copy None = false
 
--- what a command asks a server for
-abbrev pub service_in : Option Command → Option Service
-service_in (Some (ServeSource s)) = Some s
+-- which server a command asks for, and where it listens
+abbrev pub service_in : Option Command → Option Asked
+service_in (Some (ServeSource s)) = Some (record { side = Source; service = s })
+service_in (Some (ServeDest o)) = Some (record { side = Dest; service = o.service })
 service_in (Some Run) = None
 service_in (Some Show) = None
 service_in (Some (Gen mebibytes)) = None
@@ -152,4 +181,5 @@ is_on_net (Some Show) = false
 is_on_net (Some (Gen mebibytes)) = false
 is_on_net (Some (Format v)) = false
 is_on_net (Some (ServeSource s)) = true
+is_on_net (Some (ServeDest o)) = true
 is_on_net (Some (Copy o)) = true

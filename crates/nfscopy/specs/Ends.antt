@@ -15,6 +15,10 @@ use Rattle.linked_copy.specs.declared.ends.CopyEnd.{CopyEnd}
 use Rattle.nfs_base.specs.declared.copy_spec.CopySpec.{CopySpec}
 use Rattle.outcome.specs.Causes.{Rose}
 use Rattle.server_volume.specs.Store.{Seat}
+use Rattle.dest_server.specs.Desk.{dest_answers}
+use Rattle.dest_server.specs.Serving.{DestEnds}
+use Rattle.dest_server.specs.declared.serving.DestService.{DestService}
+use Rattle.link_server.specs.Answering.{Caller}
 use Rattle.single_copy.specs.Turns.{Conduct, conduct_of}
 use Rattle.source_server.specs.Machine.{source_words, words_of}
 use Rattle.source_server.specs.Serving.{NetWords, ServeEnds, ServerWords}
@@ -28,7 +32,8 @@ use Rattle.volume_format.specs.declared.formatting.FormatEnd.{FormatEnd}
 use Rattle.nfscopy.specs.Command.{is_on_net}
 use Rattle.nfscopy.specs.declared.command.Command.{Command}
 use Rattle.nfscopy.specs.declared.command.Service.{Service}
-use Rattle.nfscopy.specs.declared.command.Command.TheVariants.{Run, Show, Gen, Format, ServeSource, Copy}
+use Rattle.nfscopy.specs.declared.command.Command.TheVariants.{Run, Show, Gen, Format, ServeSource, ServeDest, Copy}
+use Rattle.nfscopy.specs.declared.command.DestOrder.{DestOrder}
 use Rattle.nfscopy.specs.declared.exit_status.ExitStatus.{ExitStatus}
 use Rattle.nfscopy.specs.declared.ends.UsageEnd.{UsageEnd}
 use Rattle.nfscopy.specs.declared.ends.UsageEnd.TheVariants.{Put, WriteFault}
@@ -57,13 +62,20 @@ pub record EndsAs {E : Type 0} (status_of : E → ExitStatus) (Says : E → Type
   pub is : code ≡ code_of (status_of end)
   pub says : Says end
 
--- How a server speaks of what it serves: its net's words, and those of its machine.
+-- How servers speak of what they serve: their net's words, those of the source as a machine, and what each connection of a destination gets for a
+-- record.
 pub record ServiceWords (D K N : Type 0) : Type 1 where
   pub net : NetWords N
   pub server : ServerWords D K
+  pub dest : Caller → List ℕ → List ℕ → Caller → Type 0
 
-abbrev pub service_words : {D K N : Type 0} → NetWords N → ServerWords D K → ServiceWords D K N
-service_words net server = record { net = net; server = server }
+abbrev pub service_words : {D K N : Type 0} → NetWords N → ServerWords D K → (Caller → List ℕ → List ℕ → Caller → Type 0) → ServiceWords D K N
+service_words net server dest = record { net = net; server = server; dest = dest }
+
+-- a destination's answers by this mechanism
+abbrev pub dest_by : {D M W : Type 0} → DiskWords D → M → (Opened D → Seat) → Mic → (List ℕ → ℕ → List ℕ → List ℕ)
+    → (M → List ℕ → List ℕ → Option Accepted) → (W → Drawn → W → Type 0) → Caller → List ℕ → List ℕ → Caller → Type 0
+dest_by d mech seat mic derived accepted gives = dest_answers (words_of d.told d.size seat mic derived accepted gives)
 
 -- the source by this mechanism, clock and draws, and by what its disk, its mechanism and its draws tell of themselves, with the location and
 -- the one peer that the source of every schedule has
@@ -76,6 +88,15 @@ source_by d mech clock draws seat mic derived accepted gives =
 abbrev pub SourceEnds : {D K N : Type 0} → DiskWords D → ServiceWords D K N → Service → Outside D → Outside D → N → N → ServeEnd → Type 0
 SourceEnds w s service before now net net_now end =
     ServeEnds w s.net s.server service.conns before.taken now.taken before.writes now.writes net net_now before.source now.source end
+
+-- what a destination's server is asked to do
+abbrev pub dest_service_of : DestOrder → DestService
+dest_service_of order = record { conns = order.service.conns; workers = order.workers; port = order.source_port }
+
+-- a destination is served, from the disk in the destination's place
+abbrev pub ServedDestEnds : {D K N : Type 0} → DiskWords D → ServiceWords D K N → DestOrder → Outside D → Outside D → N → N → ServeEnd → Type 0
+ServedDestEnds w s order before now net net_now end =
+    DestEnds w s.net s.dest (dest_service_of order) before.taken now.taken before.writes now.writes net net_now before.dest now.dest end
 
 -- How a copy speaks of what it does: how its client and its draws do what they do, by what is copied; what the client knows; the draws; and
 -- its net's words.
@@ -109,6 +130,8 @@ EndsBy w r s c (Some (Format v)) before now net net_now code =
     EndsAs format_status (FormatEnds w v before now) code × (now.dest ≡ before.dest) × SameInput before now
 EndsBy w r s c (Some (ServeSource service)) before now net net_now code =
     EndsAs serve_status (SourceEnds w s service before now net net_now) code × (now.dest ≡ before.dest) × SameInput before now
+EndsBy w r s c (Some (ServeDest order)) before now net net_now code =
+    EndsAs serve_status (ServedDestEnds w s order before now net net_now) code × (now.source ≡ before.source) × SameInput before now
 EndsBy w r s c (Some (Copy order)) before now net net_now code =
     EndsAs copy_status (LinkedEnds c order before now net net_now) code × SameDisks before now × SameInput before now
 
@@ -125,7 +148,8 @@ pub record Ends {D K M W N : Type 0} (w : DiskWords D) (r : RunWords M) (s : Ser
 abbrev pub MayOpen : {D : Type 0} → DiskWords D → D → Type 0
 MayOpen w disk = w.told → (image : Image) → MayLeave (present (w.timeline disk)) image → CanBeOpened (w.size disk) image
 
--- The disks that a command uses are handed in: both for `run` and `gen`, the source's for `format` and `serve-source`.
+-- The disks that a command uses are handed in: both for `run` and `gen`, the source's for `format` and `serve-source`, the destination's for
+-- `serve-dest`.
 abbrev pub HasDisks : {D : Type 0} → DiskWords D → Option Command → Option D → Option D → Type 0
 HasDisks w None source dest = Unit {0}
 HasDisks w (Some Run) source dest = (is_some source ≡ true) × (is_some dest ≡ true)
@@ -133,4 +157,5 @@ HasDisks w (Some (Gen mebibytes)) source dest = (is_some source ≡ true) × (is
 HasDisks w (Some Show) source dest = Unit {0}
 HasDisks w (Some (Format v)) source dest = is_some source ≡ true
 HasDisks w (Some (ServeSource service)) source dest = (is_some source ≡ true) × IfSome source (MayOpen w)
+HasDisks w (Some (ServeDest order)) source dest = (is_some dest ≡ true) × IfSome dest (MayOpen w)
 HasDisks w (Some (Copy order)) source dest = Unit {0}

@@ -1,11 +1,12 @@
-ghost use Rattle.std.specs.Prelude.{◌≡◌, map};
+ghost use Rattle.std.specs.Prelude.{◌≡◌, ◌≤◌, ◌↔◌, map, IsSome, IfSome};
 ghost use Rattle.std.specs.String.{string_bytes};
-ghost use Rattle.nfscopy.specs.Command.{command_of, copy_order_of, copy_spec_of, file_of, format_of, is_copy, is_format, is_path, mebibytes_of, of_five, of_four, of_nine, of_one, of_two, port_of, serve_source_of, service_in, service_of, volume_of};
+ghost use Rattle.nfscopy.specs.Command.{command_of, copy_order_of, copy_spec_of, dest_order_of, file_of, format_of, is_copy, is_format, is_path, mebibytes_of, of_five, of_four, of_nine, of_one, of_six, of_two, port_of, serve_dest_of, serve_source_of, service_in, service_of, volume_of, workers_of};
 ghost use Rattle.wire_schedule.specs.Grammar.{consecutive_of};
 
 use large_copy::LargeCopy;
 use linked_copy::CopyOrder;
-use nfs_base::CopySpec;
+use nfs_base::{CopySpec, Side};
+use std::marker::Model;
 use volume_format::NewVolume;
 use wire_schedule::{number, number_u32};
 
@@ -27,6 +28,9 @@ pub enum Command {
     /// Serves the volume on the disk of a file as a source. The file is the first word behind the command's.
     ServeSource(Service),
 
+    /// Serves the volume on the disk of a file as a destination. The file is the first word behind the command's.
+    ServeDest(DestOrder),
+
     /// Makes one copy by a client of two servers.
     Copy(CopyOrder),
 }
@@ -39,6 +43,69 @@ pub struct Service {
 
     /// How many connections it accepts, 1 to 1,000,000.
     pub conns: u32,
+}
+
+/// How many workers a destination has: 1 to 8.
+#[derive(Clone, Copy, PartialEq, Eq)]
+pub struct Workers {
+    number: u8,
+}
+
+impl Model for Workers {
+    ghost use Rattle.std.specs.Prelude.{ℕ, ◌≤◌};
+
+    ghost Value = { ℕ };
+
+    ghost view = { λ w. w.number };
+
+    ghost invariant = { λ w. (1 ≤ w.number) × (w.number ≤ 8) };
+
+    ghost inverse = { λ number. record { number = number } };
+}
+
+impl Workers {
+    /// So many workers, where they are 1 to 8.
+    pub fn new(number: u8) -> Option<Workers>
+        ensures some { IsSome result ↔ ((1 ≤ number) × (number ≤ 8)) }
+        ensures same { IfSome result (λ workers. workers ≡ number) }
+    {
+        if number < 1 || number > 8 {
+            return None;
+        }
+        Some(Workers { number })
+    }
+
+    /// How many they are.
+    pub fn number(self) -> u8
+        ensures same { result ≡ self }
+        ensures some { 1 ≤ self }
+        ensures few { self ≤ 8 }
+    {
+        self.number
+    }
+}
+
+/// What a destination's server is asked for.
+#[derive(Clone, Copy, PartialEq, Eq)]
+pub struct DestOrder {
+    /// Where it listens, and for how many connections.
+    pub service: Service,
+
+    /// How many workers fetch from the source.
+    pub workers: Workers,
+
+    /// The port of this machine at which they find it, from 1 on.
+    pub source_port: u16,
+}
+
+/// Which server is asked for, and where it listens.
+#[derive(Clone, Copy, PartialEq, Eq)]
+pub struct Asked {
+    /// Which of the two servers.
+    pub side: Side,
+
+    /// Where it listens, and for how many connections.
+    pub service: Service,
 }
 
 /// So many connections a server accepts at most.
@@ -64,6 +131,14 @@ impl Command {
                 files.as_bytes(),
                 blocks.as_bytes(),
                 tag.as_bytes(),
+            ),
+            [word, path, port, conns, workers, source] => of_six(
+                word.as_bytes(),
+                path.as_bytes(),
+                port.as_bytes(),
+                conns.as_bytes(),
+                workers.as_bytes(),
+                source.as_bytes(),
             ),
             [
                 word,
@@ -135,6 +210,23 @@ fn of_five(word: &[u8], path: &[u8], files: &[u8], blocks: &[u8], tag: &[u8]) ->
     }
 }
 
+fn of_six(
+    word: &[u8],
+    path: &[u8],
+    port: &[u8],
+    conns: &[u8],
+    workers: &[u8],
+    source: &[u8],
+) -> Option<Command>
+    ensures { result ≡ of_six word.now path.now port.now conns.now workers.now source.now }
+{
+    if word == b"serve-dest".as_slice() {
+        read_serve_dest(path, port, conns, workers, source)
+    } else {
+        None
+    }
+}
+
 fn of_nine(
     word: &[u8],
     source: &[u8],
@@ -168,6 +260,7 @@ pub fn is_format(words: &[String]) -> bool
         Command::Show => false,
         Command::Gen(_) => false,
         Command::ServeSource(_) => false,
+        Command::ServeDest(_) => false,
         Command::Copy(_) => false,
     }
 }
@@ -186,15 +279,23 @@ pub fn is_copy(words: &[String]) -> bool
         Command::Gen(_) => false,
         Command::Format(_) => false,
         Command::ServeSource(_) => false,
+        Command::ServeDest(_) => false,
     }
 }
 
-/// What these words ask a server for, whose volume lies on the disk of a file, which is the second of them.
-pub fn asked_service(words: &[String]) -> Option<Service>
+/// Which server these words ask for, whose volume lies on the disk of a file, which is the second of them.
+pub fn asked_service(words: &[String]) -> Option<Asked>
     ensures { result ≡ service_in (command_of (map string_bytes words.now)) }
 {
     match Command::from_words(words)? {
-        Command::ServeSource(service) => Some(service),
+        Command::ServeSource(service) => Some(Asked {
+            side: Side::Source,
+            service,
+        }),
+        Command::ServeDest(order) => Some(Asked {
+            side: Side::Dest,
+            service: order.service,
+        }),
         Command::Run => None,
         Command::Show => None,
         Command::Gen(_) => None,
@@ -262,6 +363,47 @@ fn read_service(port: &[u8], conns: &[u8]) -> Option<Service>
         port: port as u16,
         conns,
     })
+}
+
+/// `serve-dest`, without its first word.
+#[tactic(auto, unfolding(crate::specs::Command::serve_dest_of))]
+fn read_serve_dest(
+    path: &[u8],
+    port: &[u8],
+    conns: &[u8],
+    workers: &[u8],
+    source: &[u8],
+) -> Option<Command>
+    ensures { result ≡ serve_dest_of path.now port.now conns.now workers.now source.now }
+{
+    if !is_path(path) {
+        return None;
+    }
+    Some(Command::ServeDest(read_dest(port, conns, workers, source)?))
+}
+
+/// What a destination's server is asked for by these words.
+#[tactic(auto, unfolding(crate::specs::Command::dest_order_of))]
+fn read_dest(port: &[u8], conns: &[u8], workers: &[u8], source: &[u8]) -> Option<DestOrder>
+    ensures { result ≡ dest_order_of port.now conns.now workers.now source.now }
+{
+    Some(DestOrder {
+        service: read_service(port, conns)?,
+        workers: read_workers(workers)?,
+        source_port: read_port(source)?,
+    })
+}
+
+/// How many workers.
+#[tactic(auto, unfolding(crate::specs::Command::workers_of))]
+fn read_workers(word: &[u8]) -> Option<Workers>
+    ensures { result ≡ workers_of word.now }
+{
+    let workers = number_u32(word)?;
+    if workers < 1 || workers > 8 {
+        return None;
+    }
+    Workers::new(workers as u8)
 }
 
 /// A copy by these words, and where its servers are found.

@@ -22,7 +22,7 @@ mod show;
 mod summary;
 mod top;
 
-pub use command::{Command, Service, asked_service, is_copy, is_format};
+pub use command::{Asked, Command, DestOrder, Service, Workers, asked_service, is_copy, is_format};
 pub use commands::{do_format, do_gen, do_run, do_show};
 pub use ends::{GenEnd, RunEnd, ShowEnd, UsageEnd};
 pub use exit_status::ExitStatus;

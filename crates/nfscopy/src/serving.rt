@@ -2,7 +2,8 @@
 
 ghost use Rattle.std.specs.Prelude.{◌≡◌, ◌≤◌, true, is_some, IfOk, IfSome};
 ghost use Rattle.link_server.specs.Keeping.{books_of};
-ghost use Rattle.nfscopy.specs.Ends.{EndsAs, MayOpen, source_by};
+ghost use Rattle.dest_server.specs.Serving.{DestEnds};
+ghost use Rattle.nfscopy.specs.Ends.{EndsAs, MayOpen, dest_by, dest_service_of, source_by};
 ghost use Rattle.nfscopy.specs.ExitStatus.{serve_status};
 ghost use Rattle.server_volume.specs.Store.{seat_of};
 ghost use Rattle.source_core.specs.Location.{IsShort};
@@ -10,7 +11,9 @@ ghost use Rattle.source_server.specs.Serving.{net_words, ServeEnds};
 ghost use Rattle.volume_format.specs.DiskWords.{disk_words};
 ghost use Rattle.wire_run.specs.Setting.{source_peers, source_place};
 
+use crate::command::DestOrder;
 use crate::ends::serve_code;
+use dest_server::{DestService, Partner, serve_dest};
 use disk_model::Disk;
 use gss_mech::Mechanism;
 use net_links::Net;
@@ -21,10 +24,10 @@ use std::marker::{Send, Sync};
 use std::sync::Wait;
 use std::thread::Threads;
 use streams::{Clock, Draws, Sink, Source};
-use wire_run::{source_peers, source_place};
+use wire_run::{dest_name, dest_place, dest_source, source_peers, source_place};
 
 /// Serves the volume on the disk in the source's place to so many connections.
-pub(crate) fn serve<
+pub(crate) fn serve_as_source<
     R: Threads + Wait + Sync,
     K: Sink,
     D: Disk + Drop + Send,
@@ -58,6 +61,74 @@ pub(crate) fn serve<
     serve_code(serve_source(
         rt, alloc, conns, known, mech, clock, draws, output, disk, net,
     ))
+}
+
+/// Serves the volume on the disk in the destination's place, with workers.
+pub(crate) fn serve_as_dest<
+    R: Threads + Wait + Sync,
+    K: Sink,
+    D: Disk + Drop + Send,
+    M: Mechanism + Send + Drop,
+    C: Clock + Drop + Send,
+    W: Draws + Drop + Send,
+    F: Source + Send + Drop,
+    T: Sink + Send + Drop,
+    N: Net<From = F, To = T>,
+>(
+    rt: &R,
+    alloc: Global,
+    order: DestOrder,
+    mech: M,
+    clock: C,
+    draws: W,
+    output: &mut K,
+    disk: &mut Option<D>,
+    net: &mut N,
+) -> u8
+    requires there { is_some disk.old ≡ true }
+    requires volume { IfSome disk.old (MayOpen (disk_words D.Told D.faults D.size D.timeline)) }
+    ensures ends { EndsAs serve_status (DestEnds (disk_words D.Told D.faults D.size D.timeline) (net_words N.Told N.coming N.faults (books_of N.hung N.up N.accepted))
+        (dest_by (disk_words D.Told D.faults D.size D.timeline) mech (seat_of D.size D.fuse D.timeline D.faults) M.mic_of M.derived M.accepted W.gives) (dest_service_of order)
+        (K.takes output.old).taken (K.takes output.new).taken (K.takes output.old).faults (K.takes output.new).faults net.old net.new disk.old disk.new) result }
+    ensures later { (K.takes output.old).faults ≤ (K.takes output.new).faults }
+{
+    let Ok(partner) = partner(alloc) else {
+        return serve_code(ServeEnd::NoMemory);
+    };
+    serve_code(serve_dest(
+        rt,
+        alloc,
+        service_of(order),
+        partner,
+        mech,
+        clock,
+        draws,
+        output,
+        disk,
+        net,
+    ))
+}
+
+/// What a destination's server is asked to do.
+fn service_of(order: DestOrder) -> DestService
+    ensures is { result ≡ dest_service_of order }
+    ensures some { 1 ≤ result.workers }
+    ensures few { result.workers ≤ 8 }
+{
+    DestService {
+        conns: order.service.conns,
+        workers: order.workers.number(),
+        port: order.source_port,
+    }
+}
+
+/// Whom the destination knows: the source that every schedule has, too.
+fn partner(alloc: Global) -> Mem<Partner> {
+    Ok(Partner {
+        source: dest_source(alloc)?,
+        principal: dest_name(alloc)?,
+        own: dest_place(alloc)?,
+    })
 }
 
 /// Whom the source knows: the destination that every schedule has, too.

@@ -4,7 +4,7 @@ ghost use Rattle.nfscopy.specs.Command.{command_of};
 ghost use Rattle.link_server.specs.Keeping.{books_of};
 ghost use Rattle.client_core.specs.Endings.{ways_of};
 ghost use Rattle.linked_copy.specs.Nets as nets;
-ghost use Rattle.nfscopy.specs.Ends.{Ends, HasDisks, copy_words, service_words, source_by};
+ghost use Rattle.nfscopy.specs.Ends.{Ends, HasDisks, copy_words, dest_by, service_words, source_by};
 ghost use Rattle.nfscopy.specs.Outside.{outside};
 ghost use Rattle.server_volume.specs.Store.{seat_of};
 ghost use Rattle.source_server.specs.Serving.{net_words};
@@ -15,7 +15,7 @@ use crate::command::Command;
 use crate::commands::{do_format, do_gen, do_run, do_show};
 use crate::copying::copy;
 use crate::run::usage;
-use crate::serving::serve;
+use crate::serving::{serve_as_dest, serve_as_source};
 use disk_model::Disk;
 use gss_mech::Mechanism;
 use net_links::Net;
@@ -32,10 +32,11 @@ use wire_run::Disks;
 /// records by the mechanism, and puts the transcript to `output`; `gen N` does so with a schedule of its own, which copies a file
 /// of N MiB, and puts a summary; `show` reads a stream of records and puts what they hold, line by line; `format PATH FILES BLOCKS
 /// TAG` makes an empty volume on the disk in the source's place, which is that of the file PATH; `serve-source PATH PORT CONNS`
-/// serves the volume on that disk to so many connections of the net, with the time of `clock` and the draws of `draws`; `copy SPORT DPORT
-/// SFILE SOFF DFILE DOFF COUNT c` (or `n`) makes one copy by a client of the servers at these ports, with the same time and draws, and puts
-/// what became of it. Words of no command put the line `usage`. What each status says of the input, the output, the disks and the net
-/// stands in `Ends`.
+/// serves the volume on that disk to so many connections of the net, with the time of `clock` and the draws of `draws`, and `serve-dest
+/// PATH PORT CONNS WORKERS SPORT` that on the disk in the destination's place, with workers that fetch from the port SPORT; `copy SPORT
+/// DPORT SFILE SOFF DFILE DOFF COUNT c` (or `n`) makes one copy by a client of the servers at these ports, with the same time and draws,
+/// and puts what became of it. Words of no command put the line `usage`. What each status says of the input, the output, the disks and
+/// the net stands in `Ends`.
 pub fn nfscopy<
     R: Threads + Wait + Sync,
     S: Source,
@@ -62,7 +63,8 @@ pub fn nfscopy<
     requires { HasDisks (disk_words D.Told D.faults D.size D.timeline) (command_of (map string_bytes words.now)) disks.old.source disks.old.dest }
     ensures { Ends (disk_words D.Told D.faults D.size D.timeline) (run_words mech.entry M.mic_of M.derived (λ m. M.started m.now) (λ m. M.accepted m.now) (λ m. M.finished m.now))
         (service_words (net_words N.Told N.coming N.faults (books_of N.hung N.up N.accepted))
-        (source_by (disk_words D.Told D.faults D.size D.timeline) mech.entry clock draws (seat_of D.size D.fuse D.timeline D.faults) M.mic_of M.derived (λ m. M.accepted m.now) W.gives))
+        (source_by (disk_words D.Told D.faults D.size D.timeline) mech.entry clock draws (seat_of D.size D.fuse D.timeline D.faults) M.mic_of M.derived (λ m. M.accepted m.now) W.gives)
+        (dest_by (disk_words D.Told D.faults D.size D.timeline) mech.entry (seat_of D.size D.fuse D.timeline D.faults) M.mic_of M.derived (λ m. M.accepted m.now) W.gives))
         (copy_words (ways_of M.mic_of M.derived (λ m. M.finished m.now) (λ m. M.started m.now) (λ m. M.accepted m.now)) W.gives W.faults mech.entry draws
         (nets.net_words N.Told (nets.books_of N.coming N.accepted N.up N.hung) N.faults))
         (command_of (map string_bytes words.now))
@@ -80,7 +82,7 @@ pub fn nfscopy<
         Command::Format(new) => do_format(alloc, new, output, disks),
         Command::ServeSource(service) => {
             let source = &mut disks.source;
-            serve(
+            serve_as_source(
                 rt,
                 alloc,
                 service.conns,
@@ -91,6 +93,10 @@ pub fn nfscopy<
                 source,
                 net,
             )
+        }
+        Command::ServeDest(order) => {
+            let dest = &mut disks.dest;
+            serve_as_dest(rt, alloc, order, mech, clock, draws, output, dest, net)
         }
         Command::Copy(order) => copy(alloc, order, mech, clock, draws, output, net),
     }

@@ -1,7 +1,8 @@
 //! The program `nfscopy`: makes the real objects, and leaves all else to [`nfscopy::nfscopy`].
 #![tactic(auto)]
 
-ghost use Rattle.std.specs.Prelude.{◌≡◌, true, map, Some};
+ghost use Rattle.std.specs.Prelude.{◌≡◌, true, is_some, map, Some};
+ghost use Rattle.nfs_base.specs.declared.side.Side.TheVariants.{Source, Dest};
 ghost use Rattle.std.specs.String.{string_bytes};
 ghost use Rattle.nfscopy.specs.Command.{command_of, is_copy, is_format, service_in};
 ghost use Rattle.nfscopy.specs.Ends.{HasDisks};
@@ -10,7 +11,8 @@ ghost use Rattle.volume_format.specs.DiskWords.{disk_words};
 use disk_model::{Disk, FileDisk, MemoryDisk};
 use gss_mech::Realm;
 use net_links::TcpNet;
-use nfscopy::{ExitStatus, Service, asked_service, disks_suffice, is_copy, is_format, nfscopy};
+use nfs_base::Side;
+use nfscopy::{Asked, ExitStatus, asked_service, disks_suffice, is_copy, is_format, nfscopy};
 use outcome::Mem;
 use realm_file::read_realm;
 use std::alloc::Global;
@@ -172,9 +174,9 @@ fn at_port<R: Threads + Wait + Sync>(
     rt: &HostRuntime,
     threads: &R,
     words: &[String],
-    service: Service,
+    asked: Asked,
 ) -> ExitCode
-    requires { service_in (command_of (map string_bytes words.now)) ≡ Some service }
+    requires { service_in (command_of (map string_bytes words.now)) ≡ Some asked }
 {
     let not_opened = ExitCode::from(NOT_OPENED);
     let Some(realm) = realm_of_file(rt) else {
@@ -186,15 +188,29 @@ fn at_port<R: Threads + Wait + Sync>(
     let Ok(disk) = old_disk(rt, path.as_str()) else {
         return not_opened;
     };
-    let Ok(net) = TcpNet::listening(rt, service.port) else {
+    let Ok(net) = TcpNet::listening(rt, asked.service.port) else {
         return ExitCode::from(ExitStatus::NetFault.code());
     };
-    let disks = Disks {
-        source: Some(disk),
-        dest: None,
-    };
+    let disks = disks_of(asked.side, disk);
     disks_suffice::<FileDisk>();
     call(rt, threads, words, disks, &realm, net)
+}
+
+/// A server's disk, in its place.
+fn disks_of(side: Side, disk: FileDisk) -> Disks<FileDisk>
+    ensures source { side ≡ Source → is_some result.source ≡ true }
+    ensures dest { side ≡ Dest → is_some result.dest ≡ true }
+{
+    match side {
+        Side::Source => Disks {
+            source: Some(disk),
+            dest: None,
+        },
+        Side::Dest => Disks {
+            source: None,
+            dest: Some(disk),
+        },
+    }
 }
 
 /// Does what the words of `copy` ask for, by the realm of its file.
@@ -216,8 +232,8 @@ fn main(rt: HostRuntime) -> ExitCode {
     let Ok(words) = words(&rt) else {
         return ExitCode::from(ExitStatus::NoMemory.code());
     };
-    if let Some(service) = asked_service(&words) {
-        return at_port(&rt, &rt, &words, service);
+    if let Some(asked) = asked_service(&words) {
+        return at_port(&rt, &rt, &words, asked);
     }
     if is_copy(&words) {
         return over_links(&rt, &rt, &words);

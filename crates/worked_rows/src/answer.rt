@@ -1,7 +1,7 @@
-ghost use Rattle.std.specs.Prelude.{◌≡◌, true, None, is_some, map};
+ghost use Rattle.std.specs.Prelude.{◌≡◌, true, None, is_some, map, IfOk, IfSome};
 ghost use Rattle.std.specs.String.{string_bytes};
 ghost use Rattle.nfscopy.specs.Command.{command_of, service_in};
-ghost use Rattle.nfscopy.specs.Ends.{HasDisks};
+ghost use Rattle.nfscopy.specs.Ends.{HasDisks, MayOpen};
 ghost use Rattle.volume_format.specs.DiskWords.{disk_words};
 
 use block_file::Volume;
@@ -182,7 +182,7 @@ fn call<R: Threads + Wait + Sync, D: Disk + Drop + Send>(
     called(rt, alloc, words, outside, disks)
 }
 
-/// Calls the program over an empty volume in the source's place.
+/// Calls the program over an empty volume in each place.
 fn serve<R: Threads + Wait + Sync, D: Disk + Drop + Send>(
     rt: &R,
     alloc: Global,
@@ -190,21 +190,34 @@ fn serve<R: Threads + Wait + Sync, D: Disk + Drop + Send>(
     outside: &mut Outside,
     disks: Disks<D>,
 ) -> Mem<(u8, Disks<D>)>
-    requires dest { is_some disks.dest ≡ true }
 {
     let Disks { source, dest } = disks;
-    let Some(disk) = source else {
-        return Ok((NO_VOLUME, Disks { source: None, dest }));
-    };
-    let Ok(made) = Volume::format(disk, 1, 1, 7)? else {
-        return Ok((NO_VOLUME, Disks { source: None, dest }));
+    let (Some(source), Some(dest)) = (made(source)?, made(dest)?) else {
+        return Ok((NO_VOLUME, no_disks()));
     };
     let disks = Disks {
-        source: Some(made),
-        dest,
+        source: Some(source),
+        dest: Some(dest),
     };
     disks_suffice::<D>();
     called(rt, alloc, words, outside, disks)
+}
+
+/// The disk with an empty volume on it.
+fn made<D: Disk + Drop>(disk: Option<D>) -> Mem<Option<D>>
+    ensures { IfOk result (λ disk. IfSome disk (MayOpen (disk_words D.Told D.faults D.size D.timeline))) }
+{
+    let Some(disk) = disk else {
+        return Ok(None);
+    };
+    Ok(Volume::format(disk, 1, 1, 7)?.ok())
+}
+
+fn no_disks<D>() -> Disks<D> {
+    Disks {
+        source: None,
+        dest: None,
+    }
 }
 
 /// Calls the program over these disks, and a net to which nobody comes.

@@ -1,5 +1,5 @@
 use Rattle.volume_format.specs.DiskWords.{disk_words}
-use Rattle.nfscopy.proofs.Having.{any_suffice, both_suffice, none_suffices, one_suffices, served_suffices}
+use Rattle.nfscopy.proofs.Having.{any_suffice, both_suffice, dest_suffices, none_suffices, one_suffices, source_suffices}
 use Rattle.nfscopy.proofs.laws.disks_suffice.Goals as goal
 
 pub returns-clause-both : goal.returns-clause-both
@@ -11,8 +11,11 @@ returns-clause-one g c = one_suffices (disk_words g.D.Disk.Told g.D.Disk.faults 
 pub returns-clause-any : goal.returns-clause-any
 returns-clause-any g c = any_suffice (disk_words g.D.Disk.Told g.D.Disk.faults g.D.Disk.size g.D.Disk.timeline)
 
-pub returns-clause-served : goal.returns-clause-served
-returns-clause-served g c = served_suffices (disk_words g.D.Disk.Told g.D.Disk.faults g.D.Disk.size g.D.Disk.timeline)
+pub returns-clause-dest : goal.returns-clause-dest
+returns-clause-dest g c = dest_suffices (disk_words g.D.Disk.Told g.D.Disk.faults g.D.Disk.size g.D.Disk.timeline)
+
+pub returns-clause-source : goal.returns-clause-source
+returns-clause-source g c = source_suffices (disk_words g.D.Disk.Told g.D.Disk.faults g.D.Disk.size g.D.Disk.timeline)
 
 pub returns-clause-none : goal.returns-clause-none
 returns-clause-none g c = none_suffices (disk_words g.D.Disk.Told g.D.Disk.faults g.D.Disk.size g.D.Disk.timeline)

@@ -1,8 +1,8 @@
 use Rattle.std.proofs.Common.{◌≡◌, Some, map, refl, rules}
 use Rattle.std.specs.String.{string_bytes}
 use Rattle.nfscopy.specs.Command.{command_of}
-use Rattle.nfscopy.specs.declared.command.Command.TheVariants.{Copy, Format, Gen, ServeSource}
-use Rattle.nfscopy.proofs.Formatted.{ends_copy, ends_format, ends_serve}
+use Rattle.nfscopy.specs.declared.command.Command.TheVariants.{Copy, Format, Gen, ServeDest, ServeSource}
+use Rattle.nfscopy.proofs.Formatted.{ends_copy, ends_format, ends_serve, ends_serve_dest}
 use Rattle.nfscopy.proofs.Generating.{ends_gen}
 use Rattle.nfscopy.proofs.top.nfscopy.Goals as goal
 
@@ -23,7 +23,12 @@ returns-in-Format g c =
 pub returns-in-ServeSource : goal.returns-in-ServeSource
 returns-in-ServeSource g c =
     let asked : Some (ServeSource c.in-ServeSource.service) ≡ command_of (map string_bytes c.args.words.now) = search rules in
-    ends_serve _ _ _ _ c.in-ServeSource.service _ _ _ _ _ _ asked c.serve.ensures.ends refl refl refl c.serve.ensures.later
+    ends_serve _ _ _ _ c.in-ServeSource.service _ _ _ _ _ _ asked c.serve_as_source.ensures.ends refl refl refl c.serve_as_source.ensures.later
+
+pub returns-in-ServeDest : goal.returns-in-ServeDest
+returns-in-ServeDest g c =
+    let asked : Some (ServeDest c.in-ServeDest.order) ≡ command_of (map string_bytes c.args.words.now) = search rules in
+    ends_serve_dest _ _ _ _ c.in-ServeDest.order _ _ _ _ _ _ asked c.serve_as_dest.ensures.ends refl refl refl c.serve_as_dest.ensures.later
 
 pub returns-in-Copy : goal.returns-in-Copy
 returns-in-Copy g c =
