@@ -13,7 +13,7 @@ use Rattle.nfscopy.specs.ExitStatus.{copy_status, format_status, serve_status}
 use Rattle.nfscopy.specs.Outside.{Outside}
 use Rattle.nfscopy.specs.RunEnds.{RunWords}
 
-pub ends_format : {D K M W N : Type 0} (w : DiskWords D) (r : RunWords M) (s : ServiceWords D K N) (c : CopyWords M W N) (v : Numbers) (command : Option Command) (before now : Outside D)
+pub ends_format : {D K J M W N : Type 0} (w : DiskWords D) (r : RunWords M) (s : ServiceWords D K J N) (c : CopyWords M W N) (v : Numbers) (command : Option Command) (before now : Outside D)
     (net : N) (code : ℕ) → Some (Format v) ≡ command → EndsAs format_status (FormatEnds w v before now) code → now.dest ≡ before.dest
     → now.left ≡ before.left → now.reads ≡ before.reads → before.writes ≤ now.writes → Ends w r s c command before now net net code
 ends_format w r s c v command before now net code asked ends dest left reads writes =
@@ -25,7 +25,7 @@ ends_format w r s c v command before now net code asked ends dest left reads wri
       unserved = λ none. refl;
     })
 
-pub ends_serve : {D K M W N : Type 0} (w : DiskWords D) (r : RunWords M) (s : ServiceWords D K N) (c : CopyWords M W N) (service : Service) (command : Option Command)
+pub ends_serve : {D K J M W N : Type 0} (w : DiskWords D) (r : RunWords M) (s : ServiceWords D K J N) (c : CopyWords M W N) (service : Service) (command : Option Command)
     (before now : Outside D) (net net_now : N) (code : ℕ) → Some (ServeSource service) ≡ command
     → EndsAs serve_status (SourceEnds w s service before now net net_now) code → now.dest ≡ before.dest → now.left ≡ before.left
     → now.reads ≡ before.reads → before.writes ≤ now.writes → Ends w r s c command before now net net_now code
@@ -38,7 +38,7 @@ ends_serve w r s c service command before now net net_now code asked ends dest l
       unserved = λ none. absurd cc;
     })
 
-pub ends_serve_dest : {D K M W N : Type 0} (w : DiskWords D) (r : RunWords M) (s : ServiceWords D K N) (c : CopyWords M W N) (order : DestOrder) (command : Option Command)
+pub ends_serve_dest : {D K J M W N : Type 0} (w : DiskWords D) (r : RunWords M) (s : ServiceWords D K J N) (c : CopyWords M W N) (order : DestOrder) (command : Option Command)
     (before now : Outside D) (net net_now : N) (code : ℕ) → Some (ServeDest order) ≡ command
     → EndsAs serve_status (ServedDestEnds w s order before now net net_now) code → now.source ≡ before.source → now.left ≡ before.left
     → now.reads ≡ before.reads → before.writes ≤ now.writes → Ends w r s c command before now net net_now code
@@ -51,7 +51,7 @@ ends_serve_dest w r s c order command before now net net_now code asked ends sou
       unserved = λ none. absurd cc;
     })
 
-pub ends_copy : {D K M W N : Type 0} (w : DiskWords D) (r : RunWords M) (s : ServiceWords D K N) (c : CopyWords M W N) (order : CopyOrder) (command : Option Command)
+pub ends_copy : {D K J M W N : Type 0} (w : DiskWords D) (r : RunWords M) (s : ServiceWords D K J N) (c : CopyWords M W N) (order : CopyOrder) (command : Option Command)
     (before now : Outside D) (net net_now : N) (code : ℕ) → Some (Copy order) ≡ command
     → EndsAs copy_status (LinkedEnds c order before now net net_now) code → now.source ≡ before.source → now.dest ≡ before.dest
     → now.left ≡ before.left → now.reads ≡ before.reads → before.writes ≤ now.writes → Ends w r s c command before now net net_now code

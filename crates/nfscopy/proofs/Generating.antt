@@ -306,7 +306,7 @@ module _ {D M : Type 0} (w : DiskWords D) (r : RunWords M) (mebibytes : ℕ) (be
       result s.large s.ran.is s.ran.cause s.ran.tally s.is) put
 
 -- what the top call says for words that ask for it
-pub ends_gen : {D K M W N : Type 0} (w : DiskWords D) (r : RunWords M) (s : ServiceWords D K N) (c : CopyWords M W N) (mebibytes : ℕ) (command : Option Command) (before now : Outside D)
+pub ends_gen : {D K J M W N : Type 0} (w : DiskWords D) (r : RunWords M) (s : ServiceWords D K J N) (c : CopyWords M W N) (mebibytes : ℕ) (command : Option Command) (before now : Outside D)
     (net : N) (code : ℕ) → Some (Gen mebibytes) ≡ command → EndsAs gen_status (GenEnds w r mebibytes before now) code → RunsKeep r (gen_events mebibytes)
     → now.left ≡ before.left → now.reads ≡ before.reads → before.writes ≤ now.writes → Ends w r s c command before now net net code
 ends_gen w r s c mebibytes command before now net code asked ends kept left reads writes =

@@ -15,10 +15,12 @@ use Rattle.linked_copy.specs.declared.ends.CopyEnd.{CopyEnd}
 use Rattle.nfs_base.specs.declared.copy_spec.CopySpec.{CopySpec}
 use Rattle.outcome.specs.Causes.{Rose}
 use Rattle.server_volume.specs.Store.{Seat}
-use Rattle.dest_server.specs.Desk.{dest_answers}
+use Rattle.dest_core.specs.declared.destination.Destination.{Destination}
+use Rattle.dest_jobs.specs.declared.carried.Carried.{Carried}
+use Rattle.dest_server.specs.Desk as dests
 use Rattle.dest_server.specs.Serving.{DestEnds}
 use Rattle.dest_server.specs.declared.serving.DestService.{DestService}
-use Rattle.link_server.specs.Answering.{Caller}
+use Rattle.session_server.specs.declared.host.Host.{Host}
 use Rattle.single_copy.specs.Turns.{Conduct, conduct_of}
 use Rattle.source_server.specs.Machine.{source_words, words_of}
 use Rattle.source_server.specs.Serving.{NetWords, ServeEnds, ServerWords}
@@ -42,7 +44,7 @@ use Rattle.nfscopy.specs.GenEnds.{GenEnds, gen_events}
 use Rattle.nfscopy.specs.Input.{asked}
 use Rattle.nfscopy.specs.Notice.{usage_text}
 use Rattle.volume_format.specs.DiskWords.{DiskWords}
-use Rattle.wire_run.specs.Setting.{dest_place, source_peers, source_place, user}
+use Rattle.wire_run.specs.Setting.{dest_name, dest_place, dest_source, source_peers, source_place, user}
 use Rattle.nfscopy.specs.Outside.{Outside, SameDisks, SameInput}
 use Rattle.nfscopy.specs.RunEnds.{KeepsIf, RunEnds, RunWords, RunsKeep}
 use Rattle.nfscopy.specs.ShowEnds.{ShowEnds}
@@ -62,20 +64,22 @@ pub record EndsAs {E : Type 0} (status_of : E → ExitStatus) (Says : E → Type
   pub is : code ≡ code_of (status_of end)
   pub says : Says end
 
--- How servers speak of what they serve: their net's words, those of the source as a machine, and what each connection of a destination gets for a
--- record.
-pub record ServiceWords (D K N : Type 0) : Type 1 where
+-- How servers speak of what they serve: their net's words, and those of the source and of the destination as machines.
+pub record ServiceWords (D K J N : Type 0) : Type 1 where
   pub net : NetWords N
-  pub server : ServerWords D K
-  pub dest : Caller → List ℕ → List ℕ → Caller → Type 0
+  pub source : ServerWords D K
+  pub dest : ServerWords D J
 
-abbrev pub service_words : {D K N : Type 0} → NetWords N → ServerWords D K → (Caller → List ℕ → List ℕ → Caller → Type 0) → ServiceWords D K N
-service_words net server dest = record { net = net; server = server; dest = dest }
+abbrev pub service_words : {D K J N : Type 0} → NetWords N → ServerWords D K → ServerWords D J → ServiceWords D K J N
+service_words net source dest = record { net = net; source = source; dest = dest }
 
--- a destination's answers by this mechanism
+-- the destination by this mechanism, and by what its disk, its mechanism and its draws tell of themselves, with the source, the principal and
+-- the location that the destination of every schedule has
 abbrev pub dest_by : {D M W : Type 0} → DiskWords D → M → (Opened D → Seat) → Mic → (List ℕ → ℕ → List ℕ → List ℕ)
-    → (M → List ℕ → List ℕ → Option Accepted) → (W → Drawn → W → Type 0) → Caller → List ℕ → List ℕ → Caller → Type 0
-dest_by d mech seat mic derived accepted gives = dest_answers (words_of d.told d.size seat mic derived accepted gives)
+    → (M → List ℕ → List ℕ → Option (List ℕ)) → (M → List ℕ → List ℕ → Option Accepted) → (M → List ℕ → List ℕ → List ℕ → Option (List ℕ))
+    → (W → Drawn → W → Type 0) → ServerWords D (Host D (Destination M) Carried)
+dest_by d mech seat mic derived started accepted finished gives =
+    dests.dest_words d (dests.words_of d.told d.size seat mic derived started accepted finished gives) mech dest_source dest_name dest_place
 
 -- the source by this mechanism, clock and draws, and by what its disk, its mechanism and its draws tell of themselves, with the location and
 -- the one peer that the source of every schedule has
@@ -85,16 +89,16 @@ source_by d mech clock draws seat mic derived accepted gives =
     source_words d (words_of d.told d.size seat mic derived accepted gives) mech clock draws source_peers source_place
 
 -- a source is served, from the disk in the source's place
-abbrev pub SourceEnds : {D K N : Type 0} → DiskWords D → ServiceWords D K N → Service → Outside D → Outside D → N → N → ServeEnd → Type 0
+abbrev pub SourceEnds : {D K J N : Type 0} → DiskWords D → ServiceWords D K J N → Service → Outside D → Outside D → N → N → ServeEnd → Type 0
 SourceEnds w s service before now net net_now end =
-    ServeEnds w s.net s.server service.conns before.taken now.taken before.writes now.writes net net_now before.source now.source end
+    ServeEnds w s.net s.source service.conns before.taken now.taken before.writes now.writes net net_now before.source now.source end
 
 -- what a destination's server is asked to do
 abbrev pub dest_service_of : DestOrder → DestService
 dest_service_of order = record { conns = order.service.conns; workers = order.workers; port = order.source_port }
 
 -- a destination is served, from the disk in the destination's place
-abbrev pub ServedDestEnds : {D K N : Type 0} → DiskWords D → ServiceWords D K N → DestOrder → Outside D → Outside D → N → N → ServeEnd → Type 0
+abbrev pub ServedDestEnds : {D K J N : Type 0} → DiskWords D → ServiceWords D K J N → DestOrder → Outside D → Outside D → N → N → ServeEnd → Type 0
 ServedDestEnds w s order before now net net_now end =
     DestEnds w s.net s.dest (dest_service_of order) before.taken now.taken before.writes now.writes net net_now before.dest now.dest end
 
@@ -119,7 +123,7 @@ LinkedEnds c order before now net net_now end =
     CopyEnds (c.conduct order.copy) c.setting c.net c.draws before.taken now.taken before.writes now.writes net net_now end
 
 -- how the program ends for its words, from what was outside before to what is outside then
-abbrev pub EndsBy : {D K M W N : Type 0} → DiskWords D → RunWords M → ServiceWords D K N → CopyWords M W N → Option Command → Outside D → Outside D → N → N → ℕ → Type 0
+abbrev pub EndsBy : {D K J M W N : Type 0} → DiskWords D → RunWords M → ServiceWords D K J N → CopyWords M W N → Option Command → Outside D → Outside D → N → N → ℕ → Type 0
 EndsBy w r s c None before now net net_now code =
     EndsAs usage_status (UsageEnds before.taken now.taken before.writes now.writes) code × SameDisks before now
 EndsBy w r s c (Some Run) before now net net_now code = EndsAs run_status (RunEnds w r before now) code × KeepsIf r (option_map asked before.left)
@@ -136,7 +140,7 @@ EndsBy w r s c (Some (Copy order)) before now net net_now code =
     EndsAs copy_status (LinkedEnds c order before now net net_now) code × SameDisks before now × SameInput before now
 
 -- The same; the counts of faults never fell, and a command that neither serves connections nor dials leaves the net alone.
-pub record Ends {D K M W N : Type 0} (w : DiskWords D) (r : RunWords M) (s : ServiceWords D K N) (c : CopyWords M W N) (command : Option Command)
+pub record Ends {D K J M W N : Type 0} (w : DiskWords D) (r : RunWords M) (s : ServiceWords D K J N) (c : CopyWords M W N) (command : Option Command)
     (before now : Outside D) (net net_now : N) (code : ℕ) : Type 0 where
   pub ends : EndsBy w r s c command before now net net_now code
   pub reads : before.reads ≤ now.reads

@@ -9,7 +9,7 @@ ghost use Rattle.server_volume.specs.Store.{seat_of};
 ghost use Rattle.source_core.specs.Location.{IsShort};
 ghost use Rattle.source_server.specs.Serving.{net_words, ServeEnds};
 ghost use Rattle.volume_format.specs.DiskWords.{disk_words};
-ghost use Rattle.wire_run.specs.Setting.{source_peers, source_place};
+ghost use Rattle.wire_run.specs.Setting.{dest_name, dest_place, dest_source, source_peers, source_place};
 
 use crate::command::DestOrder;
 use crate::ends::serve_code;
@@ -88,7 +88,7 @@ pub(crate) fn serve_as_dest<
     requires there { is_some disk.old ≡ true }
     requires volume { IfSome disk.old (MayOpen (disk_words D.Told D.faults D.size D.timeline)) }
     ensures ends { EndsAs serve_status (DestEnds (disk_words D.Told D.faults D.size D.timeline) (net_words N.Told N.coming N.faults (books_of N.hung N.up N.accepted))
-        (dest_by (disk_words D.Told D.faults D.size D.timeline) mech (seat_of D.size D.fuse D.timeline D.faults) M.mic_of M.derived M.accepted W.gives) (dest_service_of order)
+        (dest_by (disk_words D.Told D.faults D.size D.timeline) mech (seat_of D.size D.fuse D.timeline D.faults) M.mic_of M.derived M.started M.accepted M.finished W.gives) (dest_service_of order)
         (K.takes output.old).taken (K.takes output.new).taken (K.takes output.old).faults (K.takes output.new).faults net.old net.new disk.old disk.new) result }
     ensures later { (K.takes output.old).faults ≤ (K.takes output.new).faults }
 {
@@ -123,7 +123,11 @@ fn service_of(order: DestOrder) -> DestService
 }
 
 /// Whom the destination knows: the source that every schedule has, too.
-fn partner(alloc: Global) -> Mem<Partner> {
+fn partner(alloc: Global) -> Mem<Partner>
+    ensures source { IfOk result (λ partner. partner.source ≡ dest_source) }
+    ensures principal { IfOk result (λ partner. partner.principal ≡ dest_name) }
+    ensures own { IfOk result (λ partner. partner.own ≡ dest_place) }
+{
     Ok(Partner {
         source: dest_source(alloc)?,
         principal: dest_name(alloc)?,

@@ -64,7 +64,7 @@ pub fn nfscopy<
     ensures { Ends (disk_words D.Told D.faults D.size D.timeline) (run_words mech.entry M.mic_of M.derived (λ m. M.started m.now) (λ m. M.accepted m.now) (λ m. M.finished m.now))
         (service_words (net_words N.Told N.coming N.faults (books_of N.hung N.up N.accepted))
         (source_by (disk_words D.Told D.faults D.size D.timeline) mech.entry clock draws (seat_of D.size D.fuse D.timeline D.faults) M.mic_of M.derived (λ m. M.accepted m.now) W.gives)
-        (dest_by (disk_words D.Told D.faults D.size D.timeline) mech.entry (seat_of D.size D.fuse D.timeline D.faults) M.mic_of M.derived (λ m. M.accepted m.now) W.gives))
+        (dest_by (disk_words D.Told D.faults D.size D.timeline) mech.entry (seat_of D.size D.fuse D.timeline D.faults) M.mic_of M.derived (λ m. M.started m.now) (λ m. M.accepted m.now) (λ m. M.finished m.now) W.gives))
         (copy_words (ways_of M.mic_of M.derived (λ m. M.finished m.now) (λ m. M.started m.now) (λ m. M.accepted m.now)) W.gives W.faults mech.entry draws
         (nets.net_words N.Told (nets.books_of N.coming N.accepted N.up N.hung) N.faults))
         (command_of (map string_bytes words.now))

@@ -1,0 +1,206 @@
+#!/usr/bin/env python3
+"""Copies between two servers on ports of this machine, `serve-source` and `serve-dest`, over volumes on real files, with the command
+`copy`.
+
+A file is written at the source by a client of this script's own (caller.py), and copied with 1, 2 and 4 workers: the seconds, the
+bytes a second and the ratio to hashing the bytes twice with SHA-256 are printed, since each byte is hashed by the source and by the
+destination; beside that `rsync` over loopback, where it is installed. The bytes are read back and compared. Then the destination is
+killed in the middle of copies, again and again, and opened anew: where a copy had been reported as stable, its bytes are there, and
+else each byte is the old one or the new one. What isn't as it should be ends the script.
+
+    bench/copy.py [MEBIBYTES [KILLS]]
+"""
+
+import hashlib
+import os
+import random
+import shutil
+import signal
+import subprocess
+import sys
+import tempfile
+import threading
+import time
+
+from caller import Caller
+from programs import NFSCOPY
+
+KEY = bytes([1] * 32)
+SOURCE_PORT, DEST_PORT, RSYNC_PORT = 24_051, 24_052, 24_053
+MEBIBYTES = int(sys.argv[1]) if len(sys.argv) > 1 else 64
+KILLS = int(sys.argv[2]) if len(sys.argv) > 2 else 100
+PIECE = 65_536
+PART = 16 * PIECE
+
+
+def check(holds, what):
+    if not holds:
+        sys.exit(what)
+
+
+def words_of(*words):
+    return [NFSCOPY, *map(str, words)]
+
+
+def run(folder, *words):
+    return subprocess.run(words_of(*words), cwd=folder, stdin=subprocess.DEVNULL, capture_output=True, check=False)
+
+
+def server(folder, *words):
+    """A server, once it listens. Its port is the third word."""
+    child = subprocess.Popen(words_of(*words), cwd=folder, stdin=subprocess.DEVNULL, stdout=subprocess.PIPE,
+                             stderr=subprocess.PIPE, start_new_session=True)
+    deadline = time.monotonic() + 60
+    while not listens(words[2]):
+        check(child.poll() is None and time.monotonic() < deadline, f"{words[0]} doesn't listen: {child.poll()}")
+        time.sleep(0.01)
+    return child
+
+
+def listens(port):
+    """Whether something listens on a port of this machine, by the system's table of sockets: a connection would be counted."""
+    with open("/proc/net/tcp", encoding="ascii") as table:
+        rows = [line.split() for line in table][1:]
+    return any(row[1].endswith(f":{port:04X}") and row[3] == "0A" for row in rows)
+
+
+def kill(child):
+    if child.poll() is None:
+        os.killpg(child.pid, signal.SIGKILL)
+    child.communicate()
+
+
+def joined(port, owner):
+    caller = Caller(port, "user", KEY)
+    caller.join(owner)
+    return caller
+
+
+def written(port, owner, offset, data):
+    """Writes and commits bytes to file 1 of a server."""
+    caller = joined(port, owner)
+    opened = caller.open(1)
+    for at in range(0, len(data), PIECE):
+        caller.write(opened, offset + at, data[at : at + PIECE])
+    caller.commit(opened)
+    caller.close(opened)
+    caller.leave()
+
+
+def read_back(folder, volume, offset, count):
+    """The bytes of file 1 of a volume, which is served for it. Past the file's end they are 0."""
+    child = server(folder, "serve-source", volume, DEST_PORT, 1)
+    caller = joined(DEST_PORT, b"reader")
+    opened = caller.open(1)
+    parts = (caller.read(opened, at, PIECE).ljust(PIECE, b"\0") for at in range(offset, offset + count, PIECE))
+    data = b"".join(parts)[:count]
+    caller.close(opened)
+    caller.leave()
+    check(child.wait(timeout=60) == 0, f"serving {volume} ended with {child.returncode}")
+    child.communicate()
+    return data
+
+
+def copied(folder, offset, count, order="n"):
+    """What `copy` printed, its status, and the seconds it took."""
+    begun = time.monotonic()
+    done = run(folder, "copy", SOURCE_PORT, DEST_PORT, 1, offset, 1, offset, count, order)
+    return done.stdout.decode().split("\n")[:-1], done.returncode, time.monotonic() - begun
+
+
+def seconds_by_rsync(folder, data):
+    """Seconds that rsync takes over loopback, or None where it isn't installed."""
+    if not shutil.which("rsync"):
+        return None
+    os.mkdir(os.path.join(folder, "from"))
+    os.mkdir(os.path.join(folder, "to"))
+    with open(os.path.join(folder, "from", "file"), "wb") as file:
+        file.write(data)
+    conf = os.path.join(folder, "rsyncd.conf")
+    with open(conf, "w", encoding="utf-8") as file:
+        file.write(f"use chroot = no\n[to]\npath = {folder}/to\nread only = no\nuid = {os.getuid()}\ngid = {os.getgid()}\n")
+    daemon = subprocess.Popen(["rsync", "--daemon", "--no-detach", "--address=127.0.0.1", f"--port={RSYNC_PORT}", f"--config={conf}"],
+                              stdin=subprocess.DEVNULL, stdout=subprocess.DEVNULL, stderr=subprocess.DEVNULL)
+    try:
+        while not listens(RSYNC_PORT):
+            time.sleep(0.01)
+        begun = time.monotonic()
+        subprocess.run(["rsync", "--whole-file", "--fsync", f"{folder}/from/file", f"rsync://127.0.0.1:{RSYNC_PORT}/to/file"], check=True,
+                       stdin=subprocess.DEVNULL)
+        return time.monotonic() - begun
+    finally:
+        daemon.terminate()
+        daemon.wait()
+
+
+def tell(name, seconds, size, hashing):
+    print(f"{name:>10} {seconds:8.2f} s {size / seconds:15,.0f} B/s {seconds / hashing:7.1f} times hashing twice")
+
+
+def timed_copies(folder, data):
+    size = len(data)
+    begun = time.monotonic()
+    for _ in range(2):
+        hashlib.sha256(data).digest()
+    hashing = time.monotonic() - begun
+    tell("hashing", hashing, size, hashing)
+    seconds = seconds_by_rsync(folder, data)
+    if seconds is None:
+        print("     rsync isn't installed")
+    else:
+        tell("rsync", seconds, size, hashing)
+    for workers in (1, 2, 4):
+        check(run(folder, "format", "dest", 1, MEBIBYTES * 256, 9).returncode == 0, "format")
+        source = server(folder, "serve-source", "source", SOURCE_PORT, workers + 1)
+        dest = server(folder, "serve-dest", "dest", DEST_PORT, 1, workers, SOURCE_PORT)
+        lines, status, seconds = copied(folder, 0, size)
+        check((lines, status) == (["stable", "exact"], 0), f"copy with {workers} workers: {lines} {status}")
+        check(dest.wait(timeout=60) == 0 and source.wait(timeout=60) == 0, f"a server ended with {dest.returncode}, {source.returncode}")
+        check(read_back(folder, "dest", 0, size) == data, f"other bytes than the source's, with {workers} workers")
+        tell(f"{workers} worker{'s' * (workers > 1)}", seconds, size, hashing)
+
+
+def killed(folder, size):
+    """The destination is killed in the middle of copies."""
+    dice = random.Random(2)
+    stable = 0
+    for round_ in range(KILLS):
+        offset = PART * dice.randrange(size // PART)
+        old = read_back(folder, "dest", offset, PART)
+        new = dice.randbytes(PART)
+        source = server(folder, "serve-source", "source", SOURCE_PORT, 1_000)
+        written(SOURCE_PORT, b"writer", offset, new)
+        dest = server(folder, "serve-dest", "dest", DEST_PORT, 1_000, dice.choice((1, 2, 4)), SOURCE_PORT)
+        timer = threading.Timer(dice.uniform(0.01, 0.5), lambda: kill(dest))
+        timer.start()
+        lines, status, _ = copied(folder, offset, PART)
+        timer.cancel()
+        timer.join()
+        kill(dest)
+        kill(source)
+        found = read_back(folder, "dest", offset, PART)
+        if "stable" in lines:
+            stable += 1
+            check(found == new, f"round {round_}: a copy was reported stable, and its bytes aren't there")
+        else:
+            check(status in (8, 9), f"round {round_}: {lines} {status}")
+            check(all(b in (o, n) for b, o, n in zip(found, old, new)), f"round {round_}: a byte that is neither the old one nor the new one")
+    print(f"killed in the middle of {KILLS} copies: {stable} had been reported stable, and their bytes were there")
+
+
+def main():
+    size = MEBIBYTES << 20
+    data = random.Random(1).randbytes(size)
+    with tempfile.TemporaryDirectory() as folder:
+        with open(os.path.join(folder, "realm.txt"), "w", encoding="utf-8") as realm:
+            realm.write(f"user {KEY.hex()}\ndest {bytes([2] * 32).hex()}\n")
+        check(run(folder, "format", "source", 1, MEBIBYTES * 256, 7).returncode == 0, "format")
+        source = server(folder, "serve-source", "source", SOURCE_PORT, 1)
+        written(SOURCE_PORT, b"writer", 0, data)
+        check(source.wait(timeout=60) == 0, "the source didn't end")
+        timed_copies(folder, data)
+        killed(folder, size)
+
+
+if __name__ == "__main__":
+    main()
