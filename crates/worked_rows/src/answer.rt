@@ -189,8 +189,7 @@ fn serve<R: Threads + Wait + Sync, D: Disk + Drop + Send>(
     words: &[String],
     outside: &mut Outside,
     disks: Disks<D>,
-) -> Mem<(u8, Disks<D>)>
-{
+) -> Mem<(u8, Disks<D>)> {
     let Disks { source, dest } = disks;
     let (Some(source), Some(dest)) = (made(source)?, made(dest)?) else {
         return Ok((NO_VOLUME, no_disks()));
