@@ -1,0 +1,4 @@
+pub mod Along
+pub mod Leavings
+pub mod Pendings
+pub mod Sides

@@ -1,0 +1,10 @@
+use Rattle.volume_stops.proofs.Sides.{allowed, boot, crashes, tag}
+use Rattle.volume_stops.proofs.laws.one_stop_is_one_crash.Goals as goal
+
+pub returns : goal.returns
+returns c = record {
+  boot = boot;
+  tag = tag;
+  allowed = allowed;
+  crashes = crashes c.volume_effects.ensures.files;
+}
