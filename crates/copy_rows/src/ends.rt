@@ -94,14 +94,44 @@ struct Room {
 
 /// What the ends say over a copy and the client's leave.
 pub fn recorded(alloc: Global, case: Case) -> Result<Talk, Wrong> {
-    let mut room = Room {
+    let mut room = new_room(alloc, case.known)?;
+    room.copy(case.copy)?;
+    Ok(room.talk)
+}
+
+/// The three ends before anything was said. Whether the source knows the destination.
+fn new_room(alloc: Global, known: bool) -> Result<Room, Wrong> {
+    let source = new_source(alloc, known)?;
+    let dest = new_dest(alloc)?;
+    with_client(alloc, source, dest)
+}
+
+fn new_source(alloc: Global, known: bool) -> Result<SourceCore<BlindDisk, Realm>, Wrong> {
+    let disk = filled(alloc, formatted(alloc, 1)?)?;
+    open_source(alloc, disk, known)
+}
+
+fn new_dest(alloc: Global) -> Result<DestCore<BlindDisk, Realm>, Wrong> {
+    let disk = formatted(alloc, 2)?;
+    open_dest(alloc, disk)
+}
+
+/// Both servers, and a client of them.
+fn with_client(
+    alloc: Global,
+    source: SourceCore<BlindDisk, Realm>,
+    dest: DestCore<BlindDisk, Realm>,
+) -> Result<Room, Wrong> {
+    let draws = client_draws(alloc, 0)?;
+    let client = client(alloc)?;
+    Ok(Room {
         alloc,
-        source: open_source(alloc, filled(alloc, formatted(alloc, 1)?)?, case.known)?,
-        dest: open_dest(alloc, formatted(alloc, 2)?)?,
-        client: Leaving::new(client(alloc)?),
+        source,
+        dest,
+        client: Leaving::new(client),
         source_draws: CountDraws::new(),
         dest_draws: CountDraws::new(),
-        draws: client_draws(alloc, 0)?,
+        draws,
         from_source: VecDeque::new(alloc),
         from_dest: VecDeque::new(alloc),
         talk: Talk {
@@ -109,9 +139,7 @@ pub fn recorded(alloc: Global, case: Case) -> Result<Talk, Wrong> {
             dest: nothing_said(alloc),
         },
         has_left: false,
-    };
-    room.copy(case.copy)?;
-    Ok(room.talk)
+    })
 }
 
 /// What a client draws: zeros. The draw of this number fails, where it isn't 0.
