@@ -19,7 +19,7 @@ use telling::tell;
 use two_ends::Wrong;
 
 /// So many turns each worker has: more than it needs.
-const TURNS: u32 = 400;
+const TURNS: u32 = 100_000_000;
 
 /// What a line is answered by.
 fn answered<R: Threads + Wait + Sync>(rt: &R, alloc: Global, call: &str) -> Mem<String> {
