@@ -4,7 +4,6 @@ use Rattle.std.proofs.lemmas.Bool.{cases_lt}
 use Rattle.std.specs.Prelude.{Option, Some, None}
 use Rattle.rpc_msg.specs.declared.pump.Pumped.{Pumped}
 use Rattle.net_links.specs.Links.{Standing, HangsUp}
-use Rattle.outcome.specs.Causes.{Rose}
 use Rattle.link_server.specs.Answering.{Caller}
 use Rattle.link_server.specs.Hanging.{Sums, no_sums, starved_by, sums_after}
 use Rattle.link_server.specs.Keeping.{Books, StopIs}

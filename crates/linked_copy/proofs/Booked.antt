@@ -1,7 +1,7 @@
 -- What dials and hanging up come to for a net's books.
-use Rattle.std.proofs.Common.{◌≡◌, ◌∙◌, ℕ, ◌+◌, List, [], ◌∷◌, ◌++◌, length, ap, arith}
+use Rattle.std.proofs.Common.{◌≡◌, ◌∙◌, ℕ, List, [], ◌∷◌, ◌++◌, length, ap, arith}
 use Rattle.net_links.specs.Links.{Standing, IsNew}
-use Rattle.linked_copy.specs.Nets.{Books, Dials, HangsUp, Returned, Returns, Unpaired}
+use Rattle.linked_copy.specs.Nets.{Books, Dials, HangsUp, Returns, Unpaired}
 
 -- as many links were hung up as had been dialed
 pub dialed_returns : (count : ℕ) (links : List Standing) (before middle now : Books) → Dials count before middle → HangsUp links middle now

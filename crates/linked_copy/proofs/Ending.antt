@@ -12,7 +12,6 @@ use Rattle.linked_copy.specs.Lines.{end_of, lines_of}
 use Rattle.linked_copy.specs.Nets.{Books, Dials, HungUp, NetWords, Returned}
 use Rattle.linked_copy.specs.Telling.{Tells}
 use Rattle.linked_copy.specs.declared.ends.CopyEnd.{CopyEnd}
-use Rattle.linked_copy.specs.declared.ends.CopyEnd.TheVariants as ends
 use Rattle.linked_copy.proofs.Booked.{dialed_returns}
 
 -- both links were hung up that were dialed

@@ -5,8 +5,6 @@ use Rattle.std.specs.Prelude.{IfOk, OnErr, Result, Ok, Err}
 use Rattle.client_copies.specs.declared.copy.Report.{Report}
 use Rattle.client_leaving.specs.declared.leaving.Leaving.{Leaving}
 use Rattle.client_steps.specs.declared.setting.Setting.{Setting}
-use Rattle.nfs_base.specs.declared.side.Side.TheVariants.{Source, Dest}
-use Rattle.nfs_base.specs.declared.status.Status.{Status}
 use Rattle.net_links.specs.Links.{Standing, IsNew}
 use Rattle.outcome.specs.Causes.{Rose}
 use Rattle.rpc_msg.specs.Underway.{Feed, IsFresh}
@@ -15,14 +13,14 @@ use Rattle.single_copy.specs.Answers.{answer_of, copied_by, stopped}
 use Rattle.single_copy.specs.Copying.{Copies, Starves}
 use Rattle.single_copy.specs.LastReports.{is_stable}
 use Rattle.single_copy.specs.Links.{Carries, is_faulty}
-use Rattle.single_copy.specs.Turns.{Conduct, Parties, heard, told}
+use Rattle.single_copy.specs.Turns.{Conduct, Parties}
 use Rattle.single_copy.specs.declared.answers.Copied.{Copied}
 use Rattle.single_copy.specs.declared.answers.Copied.TheVariants.{Stable, Failed, LinkFault, DrawFault}
 use Rattle.single_copy.specs.declared.answers.LastReport.{LastReport}
 use Rattle.single_copy.specs.declared.answers.LastReport.TheVariants as lasts
 use Rattle.single_copy.specs.declared.phases.Phase.{Phase}
 use Rattle.single_copy.specs.declared.phases.Phase.TheVariants.{Fresh, Asking, Told, Parted, Undrawn}
-use Rattle.linked_copy.specs.Copying.{Begins, HasCause, HasFailed, IsDialed, Made, Starved, leaving_of, standing_terms}
+use Rattle.linked_copy.specs.Copying.{Begins, HasCause, HasFailed, IsDialed, Made, Starved, standing_terms}
 
 -- ---- a link's fault is answered only where a call of one failed
 

@@ -1,5 +1,5 @@
 -- A copy over two links that were dialed for it: what it begins with, what was done, and what became of the links.
-use Rattle.std.specs.Prelude.{◌≡◌, ℕ, ◌⊎◌, ⊤, List, [], ◌∷◌}
+use Rattle.std.specs.Prelude.{◌≡◌, ◌⊎◌, ⊤, List, [], ◌∷◌}
 use Rattle.outcome.specs.Causes.{Rose}
 use Rattle.rpc_msg.specs.Underway.{IsFresh}
 use Rattle.rpc_msg.specs.Watching.{Watch, no_signs}

@@ -29,7 +29,7 @@ use Rattle.wire_schedule.specs.declared.directive.Entry.{Entry}
 use Rattle.wire_schedule.specs.declared.event.Event.TheVariants as kinds
 use Rattle.wire_tally.specs.Tally.{no_tally, tallied}
 use Rattle.nfscopy.specs.Ends.{CopyWords, Ends, EndsAs, ServiceWords}
-use Rattle.nfscopy.specs.ExitStatus.{code_of, gen_status}
+use Rattle.nfscopy.specs.ExitStatus.{gen_status}
 use Rattle.nfscopy.specs.GenEnds.{Counts, GenCarriesOut, GenEndIs, GenEnds, IsUnread, MayDiffer, Owes, gen_events}
 use Rattle.volume_format.specs.DiskWords.{DiskWords}
 use Rattle.nfscopy.specs.Outside.{DiskRose, Outside, disk_at}

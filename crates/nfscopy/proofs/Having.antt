@@ -1,5 +1,5 @@
 -- Which disks suffice for a command.
-use Rattle.std.proofs.Common.{◌≡◌, true, Some, ap, ◌∙◌, sym}
+use Rattle.std.proofs.Common.{◌≡◌, true, Some}
 use Rattle.std.specs.Prelude.{Option, None, IfSome, is_some}
 use Rattle.volume_format.specs.DiskWords.{DiskWords}
 use Rattle.nfscopy.specs.Command.{is_copy, is_format, service_in}

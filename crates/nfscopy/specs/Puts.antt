@@ -1,8 +1,5 @@
 -- What putting the last line of a run answers, or a summary. Own definitions.
-use Rattle.std.specs.Prelude.{◌≡◌, ◌⊎◌, ℕ, Option, List}
-use Rattle.std.specs.Io.KnownBytes.{Keeps, Appends}
-use Rattle.outcome.specs.Causes.{Rose}
-use Rattle.streams.specs.Sink.{AppendsFront}
+use Rattle.std.specs.Prelude.{◌⊎◌, ℕ, Option, List}
 use Rattle.wire_run.specs.declared.fresh.Unmade.{Unmade}
 use Rattle.wire_run.specs.declared.fresh.Unmade.TheVariants as unmade
 use Rattle.wire_run.specs.declared.run.Ran.{Ran}

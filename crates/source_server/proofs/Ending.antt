@@ -1,7 +1,7 @@
 -- How serving ends, by what was done.
-use Rattle.std.proofs.Common.{◌≡◌, ◌∙◌, ◌⊎◌, ◌==◌, ℕ, ◌≤◌, Bool, true, false, List, refl, subst, sym, inl, inr, Some, Ok, Err}
+use Rattle.std.proofs.Common.{◌≡◌, ◌⊎◌, ◌==◌, ℕ, ◌≤◌, Bool, true, false, List, refl, subst, sym, inl, inr, Some, Ok, Err}
 use Rattle.std.specs.Prelude.{Option, Result, IfOk, MatchResult}
-use Rattle.std.specs.Io.KnownBytes.{Keeps, Appends}
+use Rattle.std.specs.Io.KnownBytes.{Appends}
 use Rattle.std.proofs.KnownBytes.{Keeps-refl}
 use Rattle.block_file.specs.Opened.{CanBeOpened, RefusedFor}
 use Rattle.block_file.specs.Stored.{flaw_of}
@@ -11,12 +11,11 @@ use Rattle.disk_model.specs.Elapsed.{contents, present}
 use Rattle.link_server.specs.declared.tally.Stop.{Stop}
 use Rattle.link_server.specs.declared.tally.Stop.TheVariants as stops
 use Rattle.link_server.specs.declared.tally.Tally.{Tally}
-use Rattle.outcome.specs.Causes.{Rose}
 use Rattle.streams.specs.Sink.{AppendsFront}
 use Rattle.volume_format.specs.DiskWords.{DiskWords}
 use Rattle.volume_format.specs.Lines.{not_volume_text}
 use Rattle.volume_format.specs.Puts.{AllPut, FrontPut, NonePut}
-use Rattle.source_server.specs.Serving.{NetWords, ServerWords, EndIs, HandsBack, Refused, ServeEnds, Served, ServesNet, end_by, end_if}
+use Rattle.source_server.specs.Serving.{NetWords, ServerWords, EndIs, Refused, ServeEnds, Served, ServesNet, end_by, end_if}
 use Rattle.source_server.specs.declared.serving.ServeEnd.{ServeEnd}
 use Rattle.source_server.specs.declared.serving.ServeEnd.TheVariants as ends
 

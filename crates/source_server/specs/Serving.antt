@@ -2,7 +2,7 @@
 use Rattle.std.specs.Prelude.{◌≡◌, ◌==◌, ◌⊎◌, ℕ, ◌≤◌, Bool, true, false, Option, None, Some, List}
 use Rattle.std.specs.Io.KnownBytes.{Keeps, Appends}
 use Rattle.block_file.specs.Opened.{CanBeOpened}
-use Rattle.block_file.specs.Stored.{Place, flaw_of}
+use Rattle.block_file.specs.Stored.{flaw_of}
 use Rattle.disk_model.specs.Disk.{Image, MayLeave}
 use Rattle.disk_model.specs.Elapsed.{contents, present}
 use Rattle.link_server.specs.Answering.{Caller}

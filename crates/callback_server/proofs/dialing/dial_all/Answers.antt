@@ -1,4 +1,4 @@
-use Rattle.std.proofs.Common.{◌≡◌, ◌+◌, ◌∙◌, ℕ, [], ◌∷◌, length, ap, arith, length-append}
+use Rattle.std.proofs.Common.{◌≡◌, ◌+◌, ◌∙◌, [], ◌∷◌, length, ap, arith, length-append}
 use Rattle.net_links.specs.Links.{Standing}
 use Rattle.rpc_msg.specs.Watching.{Watch}
 use Rattle.callback_server.proofs.Crews.{dials_more, unsent_last}

@@ -1,4 +1,4 @@
-use Rattle.std.proofs.Common.{◌≡◌, ◌<◌, ◌∙◌, length, ap, arith}
+use Rattle.std.proofs.Common.{◌<◌, ◌∙◌, length, ap, arith}
 use Rattle.net_links.specs.Links.{Standing}
 use Rattle.link_server.specs.Keeping.{books_of}
 use Rattle.callback_server.proofs.Crews.{hangs_as, hangs_front, hangs_if_none}

@@ -1,0 +1,294 @@
+//! The calls of the table.
+
+use crate::plan::{Brings, DEST_PORT, LinkPlan, NetPlan, SOURCE_PORT};
+use crate::room::Room;
+use crate::room_net::RoomNet;
+use crate::running::{Nets, Order, Ran, run};
+use net_links::TcpNet;
+use outcome::Mem;
+use row_text::{number, word};
+use std::alloc::Global;
+use std::fmt::Write;
+use std::marker::Sync;
+use std::net::{Net, TcpListener, TcpStream};
+use std::sync::Wait;
+use std::thread::Threads;
+use two_ends::Wrong;
+
+/// So many calls of a link are tried at most.
+const MOST_CALLS: u32 = 100;
+
+/// How many bytes a small file has.
+const SMALL: u32 = 10;
+
+/// A copy of a whole small file.
+const WHOLE: &str = "1 0 1 0 10 c";
+
+/// `room COPIES WORKERS SIZE LETTER`: copies over a room, one after the other.
+pub fn in_room<R: Threads + Wait + Sync>(
+    rt: &R,
+    alloc: Global,
+    words: &[&str],
+    text: &mut String,
+) -> Result<(), Wrong> {
+    let copied = copied(alloc, words)?;
+    let ran = run_in_room(
+        rt,
+        alloc,
+        order(words, copied.as_str()),
+        NetPlan::whole(),
+        NetPlan::whole(),
+    )?;
+    tell_exact(&ran, text)?;
+    Ok(())
+}
+
+/// `held COPIES WORKERS SIZE LETTER`: the same, but the first answer to a READ waits until each worker has put one.
+pub fn held<R: Threads + Wait + Sync>(
+    rt: &R,
+    alloc: Global,
+    words: &[&str],
+    text: &mut String,
+) -> Result<(), Wrong> {
+    let copied = copied(alloc, words)?;
+    let order = order(words, copied.as_str());
+    let mut dest = NetPlan::whole();
+    dest.source = LinkPlan::of(Brings::Held(u32::from(order.workers)));
+    let ran = run_in_room(rt, alloc, order, dest, NetPlan::whole())?;
+    tell_exact(&ran, text)?;
+    Ok(())
+}
+
+/// `tcp COPIES WORKERS SIZE LETTER`: copies over ports of this machine, one after the other.
+pub fn over_tcp<R: Net<Listener = TcpListener, Stream = TcpStream> + Threads + Wait + Sync>(
+    rt: &R,
+    alloc: Global,
+    words: &[&str],
+    text: &mut String,
+) -> Result<(), Wrong> {
+    let (Ok(source), Ok(dest)) = (TcpNet::listening(rt, 0), TcpNet::listening(rt, 0)) else {
+        return Err(Wrong::Lacks("a port"));
+    };
+    let copied = copied(alloc, words)?;
+    let mut order = order(words, copied.as_str());
+    order.ports = (source.port().unwrap_or(0), dest.port().unwrap_or(0));
+    let nets = Nets {
+        source,
+        dest,
+        client: TcpNet::dialing(rt),
+    };
+    let ran = run(rt, alloc, order, nets, None)?;
+    tell_exact(&ran, text)?;
+    Ok(())
+}
+
+/// `copy DIAL DRAW PUT SOURCE DEST WORD..`: one copy, whose client's dial, draw and put fail as planned, and whose links to both servers
+/// bring this.
+pub fn copy<R: Threads + Wait + Sync>(
+    rt: &R,
+    alloc: Global,
+    words: &[&str],
+    text: &mut String,
+) -> Result<(), Wrong> {
+    let asked = joined(alloc, words, 6)?;
+    let mut order = small(asked.as_str());
+    order.draw = u64::from(number(words, 2));
+    order.put = u64::from(number(words, 3));
+    let plan = NetPlan {
+        dial: u64::from(number(words, 1)),
+        source: LinkPlan::from_word(word(words, 4)),
+        dest: LinkPlan::from_word(word(words, 5)),
+    };
+    let ran = run_in_room(rt, alloc, order, NetPlan::whole(), plan)?;
+    tell_copy(&ran, text)?;
+    Ok(())
+}
+
+/// `each KIND SIDE`: copies in which one call of this kind fails of the client's link to this server, each call in turn, up to the first
+/// that isn't made; how many of them end so.
+pub fn each<R: Threads + Wait + Sync>(
+    rt: &R,
+    alloc: Global,
+    words: &[&str],
+    text: &mut String,
+) -> Result<(), Wrong> {
+    let mut counts = Counts::none();
+    for call in 1..=MOST_CALLS {
+        let room = Room::new(alloc);
+        let plan = failing(word(words, 1), word(words, 2), u64::from(call));
+        let ran = run_in(rt, alloc, &room, small(WHOLE), NetPlan::whole(), plan)?;
+        if !room.has_failed(rt) {
+            break;
+        }
+        counts.add(&ran);
+    }
+    counts.tell(text)?;
+    Ok(())
+}
+
+/// A plan in which this call fails of a link.
+fn failing(kind: &str, side: &str, call: u64) -> NetPlan {
+    let mut link = LinkPlan::whole();
+    if kind == "take" {
+        link.take = call;
+    } else {
+        link.put = call;
+    }
+    let mut plan = NetPlan::whole();
+    if side == "source" {
+        plan.source = link;
+    } else {
+        plan.dest = link;
+    }
+    plan
+}
+
+/// The order of a line.
+fn order<'a>(words: &[&str], copied: &'a str) -> Order<'a> {
+    let mut order = small(copied);
+    order.copies = number(words, 1);
+    order.workers = number(words, 2).min(8) as u8;
+    order.size = number(words, 3);
+    order
+}
+
+/// One copy of a small file.
+fn small(words: &str) -> Order<'_> {
+    Order {
+        copies: 1,
+        workers: 1,
+        size: SMALL,
+        words,
+        ports: (SOURCE_PORT, DEST_PORT),
+        draw: 0,
+        put: 0,
+    }
+}
+
+/// The words of a copy of the whole file.
+fn copied(alloc: Global, words: &[&str]) -> Mem<String> {
+    Ok(format!(in alloc; "1 0 1 0 {} {}", number(words, 3), word(words, 4))?)
+}
+
+/// The words from this one on, with blanks between them.
+fn joined(alloc: Global, words: &[&str], from: usize) -> Mem<String> {
+    let mut text = String::new(alloc);
+    for (at, word) in words.iter().skip(from).enumerate() {
+        if at > 0 {
+            text.push_str(" ")?;
+        }
+        text.push_str(word)?;
+    }
+    Ok(text)
+}
+
+/// The same as `run`, over a new room, by these plans of the destination's net and of the client's.
+fn run_in_room<R: Threads + Wait + Sync>(
+    rt: &R,
+    alloc: Global,
+    order: Order<'_>,
+    dest: NetPlan,
+    client: NetPlan,
+) -> Result<Ran, Wrong> {
+    let room = Room::new(alloc);
+    run_in(rt, alloc, &room, order, dest, client)
+}
+
+/// The same over this room.
+fn run_in<R: Threads + Wait + Sync>(
+    rt: &R,
+    alloc: Global,
+    room: &Room,
+    order: Order<'_>,
+    dest: NetPlan,
+    client: NetPlan,
+) -> Result<Ran, Wrong> {
+    let nets = Nets {
+        source: RoomNet::new(rt, room, alloc, SOURCE_PORT, NetPlan::whole()),
+        dest: RoomNet::new(rt, room, alloc, DEST_PORT, dest),
+        client: RoomNet::new(rt, room, alloc, 0, client),
+    };
+    run(rt, alloc, order, nets, Some(room))
+}
+
+/// How many copies were exact, the servers' statuses, and whether the bytes are there.
+fn tell_exact(ran: &Ran, text: &mut String) -> Mem<()> {
+    write!(
+        text,
+        "{} exact; {} {}; {}",
+        ran.exact,
+        ran.source,
+        ran.dest,
+        sameness(ran)
+    )?;
+    Ok(())
+}
+
+/// What a copy put, and its status; the servers' statuses; and, where it was reported stable, whether the bytes are there.
+fn tell_copy(ran: &Ran, text: &mut String) -> Mem<()> {
+    let put = str::from_utf8(ran.put.bytes()).unwrap_or("no text");
+    for line in put.lines() {
+        write!(text, "{line} ")?;
+    }
+    write!(text, "{}; {} {}", ran.status, ran.source, ran.dest)?;
+    if put.starts_with("stable") {
+        write!(text, "; {}", sameness(ran))?;
+    }
+    Ok(())
+}
+
+fn sameness(ran: &Ran) -> &'static str {
+    if ran.same { "same" } else { "other" }
+}
+
+/// How many copies ended so.
+#[derive(Clone, Copy)]
+struct Counts {
+    /// Status 8, and nothing was put.
+    nothing: u32,
+
+    /// Status 8, and `stable` was put.
+    stable: u32,
+
+    /// Status 0, and all was put.
+    whole: u32,
+
+    /// Otherwise, or with other bytes at the destination than those that were reported stable.
+    other: u32,
+}
+
+impl Counts {
+    fn none() -> Counts {
+        Counts {
+            nothing: 0,
+            stable: 0,
+            whole: 0,
+            other: 0,
+        }
+    }
+
+    fn add(&mut self, ran: &Ran) {
+        let served = ran.source == 0 && ran.dest == 0;
+        let count = match (ran.status, ran.put.bytes()) {
+            (8, b"") if served => &mut self.nothing,
+            (8, b"stable\n") if served && ran.same => &mut self.stable,
+            (0, b"stable\nexact\n") if served && ran.same => &mut self.whole,
+            _ => &mut self.other,
+        };
+        *count = count.saturating_add(1);
+    }
+
+    fn tell(&self, text: &mut String) -> Mem<()> {
+        let Counts {
+            nothing,
+            stable,
+            whole,
+            other,
+        } = *self;
+        write!(
+            text,
+            "{nothing} nothing, {stable} stable, {whole} whole, {other} other"
+        )?;
+        Ok(())
+    }
+}
