@@ -15,65 +15,18 @@ import hashlib
 import os
 import random
 import shutil
-import signal
 import subprocess
 import sys
 import tempfile
 import threading
 import time
 
-from caller import Caller
-from programs import NFSCOPY
+from servers import PIECE, check, ended, format_volume, joined, kill, listens, run, server, write_realm
 
-KEY = bytes([1] * 32)
 SOURCE_PORT, DEST_PORT, RSYNC_PORT = 24_051, 24_052, 24_053
 MEBIBYTES = int(sys.argv[1]) if len(sys.argv) > 1 else 64
 KILLS = int(sys.argv[2]) if len(sys.argv) > 2 else 100
-PIECE = 65_536
 PART = 16 * PIECE
-
-
-def check(holds, what):
-    if not holds:
-        sys.exit(what)
-
-
-def words_of(*words):
-    return [NFSCOPY, *map(str, words)]
-
-
-def run(folder, *words):
-    return subprocess.run(words_of(*words), cwd=folder, stdin=subprocess.DEVNULL, capture_output=True, check=False)
-
-
-def server(folder, *words):
-    """A server, once it listens. Its port is the third word."""
-    child = subprocess.Popen(words_of(*words), cwd=folder, stdin=subprocess.DEVNULL, stdout=subprocess.PIPE,
-                             stderr=subprocess.PIPE, start_new_session=True)
-    deadline = time.monotonic() + 60
-    while not listens(words[2]):
-        check(child.poll() is None and time.monotonic() < deadline, f"{words[0]} doesn't listen: {child.poll()}")
-        time.sleep(0.01)
-    return child
-
-
-def listens(port):
-    """Whether something listens on a port of this machine, by the system's table of sockets: a connection would be counted."""
-    with open("/proc/net/tcp", encoding="ascii") as table:
-        rows = [line.split() for line in table][1:]
-    return any(row[1].endswith(f":{port:04X}") and row[3] == "0A" for row in rows)
-
-
-def kill(child):
-    if child.poll() is None:
-        os.killpg(child.pid, signal.SIGKILL)
-    child.communicate()
-
-
-def joined(port, owner):
-    caller = Caller(port, "user", KEY)
-    caller.join(owner)
-    return caller
 
 
 def written(port, owner, offset, data):
@@ -96,8 +49,7 @@ def read_back(folder, volume, offset, count):
     data = b"".join(parts)[:count]
     caller.close(opened)
     caller.leave()
-    check(child.wait(timeout=60) == 0, f"serving {volume} ended with {child.returncode}")
-    child.communicate()
+    ended(child)
     return data
 
 
@@ -150,37 +102,42 @@ def timed_copies(folder, data):
     else:
         tell("rsync", seconds, size, hashing)
     for workers in (1, 2, 4):
-        check(run(folder, "format", "dest", 1, MEBIBYTES * 256, 9).returncode == 0, "format")
+        format_volume(folder, "dest", MEBIBYTES, 9)
         source = server(folder, "serve-source", "source", SOURCE_PORT, workers + 1)
         dest = server(folder, "serve-dest", "dest", DEST_PORT, 1, workers, SOURCE_PORT)
         lines, status, seconds = copied(folder, 0, size)
         check((lines, status) == (["stable", "exact"], 0), f"copy with {workers} workers: {lines} {status}")
-        check(dest.wait(timeout=60) == 0 and source.wait(timeout=60) == 0, f"a server ended with {dest.returncode}, {source.returncode}")
+        ended(dest)
+        ended(source)
         check(read_back(folder, "dest", 0, size) == data, f"other bytes than the source's, with {workers} workers")
         tell(f"{workers} worker{'s' * (workers > 1)}", seconds, size, hashing)
 
 
 def killed(folder, size):
-    """The destination is killed in the middle of copies."""
+    """The destination is killed in the middle of copies, or shortly behind them: at moments up to one and a half times what the first copy
+    takes, which isn't killed."""
     dice = random.Random(2)
     stable = 0
-    for round_ in range(KILLS):
+    whole = None
+    for round_ in range(KILLS + 1):
         offset = PART * dice.randrange(size // PART)
         old = read_back(folder, "dest", offset, PART)
         new = dice.randbytes(PART)
         source = server(folder, "serve-source", "source", SOURCE_PORT, 1_000)
         written(SOURCE_PORT, b"writer", offset, new)
         dest = server(folder, "serve-dest", "dest", DEST_PORT, 1_000, dice.choice((1, 2, 4)), SOURCE_PORT)
-        timer = threading.Timer(dice.uniform(0.01, 0.5), lambda: kill(dest))
-        timer.start()
-        lines, status, _ = copied(folder, offset, PART)
-        timer.cancel()
-        timer.join()
+        timer = threading.Timer(dice.uniform(0, 1.5) * (whole or 0), lambda: kill(dest))
+        if whole is not None:
+            timer.start()
+        lines, status, seconds = copied(folder, offset, PART)
+        if whole is not None:
+            timer.join()
+        whole = whole or seconds
         kill(dest)
         kill(source)
         found = read_back(folder, "dest", offset, PART)
         if "stable" in lines:
-            stable += 1
+            stable += round_ > 0
             check(found == new, f"round {round_}: a copy was reported stable, and its bytes aren't there")
         else:
             check(status in (8, 9), f"round {round_}: {lines} {status}")
@@ -192,12 +149,11 @@ def main():
     size = MEBIBYTES << 20
     data = random.Random(1).randbytes(size)
     with tempfile.TemporaryDirectory() as folder:
-        with open(os.path.join(folder, "realm.txt"), "w", encoding="utf-8") as realm:
-            realm.write(f"user {KEY.hex()}\ndest {bytes([2] * 32).hex()}\n")
-        check(run(folder, "format", "source", 1, MEBIBYTES * 256, 7).returncode == 0, "format")
+        write_realm(folder)
+        format_volume(folder, "source", MEBIBYTES, 7)
         source = server(folder, "serve-source", "source", SOURCE_PORT, 1)
         written(SOURCE_PORT, b"writer", 0, data)
-        check(source.wait(timeout=60) == 0, "the source didn't end")
+        ended(source)
         timed_copies(folder, data)
         killed(folder, size)
 

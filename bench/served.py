@@ -8,63 +8,30 @@ what it had answered as committed is read back. What isn't as it should be ends 
 """
 
 import hashlib
-import os
 import random
-import signal
 import socket
-import subprocess
 import sys
 import tempfile
 import threading
 import time
 
-from caller import Caller, Ended, Refused
-from programs import NFSCOPY
+from caller import Ended
+from servers import PIECE, check, ended, format_volume, joined, kill, server, write_realm
 
-KEY = bytes([1] * 32)
 PORT = 24_049
 MEBIBYTES = 16
-PIECE = 65_536
 NOISE_SECONDS = float(sys.argv[1]) if len(sys.argv) > 1 else 5
 KILLS = int(sys.argv[2]) if len(sys.argv) > 2 else 10
 CROWD = 5_000
 
 
-def check(holds, what):
-    if not holds:
-        sys.exit(what)
-
-
-def run(folder, *words):
-    return subprocess.run([NFSCOPY, *words], cwd=folder, stdin=subprocess.DEVNULL, capture_output=True, check=False)
-
-
 def served(folder, conns):
-    """A server of this many connections, once it listens."""
-    server = subprocess.Popen([NFSCOPY, "serve-source", "volume", str(PORT), str(conns)], cwd=folder,
-                              stdin=subprocess.DEVNULL, stdout=subprocess.PIPE, stderr=subprocess.PIPE, start_new_session=True)
-    return server
+    """A server of this many connections."""
+    return server(folder, "serve-source", "volume", PORT, conns)
 
 
 def called(owner):
-    """A caller, once the server listens."""
-    for _ in range(2_000):
-        try:
-            caller = Caller(PORT, "user", KEY)
-            break
-        except ConnectionRefusedError:
-            time.sleep(0.01)
-    else:
-        sys.exit("nothing listens")
-    caller.join(owner)
-    return caller
-
-
-def ended(server, status):
-    """The server ends by itself with this status, and printed nothing."""
-    printed, errors = server.communicate(timeout=60)
-    check(server.returncode == status, f"the server ended with {server.returncode}: {printed!r} {errors!r}")
-    check(printed == b"" and errors == b"", f"the server printed {printed!r} {errors!r}")
+    return joined(PORT, owner)
 
 
 def timed(work):
@@ -76,7 +43,7 @@ def timed(work):
 def written_and_read(folder):
     """A whole file is written, committed and read back."""
     data = random.Random(1).randbytes(MEBIBYTES << 20)
-    server = served(folder, 1)
+    child = served(folder, 1)
     caller = called(b"writer")
     opened = caller.open(1)
 
@@ -95,7 +62,7 @@ def written_and_read(folder):
         print(f"{MEBIBYTES} MiB {name}: {seconds:.2f} s, {seconds / hashing:.1f} times hashing them once in this script")
     caller.close(opened)
     caller.leave()
-    ended(server, 0)
+    ended(child)
 
 
 def noise(port, stop, seed):
@@ -117,7 +84,7 @@ def noise(port, stop, seed):
 
 def noisy(folder):
     """Sixteen connections at once bring random bytes. Each that the server hangs up is followed by another."""
-    server = served(folder, 1_000_000)
+    child = served(folder, 1_000_000)
     first = called(b"first")
     stop = time.monotonic() + NOISE_SECONDS
     made = [0]
@@ -138,12 +105,11 @@ def noisy(folder):
     first.leave()
     for thread in threads:
         thread.join()
-    check(server.poll() is None, f"the server ended with {server.returncode}")
+    check(child.poll() is None, f"the server ended with {child.returncode}")
     last = called(b"last")
     opened = last.open(1)
     check(last.read(opened, 0, PIECE) == kept, "other bytes after noise")
-    os.killpg(server.pid, signal.SIGKILL)
-    server.communicate()
+    kill(child)
     print(f"{made[0]} connections of random bytes in {NOISE_SECONDS:.0f} s, beside one that reads: it reads the same, and so does a later one")
 
 
@@ -164,10 +130,10 @@ def crowd(stop):
     return sum(made)
 
 
-def use_up(server):
+def use_up(child):
     """Connections that bring nothing, until the server has had as many as it was asked for."""
     count = 0
-    while server.poll() is None:
+    while child.poll() is None:
         try:
             socket.create_connection(("127.0.0.1", PORT), 30).close()
             count += 1
@@ -178,34 +144,34 @@ def use_up(server):
 
 def crowded(folder):
     """Sixteen connections at once bring random bytes, and then the others nothing. The server ends by itself, and its file opens again."""
-    server = served(folder, CROWD)
+    child = served(folder, CROWD)
     time.sleep(0.5)
     made = crowd(time.monotonic() + NOISE_SECONDS)
-    check(server.poll() is None, f"the server ended with {server.returncode}")
-    more = use_up(server)
-    ended(server, 0)
-    server = served(folder, 1)
+    check(child.poll() is None, f"the server ended with {child.returncode}")
+    more = use_up(child)
+    ended(child)
+    child = served(folder, 1)
     last = called(b"after the crowd")
     opened = last.open(1)
     last.read(opened, 0, PIECE)
     last.close(opened)
     last.leave()
-    ended(server, 0)
+    ended(child)
     print(f"{made} connections of random bytes in {NOISE_SECONDS:.0f} s, sixteen at once, and {more} of nothing: status 0, and the file opens again")
 
 
 def killed(folder):
     """The server is killed between a client's writes. What it had answered as committed is there when it is opened again."""
     known = bytearray(PIECE)
-    check(run(folder, "format", "volume", "1", "256", "7").returncode == 0, "format")
+    format_volume(folder, "volume", 1, 7)
     commits = 0
     for round_ in range(KILLS):
-        server = served(folder, 1)
+        child = served(folder, 1)
         caller = called(b"killer %d" % round_)
         opened = caller.open(1)
         read = caller.read(opened, 0, PIECE)
         check(read[: len(known)].ljust(PIECE, b"\0") == bytes(known), f"round {round_}: other bytes than were committed")
-        timer = threading.Timer(random.Random(round_).uniform(0.05, 0.4), lambda: os.killpg(server.pid, signal.SIGKILL))
+        timer = threading.Timer(random.Random(round_).uniform(0.05, 0.4), lambda: kill(child))
         timer.start()
         maybe = None
         try:
@@ -218,9 +184,9 @@ def killed(folder):
                 known, commits = maybe, commits + 1
         except (Ended, ConnectionError, OSError):
             pass
-        server.wait()
+        timer.join()
         # A commit that wasn't answered may have been made or not.
-        server = served(folder, 1)
+        child = served(folder, 1)
         caller = called(b"after %d" % round_)
         opened = caller.open(1)
         read = caller.read(opened, 0, PIECE).ljust(PIECE, b"\0")
@@ -228,16 +194,14 @@ def killed(folder):
         known = bytearray(read)
         caller.close(opened)
         caller.leave()
-        ended(server, 0)
+        ended(child)
     print(f"killed {KILLS} times in the middle of {commits} commits: each time the committed bytes were there")
 
 
 def main():
     with tempfile.TemporaryDirectory() as folder:
-        with open(os.path.join(folder, "realm.txt"), "w", encoding="utf-8") as realm:
-            realm.write(f"user {KEY.hex()}\ndest {bytes([2] * 32).hex()}\n")
-        made = run(folder, "format", "volume", "1", str(MEBIBYTES * 256), "7")
-        check(made.returncode == 0, f"format: {made}")
+        write_realm(folder)
+        format_volume(folder, "volume", MEBIBYTES, 7)
         written_and_read(folder)
         noisy(folder)
         crowded(folder)
