@@ -6,7 +6,7 @@ Each byte is hashed four times at least: the client seals its WRITE and the sour
 READ and the destination checks that. The fastest of three runs counts.
 
 Of the time of `gen 64`, by `perf`, 55 to 60 parts of 100 are SHA-256; near 18 the kernel's, which gives and clears the pages of
-15 MiB for each MiB that is copied; 6 the allocator's, mostly for blocks of 4 KiB; 6 copies of bytes from record to record; 5 the making of
+that memory; 6 the allocator's, mostly for blocks of 4 KiB; 6 copies of bytes from record to record; 5 the making of
 the file's bytes and the comparing of records and files. Of the memory nearly 13 MiB for each MiB are the two disks', which keep each
 write since they were made beside what they hold (a volume has two homes for each block), and 3 the records', half of which are
 sealed in room for the largest.
