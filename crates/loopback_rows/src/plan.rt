@@ -21,8 +21,11 @@ pub enum Brings {
     /// So many pieces, and a part of the next one.
     Cut(u32),
 
-    /// These bytes and no more.
-    Bytes([u8; 8]),
+    /// A record of four bytes that is none of the protocol's.
+    Rubbish,
+
+    /// A part of a record that is longer than a record may be.
+    Large,
 
     /// All; but the first answer to a READ waits until there is one at so many links.
     Held(u32),
@@ -93,8 +96,8 @@ fn brought(word: &str) -> Brings {
     }
     match word {
         "nothing" => Brings::Nothing,
-        "rubbish" => Brings::Bytes([0x80, 0, 0, 4, 1, 2, 3, 4]),
-        "large" => Brings::Bytes([0xFF, 0xFF, 0xFF, 0xFF, 1, 2, 3, 4]),
+        "rubbish" => Brings::Rubbish,
+        "large" => Brings::Large,
         _ => Brings::All,
     }
 }

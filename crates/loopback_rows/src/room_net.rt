@@ -11,10 +11,16 @@ use std::sync::Wait;
 use streams::{Put, Sink, Source, Stream, Take};
 
 /// An answer with more bytes than these is that to a READ of a whole chunk.
-const LARGE: usize = 65_536;
+const CHUNK: usize = 65_536;
 
 /// How many bytes of a record come that is cut.
 const CUT: usize = 9;
+
+/// A record of four bytes, behind its mark (RFC 5531 section 11).
+const RUBBISH: [u8; 8] = [0x80, 0, 0, 4, 1, 2, 3, 4];
+
+/// The mark of a record that is too large, and its first bytes.
+const LARGE_RECORD: [u8; 8] = [0xFF, 0xFF, 0xFF, 0xFF, 1, 2, 3, 4];
 
 /// A net of one thread, which listens at a port.
 #[derive(Drop)]
@@ -146,12 +152,18 @@ impl<'a, R: Wait> RoomFrom<'a, R> {
             Brings::First(_) => Some(self.next()),
             Brings::Cut(count) if self.pieces > count => Some(None),
             Brings::Cut(count) => self.cut(count),
-            Brings::Bytes(bytes) if self.pieces == 0 => {
-                Some(Some(Vec::from_slice(self.alloc, &bytes).ok()?))
-            }
-            Brings::Bytes(_) => Some(None),
+            Brings::Rubbish => self.once(&RUBBISH),
+            Brings::Large => self.once(&LARGE_RECORD),
             Brings::Held(count) => self.hold(count),
         }
+    }
+
+    /// These bytes as the first piece, and no other.
+    fn once(&self, bytes: &[u8]) -> Option<Option<Vec<u8>>> {
+        if self.pieces > 0 {
+            return Some(None);
+        }
+        Some(Some(Vec::from_slice(self.alloc, bytes).ok()?))
     }
 
     /// The next piece of the room.
@@ -176,7 +188,7 @@ impl<'a, R: Wait> RoomFrom<'a, R> {
     {
         let piece = self.next();
         let is_large = match &piece {
-            Some(piece) => piece.len() > LARGE,
+            Some(piece) => piece.len() > CHUNK,
             None => false,
         };
         if is_large && !self.is_held {
