@@ -1,14 +1,16 @@
 //! One call of the program.
 
+use crate::room_net::RoomNet;
 use blind_disk::BlindDisk;
-use net_links::Net;
+use net_links::{self, TcpNet};
 use nfscopy::{disks_suffice, nfscopy};
 use outcome::Mem;
 use std::alloc::Global;
 use std::marker::{Send, Sync};
+use std::net::{Net, TcpListener, TcpStream};
 use std::sync::Wait;
 use std::thread::Threads;
-use streams::{Clock, Draws, MemSink, MemSource, Sink, Source};
+use streams::{Clock, MemDraws, MemSink, MemSource, Sink, Source};
 use two_ends::realm;
 use wire_run::Disks;
 
@@ -30,19 +32,44 @@ pub struct Left {
     pub disks: Disks<BlindDisk>,
 }
 
+/// What the program can be called over.
+#[derive(Drop)]
+pub enum Caller<'a, R: Net<Listener = TcpListener, Stream = TcpStream> + Wait> {
+    /// Connections in memory.
+    Room(RoomNet<'a, R>),
+
+    /// Ports of this machine.
+    Tcp(TcpNet<'a, R>),
+}
+
 /// Calls the program with the words of a line. The put of this number fails, where it isn't 0.
-pub fn call<
+pub fn call<R: Net<Listener = TcpListener, Stream = TcpStream> + Threads + Wait + Sync>(
+    rt: &R,
+    alloc: Global,
+    line: &str,
+    disks: (BlindDisk, BlindDisk),
+    draws: MemDraws,
+    fails: u64,
+    caller: &mut Caller<'_, R>,
+) -> Mem<Left> {
+    match caller {
+        Caller::Room(net) => call_over(rt, alloc, line, disks, draws, fails, net),
+        Caller::Tcp(net) => call_over(rt, alloc, line, disks, draws, fails, net),
+    }
+}
+
+/// Calls the program over a net.
+fn call_over<
     R: Threads + Wait + Sync,
-    W: Draws + Drop + Send,
     F: Source + Send + Drop,
     T: Sink + Send + Drop,
-    N: Net<From = F, To = T>,
+    N: net_links::Net<From = F, To = T>,
 >(
     rt: &R,
     alloc: Global,
     line: &str,
     disks: (BlindDisk, BlindDisk),
-    draws: W,
+    draws: MemDraws,
     fails: u64,
     net: &mut N,
 ) -> Mem<Left> {

@@ -1,6 +1,7 @@
 //! The calls of the table.
 
 use crate::plan::{Brings, DEST_PORT, LinkPlan, NetPlan, SOURCE_PORT};
+use crate::program::Caller;
 use crate::room::Room;
 use crate::room_net::RoomNet;
 use crate::running::{Nets, Order, Ran, run};
@@ -25,36 +26,29 @@ const SMALL: u32 = 10;
 const WHOLE: &str = "1 0 1 0 10 c";
 
 /// `room COPIES WORKERS SIZE LETTER`: copies over a room, one after the other.
-pub fn in_room<R: Threads + Wait + Sync>(
+pub fn in_room<R: Net<Listener = TcpListener, Stream = TcpStream> + Threads + Wait + Sync>(
     rt: &R,
     alloc: Global,
     words: &[&str],
     text: &mut String,
 ) -> Result<(), Wrong> {
-    let copied = copied(alloc, words)?;
-    let ran = run_in_room(
-        rt,
-        alloc,
-        order(words, copied.as_str()),
-        NetPlan::whole(),
-        NetPlan::whole(),
-    )?;
+    let order = order(alloc, words)?;
+    let ran = run_in_room(rt, alloc, &order, NetPlan::whole(), NetPlan::whole())?;
     tell_exact(&ran, text)?;
     Ok(())
 }
 
 /// `held COPIES WORKERS SIZE LETTER`: the same, but the first answer to a READ waits until each worker has put one.
-pub fn held<R: Threads + Wait + Sync>(
+pub fn held<R: Net<Listener = TcpListener, Stream = TcpStream> + Threads + Wait + Sync>(
     rt: &R,
     alloc: Global,
     words: &[&str],
     text: &mut String,
 ) -> Result<(), Wrong> {
-    let copied = copied(alloc, words)?;
-    let order = order(words, copied.as_str());
+    let order = order(alloc, words)?;
     let mut dest = NetPlan::whole();
     dest.source = LinkPlan::of(Brings::Held(u32::from(order.workers)));
-    let ran = run_in_room(rt, alloc, order, dest, NetPlan::whole())?;
+    let ran = run_in_room(rt, alloc, &order, dest, NetPlan::whole())?;
     tell_exact(&ran, text)?;
     Ok(())
 }
@@ -69,29 +63,27 @@ pub fn over_tcp<R: Net<Listener = TcpListener, Stream = TcpStream> + Threads + W
     let (Ok(source), Ok(dest)) = (TcpNet::listening(rt, 0), TcpNet::listening(rt, 0)) else {
         return Err(Wrong::Lacks("a port"));
     };
-    let copied = copied(alloc, words)?;
-    let mut order = order(words, copied.as_str());
+    let mut order = order(alloc, words)?;
     order.ports = (source.port().unwrap_or(0), dest.port().unwrap_or(0));
     let nets = Nets {
-        source,
-        dest,
-        client: TcpNet::dialing(rt),
+        source: Caller::Tcp(source),
+        dest: Caller::Tcp(dest),
+        client: Caller::Tcp(TcpNet::dialing(rt)),
     };
-    let ran = run(rt, alloc, order, nets, None)?;
+    let ran = run(rt, alloc, &order, nets, None)?;
     tell_exact(&ran, text)?;
     Ok(())
 }
 
 /// `copy DIAL DRAW PUT SOURCE DEST WORD..`: one copy, whose client's dial, draw and put fail as planned, and whose links to both servers
 /// bring this.
-pub fn copy<R: Threads + Wait + Sync>(
+pub fn copy<R: Net<Listener = TcpListener, Stream = TcpStream> + Threads + Wait + Sync>(
     rt: &R,
     alloc: Global,
     words: &[&str],
     text: &mut String,
 ) -> Result<(), Wrong> {
-    let asked = joined(alloc, words, 6)?;
-    let mut order = small(asked.as_str());
+    let mut order = small(joined(alloc, words, 6)?);
     order.draw = u64::from(number(words, 2));
     order.put = u64::from(number(words, 3));
     let plan = NetPlan {
@@ -99,24 +91,25 @@ pub fn copy<R: Threads + Wait + Sync>(
         source: LinkPlan::from_word(word(words, 4)),
         dest: LinkPlan::from_word(word(words, 5)),
     };
-    let ran = run_in_room(rt, alloc, order, NetPlan::whole(), plan)?;
+    let ran = run_in_room(rt, alloc, &order, NetPlan::whole(), plan)?;
     tell_copy(&ran, text)?;
     Ok(())
 }
 
 /// `each KIND SIDE`: copies in which one call of this kind fails of the client's link to this server, each call in turn, up to the first
 /// that isn't made; how many of them end so.
-pub fn each<R: Threads + Wait + Sync>(
+pub fn each<R: Net<Listener = TcpListener, Stream = TcpStream> + Threads + Wait + Sync>(
     rt: &R,
     alloc: Global,
     words: &[&str],
     text: &mut String,
 ) -> Result<(), Wrong> {
+    let order = small(String::from_str(alloc, WHOLE)?);
     let mut counts = Counts::none();
     for call in 1..=MOST_CALLS {
         let room = Room::new(alloc);
         let plan = failing(word(words, 1), word(words, 2), u64::from(call));
-        let ran = run_in(rt, alloc, &room, small(WHOLE), NetPlan::whole(), plan)?;
+        let ran = run_in(rt, alloc, &room, &order, NetPlan::whole(), plan)?;
         if !room.has_failed(rt) {
             break;
         }
@@ -144,16 +137,17 @@ fn failing(kind: &str, side: &str, call: u64) -> NetPlan {
 }
 
 /// The order of a line.
-fn order<'a>(words: &[&str], copied: &'a str) -> Order<'a> {
-    let mut order = small(copied);
+fn order(alloc: Global, words: &[&str]) -> Mem<Order> {
+    let (size, letter) = (number(words, 3), word(words, 4));
+    let mut order = small(format!(in alloc; "1 0 1 0 {size} {letter}")?);
     order.copies = number(words, 1);
     order.workers = number(words, 2).min(8) as u8;
-    order.size = number(words, 3);
-    order
+    order.size = size;
+    Ok(order)
 }
 
 /// One copy of a small file.
-fn small(words: &str) -> Order<'_> {
+fn small(words: String) -> Order {
     Order {
         copies: 1,
         workers: 1,
@@ -163,11 +157,6 @@ fn small(words: &str) -> Order<'_> {
         draw: 0,
         put: 0,
     }
-}
-
-/// The words of a copy of the whole file.
-fn copied(alloc: Global, words: &[&str]) -> Mem<String> {
-    Ok(format!(in alloc; "1 0 1 0 {} {}", number(words, 3), word(words, 4))?)
 }
 
 /// The words from this one on, with blanks between them.
@@ -183,10 +172,10 @@ fn joined(alloc: Global, words: &[&str], from: usize) -> Mem<String> {
 }
 
 /// The same as `run`, over a new room, by these plans of the destination's net and of the client's.
-fn run_in_room<R: Threads + Wait + Sync>(
+fn run_in_room<R: Net<Listener = TcpListener, Stream = TcpStream> + Threads + Wait + Sync>(
     rt: &R,
     alloc: Global,
-    order: Order<'_>,
+    order: &Order,
     dest: NetPlan,
     client: NetPlan,
 ) -> Result<Ran, Wrong> {
@@ -195,18 +184,18 @@ fn run_in_room<R: Threads + Wait + Sync>(
 }
 
 /// The same over this room.
-fn run_in<R: Threads + Wait + Sync>(
+fn run_in<R: Net<Listener = TcpListener, Stream = TcpStream> + Threads + Wait + Sync>(
     rt: &R,
     alloc: Global,
     room: &Room,
-    order: Order<'_>,
+    order: &Order,
     dest: NetPlan,
     client: NetPlan,
 ) -> Result<Ran, Wrong> {
     let nets = Nets {
-        source: RoomNet::new(rt, room, alloc, SOURCE_PORT, NetPlan::whole()),
-        dest: RoomNet::new(rt, room, alloc, DEST_PORT, dest),
-        client: RoomNet::new(rt, room, alloc, 0, client),
+        source: Caller::Room(RoomNet::new(rt, room, alloc, SOURCE_PORT, NetPlan::whole())),
+        dest: Caller::Room(RoomNet::new(rt, room, alloc, DEST_PORT, dest)),
+        client: Caller::Room(RoomNet::new(rt, room, alloc, 0, client)),
     };
     run(rt, alloc, order, nets, Some(room))
 }

@@ -1,22 +1,32 @@
 //! Both servers and a client in threads beside each other, each by a call of the program.
 
-use crate::plan::{DEST_PORT, SOURCE_PORT};
-use crate::program::{Left, call};
+use crate::plan::SOURCE_PORT;
+use crate::program::{Caller, Left, call};
 use crate::room::Room;
 use crate::volumes::{filled, formatted, has_content};
 use blind_disk::BlindDisk;
-use net_links::Net;
 use outcome::Mem;
 use std::alloc::Global;
-use std::marker::{Send, Sync};
+use std::marker::Sync;
+use std::net::{Net, TcpListener, TcpStream};
 use std::sync::Wait;
 use std::thread::{Threads, join};
-use streams::{CountDraws, MemDraws, MemSink, Sink, Source};
+use streams::{MemDraws, MemSink};
 use two_ends::Wrong;
+use wire_run::Disks;
+
+/// How many draws each call of the program has.
+const MOST_DRAWS: u64 = 1_024;
+
+/// Which draws the source has, the first of them: none has another's.
+const SOURCE_DRAWS: u64 = 1 << 32;
+
+/// Which the destination has.
+const DEST_DRAWS: u64 = 2 << 32;
 
 /// What is done.
-#[derive(Clone, Copy)]
-pub struct Order<'a> {
+#[derive(Drop)]
+pub struct Order {
     /// How many copies the client makes, one after the other.
     pub copies: u32,
 
@@ -27,7 +37,7 @@ pub struct Order<'a> {
     pub size: u32,
 
     /// What each copy is asked for with, behind the ports.
-    pub words: &'a str,
+    pub words: String,
 
     /// Where both servers listen.
     pub ports: (u16, u16),
@@ -39,10 +49,10 @@ pub struct Order<'a> {
 
 /// The nets of the three threads.
 #[derive(Drop)]
-pub struct Nets<N> {
-    pub source: N,
-    pub dest: N,
-    pub client: N,
+pub struct Nets<'a, R: Net<Listener = TcpListener, Stream = TcpStream> + Wait> {
+    pub source: Caller<'a, R>,
+    pub dest: Caller<'a, R>,
+    pub client: Caller<'a, R>,
 }
 
 /// What came of it.
@@ -70,18 +80,19 @@ struct Copied {
     last: Left,
 }
 
+/// What the three threads came to: the source's, the destination's and the client's.
+type Threes = (
+    Result<Left, Wrong>,
+    (Result<Left, Wrong>, Result<Copied, Wrong>),
+);
+
 /// Serves both volumes, lets the client make its copies, and looks at the destination's volume then. The room is closed behind the last
 /// copy.
-pub fn run<
-    R: Threads + Wait + Sync,
-    F: Source + Send + Drop,
-    T: Sink + Send + Drop,
-    N: Net<From = F, To = T> + Send + Drop,
->(
+pub fn run<R: Net<Listener = TcpListener, Stream = TcpStream> + Threads + Wait + Sync>(
     rt: &R,
     alloc: Global,
-    order: Order<'_>,
-    nets: Nets<N>,
+    order: &Order,
+    nets: Nets<'_, R>,
     room: Option<&Room>,
 ) -> Result<Ran, Wrong> {
     let Nets {
@@ -89,68 +100,100 @@ pub fn run<
         mut dest,
         mut client,
     } = nets;
-    let (source, (dest, copied)) = join(
+    let threes = run_all(rt, alloc, order, &mut source, &mut dest, &mut client, room);
+    came_to(alloc, order, threes)
+}
+
+/// The source's thread beside the two others.
+fn run_all<R: Net<Listener = TcpListener, Stream = TcpStream> + Threads + Wait + Sync>(
+    rt: &R,
+    alloc: Global,
+    order: &Order,
+    source: &mut Caller<'_, R>,
+    dest: &mut Caller<'_, R>,
+    client: &mut Caller<'_, R>,
+    room: Option<&Room>,
+) -> Threes {
+    join(
         rt,
-        || serve_source(rt, alloc, order, &mut source),
-        || {
-            join(
-                rt,
-                || serve_dest(rt, alloc, order, &mut dest),
-                || copy_all(rt, alloc, order, &mut client, room),
-            )
-        },
-    );
-    let (source, dest, copied) = (source?, dest?, copied?);
+        || serve_source(rt, alloc, order, source),
+        || run_two(rt, alloc, order, dest, client, room),
+    )
+}
+
+/// The destination's thread beside the client's.
+fn run_two<R: Net<Listener = TcpListener, Stream = TcpStream> + Threads + Wait + Sync>(
+    rt: &R,
+    alloc: Global,
+    order: &Order,
+    dest: &mut Caller<'_, R>,
+    client: &mut Caller<'_, R>,
+    room: Option<&Room>,
+) -> (Result<Left, Wrong>, Result<Copied, Wrong>) {
+    join(
+        rt,
+        || serve_dest(rt, alloc, order, dest),
+        || copy_all(rt, alloc, order, client, room),
+    )
+}
+
+/// What came of it, by what the threads came to.
+fn came_to(alloc: Global, order: &Order, threes: Threes) -> Result<Ran, Wrong> {
+    let (source, two) = threes;
+    let (dest, copied) = two;
+    let source = source?.status;
+    let Left {
+        status: dest,
+        disks,
+        ..
+    } = dest?;
+    let Disks { dest: disk, .. } = disks;
+    let same = has_content(alloc, disk, order.size)?;
+    let Copied { exact, last } = copied?;
+    let Left { status, put, .. } = last;
     Ok(Ran {
-        source: source.status,
-        dest: dest.status,
-        exact: copied.exact,
-        status: copied.last.status,
-        put: copied.last.put,
-        same: has_content(alloc, dest.disks.dest, order.size)?,
+        source,
+        dest,
+        exact,
+        status,
+        put,
+        same,
     })
 }
 
-fn serve_source<
-    R: Threads + Wait + Sync,
-    F: Source + Send + Drop,
-    T: Sink + Send + Drop,
-    N: Net<From = F, To = T>,
->(rt: &R, alloc: Global, order: Order<'_>, net: &mut N) -> Result<Left, Wrong> {
+fn serve_source<R: Net<Listener = TcpListener, Stream = TcpStream> + Threads + Wait + Sync>(
+    rt: &R,
+    alloc: Global,
+    order: &Order,
+    net: &mut Caller<'_, R>,
+) -> Result<Left, Wrong> {
     let conns = order.copies.saturating_add(u32::from(order.workers));
     let line = format!(in alloc; "serve-source p {} {conns}", order.ports.0)?;
     let disks = (filled(alloc, 1, order.size)?, nowhere(alloc));
-    Ok(call(rt, alloc, line.as_str(), disks, CountDraws::new(), 0, net)?)
+    let draws = draws(alloc, SOURCE_DRAWS, 0)?;
+    Ok(call(rt, alloc, line.as_str(), disks, draws, 0, net)?)
 }
 
-fn serve_dest<
-    R: Threads + Wait + Sync,
-    F: Source + Send + Drop,
-    T: Sink + Send + Drop,
-    N: Net<From = F, To = T>,
->(rt: &R, alloc: Global, order: Order<'_>, net: &mut N) -> Result<Left, Wrong> {
-    let Order {
-        copies,
-        workers,
-        ports,
-        ..
-    } = order;
-    let line = format!(in alloc; "serve-dest p {} {copies} {workers} {}", ports.1, ports.0)?;
+fn serve_dest<R: Net<Listener = TcpListener, Stream = TcpStream> + Threads + Wait + Sync>(
+    rt: &R,
+    alloc: Global,
+    order: &Order,
+    net: &mut Caller<'_, R>,
+) -> Result<Left, Wrong> {
+    let (copies, workers) = (order.copies, order.workers);
+    let (source_port, port) = order.ports;
+    let line = format!(in alloc; "serve-dest p {port} {copies} {workers} {source_port}")?;
     let disks = (nowhere(alloc), formatted(alloc, 2)?);
-    Ok(call(rt, alloc, line.as_str(), disks, CountDraws::new(), 0, net)?)
+    let draws = draws(alloc, DEST_DRAWS, 0)?;
+    Ok(call(rt, alloc, line.as_str(), disks, draws, 0, net)?)
 }
 
 /// The client makes its copies once the destination's workers are at the source.
-fn copy_all<
-    R: Threads + Wait + Sync,
-    F: Source + Send + Drop,
-    T: Sink + Send + Drop,
-    N: Net<From = F, To = T>,
->(
+fn copy_all<R: Net<Listener = TcpListener, Stream = TcpStream> + Threads + Wait + Sync>(
     rt: &R,
     alloc: Global,
-    order: Order<'_>,
-    net: &mut N,
+    order: &Order,
+    net: &mut Caller<'_, R>,
     room: Option<&Room>,
 ) -> Result<Copied, Wrong> {
     if let Some(room) = room {
@@ -163,16 +206,22 @@ fn copy_all<
     copied
 }
 
-fn copy_each<
-    R: Threads + Wait + Sync,
-    F: Source + Send + Drop,
-    T: Sink + Send + Drop,
-    N: Net<From = F, To = T>,
->(rt: &R, alloc: Global, order: Order<'_>, net: &mut N) -> Result<Copied, Wrong> {
+fn copy_each<R: Net<Listener = TcpListener, Stream = TcpStream> + Threads + Wait + Sync>(
+    rt: &R,
+    alloc: Global,
+    order: &Order,
+    net: &mut Caller<'_, R>,
+) -> Result<Copied, Wrong> {
     let mut exact = 0_u32;
     let mut last = None;
-    for _ in 0..order.copies {
-        let left = copy(rt, alloc, order, net)?;
+    for number in 0..order.copies {
+        let left = copy(
+            rt,
+            alloc,
+            order,
+            u64::from(number).wrapping_mul(MOST_DRAWS),
+            net,
+        )?;
         if left.status == 0 && matches!(left.put.bytes(), b"stable\nexact\n") {
             exact = exact.saturating_add(1);
         }
@@ -184,17 +233,30 @@ fn copy_each<
     }
 }
 
-fn copy<
-    R: Threads + Wait + Sync,
-    F: Source + Send + Drop,
-    T: Sink + Send + Drop,
-    N: Net<From = F, To = T>,
->(rt: &R, alloc: Global, order: Order<'_>, net: &mut N) -> Mem<Left> {
+/// One copy by a client with the draws from this one on.
+fn copy<R: Net<Listener = TcpListener, Stream = TcpStream> + Threads + Wait + Sync>(
+    rt: &R,
+    alloc: Global,
+    order: &Order,
+    first: u64,
+    net: &mut Caller<'_, R>,
+) -> Mem<Left> {
     let (source, dest) = order.ports;
-    let line = format!(in alloc; "copy {source} {dest} {}", order.words)?;
-    let draws = MemDraws::new(Vec::new(alloc), vec![in alloc; order.draw]?);
+    let line = format!(in alloc; "copy {source} {dest} {}", order.words.as_str())?;
+    let draws = draws(alloc, first, order.draw)?;
     let disks = (nowhere(alloc), nowhere(alloc));
     call(rt, alloc, line.as_str(), disks, draws, order.put, net)
+}
+
+/// Draws from this number on. One of them fails, where its place isn't 0.
+fn draws(alloc: Global, first: u64, fails: u64) -> Mem<MemDraws> {
+    let mut draws = Vec::new(alloc);
+    for number in 0..MOST_DRAWS {
+        let mut draw = [0; 32];
+        draw[..8].copy_from_slice(&first.wrapping_add(number).to_be_bytes());
+        draws.push(draw)?;
+    }
+    Ok(MemDraws::new(draws, vec![in alloc; fails]?))
 }
 
 /// A disk that isn't used.
