@@ -13,7 +13,7 @@ mod running;
 mod volumes;
 
 use outcome::Mem;
-use row_text::{Rows, compare, word, words};
+use row_text::{word, words};
 use std::alloc::Global;
 use std::fmt::Write;
 use std::io;
@@ -23,38 +23,56 @@ use std::sync::Wait;
 use std::thread::Threads;
 use two_ends::Wrong;
 
-/// The table, with what its threads run by.
-#[derive(Drop)]
-struct Table<'a, R> {
-    rt: &'a R,
-}
-
-impl<'a, R: Net<Listener = TcpListener, Stream = TcpStream> + Threads + Wait + Sync> Table<'a, R> {
-    /// Adds what a line is answered by.
-    fn add(&self, alloc: Global, call: &str, text: &mut String) -> Result<(), Wrong> {
-        let words = words(alloc, call)?;
-        match word(&words, 0) {
-            "room" => rows::in_room(self.rt, alloc, &words, text),
-            "held" => rows::held(self.rt, alloc, &words, text),
-            "tcp" => rows::over_tcp(self.rt, alloc, &words, text),
-            "copy" => rows::copy(self.rt, alloc, &words, text),
-            "each" => rows::each(self.rt, alloc, &words, text),
-            _ => Err(Wrong::Lacks("such a call")),
-        }
+/// Adds what a line is answered by.
+fn answer<R: Net<Listener = TcpListener, Stream = TcpStream> + Threads + Wait + Sync>(
+    rt: &R,
+    alloc: Global,
+    call: &str,
+    text: &mut String,
+) -> Result<(), Wrong> {
+    let words = words(alloc, call)?;
+    match word(&words, 0) {
+        "room" => rows::in_room(rt, alloc, &words, text),
+        "held" => rows::held(rt, alloc, &words, text),
+        "tcp" => rows::over_tcp(rt, alloc, &words, text),
+        "copy" => rows::copy(rt, alloc, &words, text),
+        "each" => rows::each(rt, alloc, &words, text),
+        _ => Err(Wrong::Lacks("such a call")),
     }
 }
 
-impl<'a, R: Net<Listener = TcpListener, Stream = TcpStream> + Threads + Wait + Sync> Rows
-    for Table<'a, R> {
-    fn answer(&mut self, alloc: Global, call: &str) -> Mem<String> {
-        let mut text = String::new(alloc);
-        if let Err(why) = self.add(alloc, call, &mut text) {
-            write!(text, "{why:?}")?;
-        }
-        Ok(text)
+fn answered<R: Net<Listener = TcpListener, Stream = TcpStream> + Threads + Wait + Sync>(
+    rt: &R,
+    alloc: Global,
+    call: &str,
+) -> Mem<String> {
+    let mut text = String::new(alloc);
+    if let Err(why) = answer(rt, alloc, call, &mut text) {
+        write!(text, "{why:?}")?;
     }
+    Ok(text)
 }
 
 fn main(rt: HostRuntime) -> io::Result<()> {
-    compare(&rt, &mut Table { rt: &rt })
+    let mut tried = 0_u32;
+    let mut others = 0_u32;
+    for line in rt.lines(rt.alloc()) {
+        let line = line?;
+        let Some((call, wanted)) = line.as_str().split_once(" = ") else {
+            continue;
+        };
+        tried = tried.saturating_add(1);
+        match answered(&rt, rt.alloc(), call) {
+            Ok(given) if given.as_str() == wanted => {}
+            Ok(given) => {
+                others = others.saturating_add(1);
+                println!(rt; "{line} BUT {given}")?;
+            }
+            Err(_) => {
+                others = others.saturating_add(1);
+                println!(rt; "{line} BUT out of memory")?;
+            }
+        }
+    }
+    println!(rt; "{tried} lines, {others} answered otherwise")
 }

@@ -2,6 +2,7 @@
 
 use crate::room_net::RoomNet;
 use blind_disk::BlindDisk;
+use gss_mech::Realm;
 use net_links::{self, TcpNet};
 use nfscopy::{disks_suffice, nfscopy};
 use outcome::Mem;
@@ -52,13 +53,18 @@ pub fn call<R: Net<Listener = TcpListener, Stream = TcpStream> + Threads + Wait 
     fails: u64,
     caller: &mut Caller<'_, R>,
 ) -> Mem<Left> {
-    match caller {
-        Caller::Room(net) => call_over(rt, alloc, line, disks, draws, fails, net),
-        Caller::Tcp(net) => call_over(rt, alloc, line, disks, draws, fails, net),
-    }
+    let words = split(alloc, line)?;
+    let mech = realm(alloc)?;
+    let mut put = MemSink::new(alloc, vec![in alloc; fails]?);
+    let words = words.as_slice();
+    let (status, disks) = match caller {
+        Caller::Room(net) => call_over(rt, alloc, words, &mech, disks, draws, &mut put, net),
+        Caller::Tcp(net) => call_over(rt, alloc, words, &mech, disks, draws, &mut put, net),
+    };
+    Ok(Left { status, put, disks })
 }
 
-/// Calls the program over a net.
+/// The same over a net: the status, and the disks that are handed back.
 fn call_over<
     R: Threads + Wait + Sync,
     F: Source + Send + Drop,
@@ -67,16 +73,14 @@ fn call_over<
 >(
     rt: &R,
     alloc: Global,
-    line: &str,
+    words: &[String],
+    mech: &Realm,
     disks: (BlindDisk, BlindDisk),
     draws: MemDraws,
-    fails: u64,
+    put: &mut MemSink,
     net: &mut N,
-) -> Mem<Left> {
-    let words = split(alloc, line)?;
-    let mech = realm(alloc)?;
+) -> (u8, Disks<BlindDisk>) {
     let mut input = MemSource::new(Vec::new(alloc), Vec::new(alloc));
-    let mut put = MemSink::new(alloc, vec![in alloc; fails]?);
     let (source, dest) = disks;
     let mut disks = Disks {
         source: Some(source),
@@ -84,18 +88,9 @@ fn call_over<
     };
     disks_suffice::<BlindDisk>();
     let status = nfscopy(
-        rt,
-        alloc,
-        words.as_slice(),
-        &mut input,
-        &mut put,
-        &mut disks,
-        &mech,
-        StillClock,
-        draws,
-        net,
+        rt, alloc, words, &mut input, put, &mut disks, mech, StillClock, draws, net,
     );
-    Ok(Left { status, put, disks })
+    (status, disks)
 }
 
 fn split(alloc: Global, line: &str) -> Mem<Vec<String>> {
