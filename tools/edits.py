@@ -1,5 +1,5 @@
 #!/usr/bin/env python3
-"""Tries the edits that the gate leaves to be tried by hand: those of crates whose proof takes long, crates/NAME/must-fail-by-hand/*.edit.
+"""Tries the edits that the gate leaves to be tried by hand, crates/NAME/must-fail-by-hand/*.edit: docs/gate.md says which, and why.
 
     tools/edits.py [NAME..]     those of these crates, or of all that have some
 
