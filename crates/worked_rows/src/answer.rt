@@ -13,8 +13,6 @@ use outcome::{Mem, NoMemory};
 use std::alloc::Global;
 use std::collections::VecDeque;
 use std::marker::{Send, Sync};
-#[cfg(test)]
-use std::process::Abort;
 use std::sync::Wait;
 use std::thread::Threads;
 use streams::{Clock, CountDraws, MemSink, MemSource};
@@ -23,12 +21,10 @@ use wire_schedule::Schedule;
 use wire_xdr::Octets;
 
 /// A schedule of one copy of ten bytes.
-#[cfg(test)]
 pub const FIRST_COPY: &str =
     "# One copy of ten bytes over the wire: written at the source, landed and committed at the destination, shown there.\nvolume s 1 1\nvolume d 1 1\nwrite s 1 0 30313233343536373839\nflow 12\ncopy 1 1 0 1 0 10 c\nrounds 32\npeek d 1 0 10\n";
 
 /// What is put for it.
-#[cfg(test)]
 pub const FIRST_COPY_PUT: &str =
     "sent 1 cs INIT\nsent 2 sc INIT 0\nsent 3 cs EXCHANGE_ID\nsent 4 sc EXCHANGE_ID 0\nsent 5 cs CREATE_SESSION\nsent 6 sc CREATE_SESSION 0\nsent 7 cs RECLAIM_COMPLETE\nsent 8 sc RECLAIM_COMPLETE 0\nsent 9 cs GETFH\nsent 10 sc GETFH 0\nsent 11 cs WRITE\nsent 12 sc WRITE 0\nwritten s 1 10\nsent 13 cs CREATE\nsent 14 sc CREATE 0\nsent 15 cs COPY_NOTIFY\nsent 16 sc COPY_NOTIFY 0\nsent 17 cd INIT\nsent 18 dc INIT 0\nsent 19 cd EXCHANGE_ID\nsent 20 dc EXCHANGE_ID 0\nsent 21 cd CREATE_SESSION\nsent 22 dc CREATE_SESSION 0\nsent 23 cd RECLAIM_COMPLETE\nsent 24 dc RECLAIM_COMPLETE 0\nsent 25 cd GETFH\nsent 26 dc GETFH 0\nsent 27 cd CREATE\nsent 28 dc CREATE 0\nsent 29 cd COPY\naccepted 1.1 1 0 10\nsent 30 dc COPY 0\nsent 31 ds INIT\nstarted 1\nsent 32 sd INIT 0\nsent 33 ds EXCHANGE_ID\nsent 34 sd EXCHANGE_ID 0\nsent 35 ds CREATE_SESSION\nsent 36 sd CREATE_SESSION 0\nsent 37 ds CREATE\nsent 38 sd CREATE 0\nsent 39 ds GETATTR\nsent 40 sd GETATTR 0\nsized 1.1 10\nsent 41 ds READ\nsent 42 sd READ 0\nlanded 1.1 0 10\ncommitted 1.1\nsent 43 dc CB_OFFLOAD\nstable 1\nsent 44 cd CB_OFFLOAD 0\nsent 45 cs GETATTR\nreported 1.1\nsent 46 sc GETATTR 0\nexact 1\nbytes d 1 0 30313233343536373839\nend 46\n";
 
@@ -49,12 +45,27 @@ pub struct Answer {
     pub dest_calls: Option<u64>,
 }
 
-#[cfg(test)]
 impl Answer {
-    /// Asserts that the call ended with this status, and put this text and no other.
-    pub fn check(&self, rt: &impl Abort, name: &str, status: u8, put: &str) {
-        assert_eq!(rt; self.put.as_str(), put, "what is put at {name:?}");
-        assert_eq!(rt; self.status, status, "the status at {name:?}");
+    /// Whether the call ended with this status, and put this text and no other.
+    pub fn is(&self, status: u8, put: &str) -> bool {
+        self.status == status && self.put.as_str() == put
+    }
+}
+
+/// How many calls were made with faults planned, and how many of them were answered otherwise than is due.
+#[derive(Clone, Copy)]
+pub struct Tally {
+    pub tried: u32,
+    pub others: u32,
+}
+
+impl Tally {
+    /// Takes one.
+    pub fn take(&mut self, is_due: bool) {
+        self.tried = self.tried.saturating_add(1);
+        if !is_due {
+            self.others = self.others.saturating_add(1);
+        }
     }
 }
 
@@ -95,7 +106,6 @@ pub const GOOD_DISK: DiskPlan = DiskPlan {
 };
 
 /// Runs the program with these words over this input.
-#[cfg(test)]
 pub fn ask<R: Threads + Wait + Sync>(
     rt: &R,
     alloc: Global,

@@ -5,22 +5,23 @@
 //! `record N | TEXT | BYTES` for a record that goes out in its run; without bytes there is none of that number. Other
 //! lines say what holds of the rows that follow: `before TEXT` and `after TEXT` what stands around their texts, `words
 //! WORD..` the program's words or `words` that it has none, `fails SOURCE SINK` which call of either fails, `blocks SOURCE
-//! DEST` how large the disks are. The tests go over each call of a source, a sink or a disk that fails in turn.
+//! DEST` how large the disks are. Behind the rows are calls with words that are no command's, and calls over a source, a sink or a disk of
+//! which each call fails in turn.
 #![tactic(auto)]
 
 mod answer;
-#[cfg(test)]
 mod disks;
 mod escapes;
-#[cfg(test)]
 mod faults;
-#[cfg(test)]
 mod runner;
-#[cfg(test)]
 mod words;
 
-use crate::answer::{Answer, DiskPlan, Faults, GOOD_DISK, NO_FAULTS, ask_disks, record};
+use crate::answer::{Answer, DiskPlan, Faults, GOOD_DISK, NO_FAULTS, Tally, ask_disks, record};
+use crate::disks::{try_dest, try_formats, try_last_reads, try_source};
 use crate::escapes::spelled;
+use crate::faults::{try_reads, try_writes};
+use crate::runner::try_runner;
+use crate::words::try_words;
 use outcome::Mem;
 use std::alloc::Global;
 use std::io;
@@ -166,6 +167,25 @@ fn numbers(text: &str) -> Option<(u64, u64)> {
     Some((first.parse().ok()?, second.parse().ok()?))
 }
 
+/// The calls behind the rows.
+fn try_calls<R: Threads + Wait + Sync>(rt: &R, alloc: Global) -> Mem<Tally> {
+    let mut tally = Tally {
+        tried: 0,
+        others: 0,
+    };
+    try_words(rt, alloc, &mut tally)?;
+    for filling in [0, 5000, 20_000] {
+        try_reads(rt, alloc, filling, &mut tally)?;
+    }
+    try_writes(rt, alloc, &mut tally)?;
+    try_source(rt, alloc, &mut tally)?;
+    try_dest(rt, alloc, &mut tally)?;
+    try_last_reads(rt, alloc, &mut tally)?;
+    try_formats(rt, alloc, &mut tally)?;
+    try_runner(alloc, &mut tally)?;
+    Ok(tally)
+}
+
 fn main(rt: HostRuntime) -> io::Result<()> {
     let Ok(mut setting) = Setting::new(rt.alloc()) else {
         println!(rt; "out of memory")?;
@@ -189,5 +209,11 @@ fn main(rt: HostRuntime) -> io::Result<()> {
         }
     }
     println!(rt; "{rows} rows, {others} answered otherwise")?;
-    Ok(())
+    match try_calls(&rt, rt.alloc()) {
+        Ok(tally) => {
+            let Tally { tried, others } = tally;
+            println!(rt; "{tried} calls behind them, {others} answered otherwise")
+        }
+        Err(_) => println!(rt; "out of memory"),
+    }
 }

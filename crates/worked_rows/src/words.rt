@@ -1,8 +1,14 @@
-use crate::answer::{FIRST_COPY, NO_FAULTS, ask};
-use std::test::Fail;
+//! Words that are no command's: they are answered before anything is read.
 
-#[test]
-fn words(rt: HostRuntime) -> Result<(), Fail> {
+use crate::answer::{FIRST_COPY, NO_FAULTS, Tally, ask};
+use outcome::Mem;
+use std::alloc::Global;
+use std::marker::Sync;
+use std::sync::Wait;
+use std::thread::Threads;
+
+/// Calls with words that no command has, over a schedule.
+pub fn try_words<R: Threads + Wait + Sync>(rt: &R, alloc: Global, tally: &mut Tally) -> Mem<()> {
     for words in [
         &[][..],
         &[""][..],
@@ -39,10 +45,9 @@ fn words(rt: HostRuntime) -> Result<(), Fail> {
         &["copy", "2049", "2050", "1", "0", "1", "0", "10", "x"][..],
         &["copy", "2049", "2050", "1", "0", "1", "0", "-10", "c"][..],
     ] {
-        let text = Vec::from_slice(rt.alloc(), FIRST_COPY.as_bytes())?;
-        let answer = ask(&rt, rt.alloc(), words, text, NO_FAULTS)?;
-        answer.check(&rt, "words of no command", 1, "usage\n");
-        assert_eq!(rt; answer.takes, 0, "takes at {words:?}");
+        let text = Vec::from_slice(alloc, FIRST_COPY.as_bytes())?;
+        let answer = ask(rt, alloc, words, text, NO_FAULTS)?;
+        tally.take(answer.is(1, "usage\n") && answer.takes == 0);
     }
     Ok(())
 }
