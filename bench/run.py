@@ -27,10 +27,21 @@ def copy():
     return text + b"rounds 2112\nstatus 1\npeek d 1 67108863 1\n"
 
 
+def crashes():
+    """Ten thousand crashes, of both servers and under each pick, with a write at each server that is called anew behind every tenth."""
+    text = [b"volume s 1 16\nvolume d 1 16\n"]
+    for number in range(10_000):
+        text.append(b"crash %s %d\n" % (b"sd"[number % 2 : number % 2 + 1], number // 2 % 4))
+        if number % 10 == 9:
+            text.append(b"write s 1 %d a5\nwrite d 1 %d a5\nflow 3\n" % (number, number))
+    return b"".join(text)
+
+
 def main():
     program = nfscopy("run")
     print(f"{'schedule':10} {'bytes':>10} {'cat':>8} {'nfscopy':>8} {'ratio':>7} {'peak KiB':>9}")
-    rows = (("peeks", peeks(), INPUT_LIMIT), ("writes", writes(), INPUT_LIMIT), ("copy", copy(), 64 << 20))
+    hit = crashes()
+    rows = (("peeks", peeks(), INPUT_LIMIT), ("writes", writes(), INPUT_LIMIT), ("copy", copy(), 64 << 20), ("crashes", hit, len(hit)))
     for name, text, size in rows:
         base = timed_over(["cat"], bytes(size)).seconds
         ran = timed_over(program, text)

@@ -142,7 +142,25 @@ def loaded(file):
             found[crate.folder] = below(crate)
         return list(found[crate.folder])
 
+    stamp = library.Crate.stamp
+
+    def summed(crate):
+        """The sum of a crate and of those below it, each of which is read once a call."""
+        sums = {}
+
+        def of(it):
+            if it.folder not in sums:
+                sums[it.folder] = stamp(it)
+            return sums[it.folder]
+
+        library.Crate.stamp = of
+        try:
+            return of(crate)
+        finally:
+            library.Crate.stamp = summed
+
     library.Crate.below = once
+    library.Crate.stamp = summed
     library.lock = lambda crates: []
     return made, library
 

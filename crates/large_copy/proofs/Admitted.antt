@@ -4,7 +4,7 @@ use Rattle.std.proofs.lemmas.Bool.{and_from, lt-ltb, le-leb}
 use Rattle.std.specs.List.{flat_map, range_with_len}
 use Rattle.nfs_base.specs.declared.side.Side.{Side}
 use Rattle.nfs_base.specs.declared.side.Side.TheVariants.{Source, Dest}
-use Rattle.wire_schedule.specs.Admission.{admits, after, at_start, is_between, is_in_order, is_within, most_events}
+use Rattle.wire_schedule.specs.Admission.{admits, at_start, is_between, is_in_order, is_within, most_events}
 use Rattle.wire_schedule.specs.Expansion.{are_admitted, events_of, events_of_all}
 use Rattle.wire_schedule.specs.Spelling.{entries_from}
 use Rattle.wire_schedule.specs.declared.context.Context.{Context}

@@ -9,7 +9,7 @@ use Rattle.wire_schedule.specs.declared.directive.Directive.{Directive}
 use Rattle.wire_schedule.specs.declared.directive.Directive.TheVariants.{Once, Rounds}
 use Rattle.wire_schedule.specs.declared.event.Event.{Event}
 use Rattle.wire_schedule.specs.declared.event.Event.TheVariants.{Volume, Write, Copy, Flow, Work}
-use Rattle.large_copy.specs.Large.{blocks_of, copy, events_count, file_bytes, flows, flows_of, large_events, large_lines, large_schedule, rounds, rounds_of, singles_of, volumes, write, writes, writes_of}
+use Rattle.large_copy.specs.Large.{blocks_of, copy, events_count, file_bytes, flows, flows_of, large_events, large_lines, large_schedule, rounds, rounds_of, singles_of, volumes, writes, writes_of}
 use Rattle.large_copy.proofs.Admitted.{events_in, events_numbered}
 use Rattle.large_copy.proofs.Lines.{copy_at, dest_at, flow_at, length-flows, length-writes, source_at, write_at}
 

@@ -1,5 +1,5 @@
 -- Both servers have their one file behind the events of a large copy.
-use Rattle.std.proofs.Common.{◌≡◌, ℕ, zero, suc, ◌+◌, true, Option, Some, List, [], ◌∷◌, ◌++◌, replicate, map, refl, sym, ap, ◌∙◌}
+use Rattle.std.proofs.Common.{◌≡◌, ℕ, zero, suc, ◌+◌, true, Option, Some, List, [], ◌∷◌, ◌++◌, replicate, map, refl, ap, ◌∙◌}
 use Rattle.std.specs.List.{range_with_len}
 use Rattle.nfs_base.specs.declared.side.Side.{Side}
 use Rattle.nfs_base.specs.declared.side.Side.TheVariants.{Source, Dest}
@@ -10,7 +10,7 @@ use Rattle.wire_schedule.specs.declared.directive.Directive.{Directive}
 use Rattle.wire_schedule.specs.declared.directive.Directive.TheVariants.{Once, Rounds}
 use Rattle.wire_schedule.specs.declared.event.Event.{Event}
 use Rattle.wire_schedule.specs.declared.event.Event.TheVariants.{Flow, Work}
-use Rattle.large_copy.specs.Large.{copy, flows, flows_of, large_events, large_lines, rounds, rounds_of, write, writes, writes_of}
+use Rattle.large_copy.specs.Large.{copy, flows, flows_of, large_events, large_lines, rounds, rounds_of, write, writes_of}
 use Rattle.large_copy.proofs.Admitted.{events_in}
 use Rattle.large_copy.proofs.Events.{events_are}
 

@@ -3,3 +3,4 @@ pub mod Events
 mod Files
 mod Fitting
 pub mod Lines
+mod Quiet

@@ -1,5 +1,5 @@
 -- The schedule of one large copy, by its mebibytes: one file of the source is written, then copied to one of the destination. Own format.
-use Rattle.std.specs.Prelude.{ℕ, ◌+◌, ◌*◌, ◌%◌, true, List, [], ◌∷◌, ◌++◌, map, replicate}
+use Rattle.std.specs.Prelude.{ℕ, ◌+◌, ◌*◌, ◌%◌, Bool, true, false, List, [], ◌∷◌, ◌++◌, map, replicate}
 use Rattle.std.specs.List.{range_with_len}
 use Rattle.nfs_base.specs.declared.side.Side.TheVariants.{Source, Dest}
 use Rattle.wire_schedule.specs.declared.directive.Directive.{Directive}
@@ -7,7 +7,7 @@ use Rattle.wire_schedule.specs.declared.directive.Directive.TheVariants.{Once, R
 use Rattle.wire_schedule.specs.declared.directive.Entry.{Entry}
 use Rattle.wire_schedule.specs.Expansion.{events_of_all}
 use Rattle.wire_schedule.specs.declared.event.Event.{Event}
-use Rattle.wire_schedule.specs.declared.event.Event.TheVariants.{Volume, Write, Copy, Flow}
+use Rattle.wire_schedule.specs.declared.event.Event.TheVariants.{Volume, Write, Copy, Flow, Crash, CrashAfter}
 use Rattle.wire_schedule.specs.Spelling.{entries_from}
 
 -- so many bytes of the file, from an offset on: byte i of it is i mod 251
@@ -75,3 +75,9 @@ singles_of mebibytes = 3 + writes_of mebibytes + flows_of mebibytes
 
 abbrev pub events_count : ℕ → ℕ
 events_count mebibytes = singles_of mebibytes + 2 * rounds_of mebibytes
+
+-- a server stops in an event, or its fuse is set
+abbrev pub is_crash : Event → Bool
+is_crash (Crash side pick) = true
+is_crash (CrashAfter side calls pick) = true
+is_crash event = false

@@ -1,4 +1,5 @@
-ghost use Rattle.std.specs.Prelude.{ℕ, ◌≡◌, true, ◌≤◌, ◌∷◌, All, IsTrue, List, Ok};
+ghost use Rattle.std.specs.List.{list_any};
+ghost use Rattle.std.specs.Prelude.{ℕ, ◌≡◌, true, false, ◌≤◌, ◌∷◌, All, IsTrue, List, Ok};
 ghost use Rattle.nfs_base.specs.declared.side.Side.{Side};
 ghost use Rattle.nfs_base.specs.declared.side.Side.TheVariants.{Source, Dest};
 ghost use Rattle.wire_schedule.specs.Admission.{at_start, has_file};
@@ -8,7 +9,7 @@ ghost use Rattle.wire_schedule.specs.Spelling.{FitsFields, text_of};
 ghost use Rattle.wire_schedule.specs.declared.directive.Directive.TheVariants.{Once};
 ghost use Rattle.wire_schedule.specs.declared.directive.Entry.{Entry};
 ghost use Rattle.wire_schedule.specs.declared.event.Event.TheVariants.{Volume};
-ghost use Rattle.large_copy.specs.Large.{blocks_of, large_events, large_lines, large_schedule};
+ghost use Rattle.large_copy.specs.Large.{blocks_of, is_crash, large_events, large_lines, large_schedule};
 
 use wire_schedule::schedule_texts;
 
@@ -21,6 +22,11 @@ pub fn large_schedules_are_admitted()
 /// Behind them both servers have their one file.
 pub fn large_copies_have_files()
     ensures { (mebibytes : ℕ) (side : Side) → has_file (after_all at_start (large_events mebibytes)) side 1 ≡ true }
+{}
+
+/// None of them stops a server.
+pub fn large_schedules_stop_nobody()
+    ensures { (mebibytes : ℕ) → list_any is_crash (large_events mebibytes) ≡ false }
 {}
 
 /// The numbers of each of its events fit their types, and its bytes are bytes.

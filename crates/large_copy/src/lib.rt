@@ -11,5 +11,5 @@ mod laws;
 pub use large::LargeCopy;
 pub use laws::{
     large_copies_have_files, large_events_fit, large_schedules_are_admitted,
-    large_schedules_have_texts, large_schedules_name_disks,
+    large_schedules_have_texts, large_schedules_name_disks, large_schedules_stop_nobody,
 };

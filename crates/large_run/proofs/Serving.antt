@@ -10,9 +10,9 @@ use Rattle.wire_lines.specs.declared.line.Line.{Line}
 use Rattle.wire_machine.specs.Check.{Reading}
 use Rattle.wire_machine.specs.Lines.{lines_of}
 use Rattle.wire_machine.specs.Steps.{after_steps}
-use Rattle.wire_run.specs.Ends.{SourceState}
-use Rattle.wire_run.specs.Fresh.{Shape}
-use Rattle.wire_run.specs.Running.{IsCarriedOut, KeepsAt, RunMachines, RunWorld, Running, StepIs, VolumeIs, at_rest, fault_in, text_in, world_by, world_in, world_of}
+use Rattle.run_ends.specs.Ends.{RunMachines, RunWorld, SourceState}
+use Rattle.run_ends.specs.First.{Shape}
+use Rattle.wire_run.specs.Running.{Became, KeepsAt, Running, StepIs, VolumeIs, at_rest, text_in, world_by, world_in, world_of}
 use Rattle.wire_run.specs.declared.system.Stepped.{Stepped}
 use Rattle.wire_run.specs.declared.system.Stepped.TheVariants as stepped
 use Rattle.wire_schedule.specs.Admission.{admits, after, is_in_order, is_ready, is_within, most_events}
@@ -65,12 +65,6 @@ abbrev pub IsWent : Stepped → Type 0
 IsWent (stepped.Went text) = Unit {0}
 IsWent became = ⊥
 
-went_faultless : (became : Stepped) → IsWent became → fault_in became ≡ None
-went_faultless (stepped.Went text) went = refl
-went_faultless (stepped.OverLimit text) went = absurd went
-went_faultless (stepped.Mistaken text mistake) went = absurd went
-went_faultless (stepped.Unmade cause) went = absurd went
-
 module _ {D M : Type 0} (told : Type 0) (m : RunMachines M) (read : Reading) (faults size : D → ℕ) (mech : M) where
   -- ---- an event makes a server, or is one of their world
 
@@ -83,10 +77,10 @@ module _ {D M : Type 0} (told : Type 0) (m : RunMachines M) (read : Reading) (fa
 
   record Acts (old new : Running D M) (event : Event) (became : Stepped) : Type 0 where
     pub ready : is_ready old.context ≡ true
-    pub is : (before : RunWorld M) → world_in old ≡ Some before → IsCarriedOut told m read faults size old new before event became
+    pub is : (before : RunWorld M) → world_in old ≡ Some before → Became told m read faults size old new before event became
 
   acts : (old new : Running D M) (event : Event) (became : Stepped) (rest : Bool) → (is_ready old.context && rest) ≡ true
-      → ((before : RunWorld M) → world_in old ≡ Some before → IsCarriedOut told m read faults size old new before event became)
+      → ((before : RunWorld M) → world_in old ≡ Some before → Became told m read faults size old new before event became)
       → Makes old new event became ⊎ Acts old new event became
   acts old new event became rest order is = inr (record { ready = (and_parts (is_ready old.context) rest order).0; is = is })
 
@@ -104,6 +98,8 @@ module _ {D M : Type 0} (told : Type 0) (m : RunMachines M) (read : Reading) (fa
   kind_of old new (kinds.Work worker) became order is = inr (record { ready = order; is = is })
   kind_of old new (kinds.Tick seconds) became order is = inr (record { ready = order; is = is })
   kind_of old new (kinds.Peek side file off len) became order is = acts old new (kinds.Peek side file off len) became _ order is
+  kind_of old new (kinds.Crash side pick) became order is = inr (record { ready = order; is = is })
+  kind_of old new (kinds.CrashAfter side calls pick) became order is = inr (record { ready = order; is = is })
 
   -- ---- its text has whole lines
 
@@ -113,6 +109,18 @@ module _ {D M : Type 0} (told : Type 0) (m : RunMachines M) (read : Reading) (fa
   made_text side shape old new event (stepped.OverLimit text) made = absurd made
   made_text side shape old new event (stepped.Mistaken text mistake) made = absurd made
   made_text side shape old new event (stepped.Unmade cause) made = refl
+  made_text side shape old new event (stepped.Lost at cause) made = absurd made
+
+  carried_whole : ((lines : List Line) → IsWholeText (lines_text lines)) → (old new : Running D M) (event : Event) (became : Stepped) (world : RunWorld M)
+      → Became told m read faults size old new world event became → told → IsWholeText (text_in became)
+  carried_whole law old new event (stepped.Went text) world carried t =
+      subst (λ (x : List ℕ). IsWholeText x) (sym (carried.lines t)) (law (lines_of m world carried.steps))
+  carried_whole law old new event (stepped.OverLimit text) world carried t =
+      subst (λ (x : List ℕ). IsWholeText x) (sym (carried.lines t)) (law (lines_of m world carried.steps))
+  carried_whole law old new event (stepped.Mistaken text mistake) world carried t =
+      subst (λ (x : List ℕ). IsWholeText x) (sym (carried.lines t)) (law (lines_of m world carried.steps))
+  carried_whole law old new event (stepped.Unmade cause) world carried t = law []
+  carried_whole law old new event (stepped.Lost side cause) world lost t = law []
 
   whole_by : ((lines : List Line) → IsWholeText (lines_text lines)) → (old new : Running D M) (event : Event) (became : Stepped) → IsServed old
       → Makes old new event became ⊎ Acts old new event became → told → IsWholeText (text_in became)
@@ -121,8 +129,7 @@ module _ {D M : Type 0} (told : Type 0) (m : RunMachines M) (read : Reading) (fa
       (sym (made_text makes.side (record { files = makes.files; blocks = makes.blocks }) old new (kinds.Volume makes.side makes.files makes.blocks) became makes.made)) (law [])
   whole_by law old new event became served (inr acts) t =
       let world = world_there old served acts.ready in
-      let carried = acts.is world.0 world.1 in
-      subst (λ (text : List ℕ). IsWholeText text) (sym (carried.lines t)) (law (lines_of m world.0 carried.steps))
+      carried_whole law old new event became world.0 (acts.is world.0 world.1) t
 
   pub whole_text : ((lines : List Line) → IsWholeText (lines_text lines)) → (old new : Running D M) (event : Event) (became : Stepped) → IsTrue (admits old.context event)
       → IsServed old → StepIs told m read faults size mech old new event became → told → IsWholeText (text_in became)
@@ -153,6 +160,15 @@ module _ {D M : Type 0} (told : Type 0) (m : RunMachines M) (read : Reading) (fa
   made_served side files blocks old new (stepped.OverLimit text) went served context made = absurd went
   made_served side files blocks old new (stepped.Mistaken text mistake) went served context made = absurd went
   made_served side files blocks old new (stepped.Unmade cause) went served context made = absurd went
+  made_served side files blocks old new (stepped.Lost at cause) went served context made = absurd went
+
+  went_served : (old new : Running D M) (event : Event) (became : Stepped) (world : RunWorld M) → IsWent became
+      → Became told m read faults size old new world event became → IsServed new
+  went_served old new event (stepped.Went text) world went carried = served_in new (after_steps world carried.steps) (carried.world refl)
+  went_served old new event (stepped.OverLimit text) world went carried = absurd went
+  went_served old new event (stepped.Mistaken text mistake) world went carried = absurd went
+  went_served old new event (stepped.Unmade cause) world went carried = absurd went
+  went_served old new event (stepped.Lost side cause) world went lost = absurd went
 
   served_by : (old new : Running D M) (event : Event) (became : Stepped) → IsWent became → IsServed old → new.context ≡ after old.context event
       → Makes old new event became ⊎ Acts old new event became → IsServed new
@@ -161,8 +177,7 @@ module _ {D M : Type 0} (told : Type 0) (m : RunMachines M) (read : Reading) (fa
       (context ∙ ap (λ (e : Event). after old.context e) makes.is) makes.made
   served_by old new event became went served context (inr acts) =
       let world = world_there old served acts.ready in
-      let carried = acts.is world.0 world.1 in
-      served_in new (after_steps world.0 carried.steps) (carried.world (went_faultless became went))
+      went_served old new event became world.0 went (acts.is world.0 world.1)
 
   pub served_behind : (old new : Running D M) (event : Event) (became : Stepped) → IsWent became → IsTrue (admits old.context event) → IsServed old
       → new.context ≡ after old.context event → StepIs told m read faults size mech old new event became → IsServed new

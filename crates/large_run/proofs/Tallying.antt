@@ -11,7 +11,8 @@ use Rattle.wire_lines.specs.LineText.{lines_text}
 use Rattle.wire_lines.specs.declared.line.Line.{Line}
 use Rattle.wire_machine.specs.Check.{Reading}
 use Rattle.wire_machine.specs.Runs.{Numbered, numbered}
-use Rattle.wire_run.specs.Running.{HasDisks, RunMachines, Running, StepIs, context_after, mech_of, text_in}
+use Rattle.wire_run.specs.Running.{ArmsRight, HasDisks, Running, StepIs, context_after, mech_of, text_in}
+use Rattle.run_ends.specs.Ends.{RunMachines}
 use Rattle.wire_run.specs.Trace.{Happen, Happens, PutsLines, ended_by, events_at}
 use Rattle.wire_run.specs.declared.run.Ran.{Ran}
 use Rattle.wire_run.specs.declared.run.Ran.TheVariants as ran
@@ -161,12 +162,14 @@ module _ {D M : Type 0} (told : Type 0) (m : RunMachines M) (read : Reading) (fa
   puts_lines (stepped.OverLimit text) before = record { later = omega arith; put = inl (refl, refl) }
   puts_lines (stepped.Mistaken text mistake) before = record { later = omega arith; put = inl (refl, refl) }
   puts_lines (stepped.Unmade cause) before = (ap as_taken (append-nil before), refl)
+  puts_lines (stepped.Lost side cause) before = (ap as_taken (append-nil before), refl)
 
   never_whole : (became : Stepped) → ended_by 1 became ≡ Some ran.Whole → ⊥
   never_whole (stepped.Went text) is = cc
   never_whole (stepped.OverLimit text) is = cc
   never_whole (stepped.Mistaken text mistake) is = cc
   never_whole (stepped.Unmade cause) is = cc
+  never_whole (stepped.Lost side cause) is = cc
 
   -- what an event is, and its text with whole lines
   pub record OneLaws : Type 0 where
@@ -175,13 +178,13 @@ module _ {D M : Type 0} (told : Type 0) (m : RunMachines M) (read : Reading) (fa
     pub lines : (lines : List Line) → IsWholeText (lines_text lines)
 
   pub counts_one : OneLaws → (event : Event) (old new : Running D M) (became : Stepped) (first now : Tally) → IsTrue (admits old.context event) → IsServed old
-      → StepIs told m read faults size (mech_of old) old new event became → new.context ≡ context_after old.context event became → HasDisks new
+      → StepIs told m read faults size (mech_of old) old new event became → new.context ≡ context_after old.context event became → HasDisks new → ArmsRight old new event
       → now ≡ tallied (text_in became) first → Counts (event ∷ []) old new first now (ended_by 1 became)
-  counts_one laws event old new became first now admitted served is context disks counted = record {
+  counts_one laws event old new became first now admitted served is context disks arms counted = record {
     text = text_in became;
     happen = λ before.
         laws.one (record { line = 1; event = event }) old new (as_taken before) (as_taken (before ++ text_in became)) (ended_by 1 became)
-        (record { became = became; is = is; context = context; disks = disks; puts = puts_lines became before });
+        (record { became = became; is = is; context = context; disks = disks; arms = arms; puts = puts_lines became before });
     tally = λ t. counted;
     whole = whole_text told m read faults size (mech_of old) laws.lines old new event became admitted served is;
     ends = never_whole became;

@@ -6,7 +6,8 @@ use Rattle.streams.specs.Stream.{Taking}
 use Rattle.wire_machine.specs.Check.{Reading}
 use Rattle.wire_machine.specs.Runs.{numbered}
 use Rattle.wire_run.specs.Run.{RanHasCause, RanIs}
-use Rattle.wire_run.specs.Running.{RunMachines, Running}
+use Rattle.run_ends.specs.Ends.{RunMachines}
+use Rattle.wire_run.specs.Running.{Running}
 use Rattle.wire_tally.specs.Tally.{no_tally, tallied}
 
 -- a sink that took these bytes, and never failed

@@ -3,7 +3,8 @@ use Rattle.std.specs.Prelude.{◌≡◌, ◌≤◌, ◌+◌, ◌^◌, ℕ, true,
 use Rattle.large_run.specs.Large.{as_taken}
 use Rattle.wire_machine.specs.Check.{Reading}
 use Rattle.wire_machine.specs.Runs.{numbered}
-use Rattle.wire_run.specs.Running.{RunMachines, Running}
+use Rattle.run_ends.specs.Ends.{RunMachines}
+use Rattle.wire_run.specs.Running.{Running}
 use Rattle.wire_run.specs.Trace.{Happen}
 use Rattle.wire_run.specs.declared.run.Ran.{Ran}
 use Rattle.wire_run.specs.declared.run.Ran.TheVariants as ran

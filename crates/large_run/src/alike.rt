@@ -5,7 +5,7 @@ ghost use Rattle.large_run.specs.Alike.{AreAlike, AreAlikeAt, LeavesAll, MayDiff
 ghost use Rattle.wire_run.specs.Running.{HasDisks, Later};
 ghost use Rattle.wire_run.specs.System.{HasFile};
 
-use disk_model::Disk;
+use disk_model::CrashDisk;
 use gss_mech::Mechanism;
 use nfs_base::Side;
 use outcome::Mem;
@@ -17,7 +17,7 @@ const CHUNK: u64 = 65_536;
 
 /// Whether file 1 of the source and file 1 of the destination have the same bytes now. It is no step. It reads 64 KiB of each at a
 /// time, and stops at the first that differ, or that a broken volume or a fault of a disk keeps from being read.
-pub fn files_are_alike<D: Disk + Drop, M: Mechanism + Copy>(
+pub fn files_are_alike<D: CrashDisk + Drop, M: Mechanism + Copy>(
     system: &mut System<D, M>,
     alloc: Global,
 ) -> Mem<bool>
@@ -46,7 +46,7 @@ pub fn files_are_alike<D: Disk + Drop, M: Mechanism + Copy>(
 }
 
 /// Whether both files are shown from `off` on, and have the same bytes there. The bytes are left in `source` and `dest`.
-fn chunk_is_alike<D: Disk + Drop, M: Mechanism + Copy>(
+fn chunk_is_alike<D: CrashDisk + Drop, M: Mechanism + Copy>(
     system: &mut System<D, M>,
     off: u64,
     source: &mut [u8],

@@ -3,13 +3,13 @@ ghost use Rattle.large_copy.specs.Large.{large_events};
 ghost use Rattle.large_run.specs.Large.{RunsLarge};
 ghost use Rattle.large_run.specs.Tallying.{HasGrown, HasRoom, IsServed, Tallies};
 ghost use Rattle.wire_log.specs.Keeping.{reading};
-ghost use Rattle.wire_run.specs.Ends.{run_machines};
+ghost use Rattle.run_ends.specs.Ends.{run_machines};
 ghost use Rattle.wire_run.specs.Running.{at_rest, mech_of, HasDisks};
 ghost use Rattle.wire_schedule.specs.Admission.{admits, at_start};
 ghost use Rattle.wire_schedule.specs.Expansion.{after_all, are_admitted};
 ghost use Rattle.wire_tally.specs.Tally.{no_tally, tallied};
 
-use disk_model::Disk;
+use disk_model::CrashDisk;
 use gss_mech::Mechanism;
 use large_copy::{LargeCopy, large_schedules_are_admitted};
 use outcome::Mem;
@@ -32,7 +32,7 @@ pub struct Large {
 
 /// Carries out the schedule of a large copy, event by event, each made when it is due. The lines of its transcript are counted
 /// and not kept.
-pub fn run_large<D: Disk + Drop, M: Mechanism + Copy>(
+pub fn run_large<D: CrashDisk + Drop, M: Mechanism + Copy>(
     system: &mut System<D, M>,
     alloc: Global,
     plan: LargeCopy,
@@ -59,7 +59,7 @@ pub fn run_large<D: Disk + Drop, M: Mechanism + Copy>(
 }
 
 /// All events. None where the run goes on to its last line.
-fn tally_events<D: Disk + Drop, M: Mechanism + Copy>(
+fn tally_events<D: CrashDisk + Drop, M: Mechanism + Copy>(
     system: &mut System<D, M>,
     alloc: Global,
     plan: LargeCopy,
@@ -86,7 +86,7 @@ fn tally_events<D: Disk + Drop, M: Mechanism + Copy>(
 }
 
 /// One event. None where the run goes on.
-fn tally_event<D: Disk + Drop, M: Mechanism + Copy>(
+fn tally_event<D: CrashDisk + Drop, M: Mechanism + Copy>(
     system: &mut System<D, M>,
     alloc: Global,
     event: &Event,
@@ -117,6 +117,7 @@ fn tally_event<D: Disk + Drop, M: Mechanism + Copy>(
             Ok(Some(Ran::Mistaken(mistake)))
         }
         Stepped::Unmade(cause) => Ok(Some(Ran::Unmade(cause))),
+        Stepped::Lost { cause, .. } => Ok(Some(Ran::Lost(cause))),
     }
 }
 

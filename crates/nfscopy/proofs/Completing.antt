@@ -59,7 +59,10 @@ module _ {D M : Type 0} (w : DiskWords D) (r : RunWords M) (before now : Outside
   free_ends events did ends.NoVolume blamed is free =
       elim is [
         | inl short ↦ absurd (some_is_not_none (small_of w r before events) short.first short.is free.room)
-        | inr unreadable ↦ absurd (unreadable.untold free.told)
+        | inr other ↦ elim other [
+          | inl unreadable ↦ absurd (unreadable.untold free.told)
+          | inr unopened ↦ absurd (unopened.untold free.told)
+        ]
       ]
 
   input_completes : (input : Option Input) (end : RunEnd) → CarriesOut w r before now input end → Completes w r before now input end

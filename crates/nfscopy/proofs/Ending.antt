@@ -22,7 +22,7 @@ use Rattle.wire_run.specs.declared.fresh.Unmade.{Unmade}
 use Rattle.wire_run.specs.declared.fresh.Unmade.TheVariants as unmade
 use Rattle.wire_run.specs.declared.run.Ran.{Ran}
 use Rattle.wire_run.specs.declared.run.Ran.TheVariants as ran
-use Rattle.wire_run.specs.declared.setting.TheConstants.{SOURCE_TAG, DEST_TAG}
+use Rattle.run_ends.specs.declared.setting.TheConstants.{SOURCE_TAG, DEST_TAG}
 use Rattle.wire_schedule.specs.ScheduleText.{schedule_of}
 use Rattle.nfscopy.specs.declared.ends.RunEnd.{RunEnd}
 use Rattle.nfscopy.specs.declared.ends.RunEnd.TheVariants as ends
@@ -32,7 +32,7 @@ use Rattle.nfscopy.specs.Notice.{bad_line_text, mistaken_text, too_much_text}
 use Rattle.volume_format.specs.DiskWords.{DiskWords}
 use Rattle.nfscopy.specs.Outside.{Outside, SameDisks, DiskRose, disk_at}
 use Rattle.nfscopy.specs.Puts.{LastPut, LinePut, UnmadePut, EndPut}
-use Rattle.nfscopy.specs.RunEnds.{RunWords, Blamed, PutsRun, PutsFront, FrontOfSmall, small_of, RunEndIs, CarriesOut}
+use Rattle.nfscopy.specs.RunEnds.{RunWords, Blamed, PutsRun, PutsFront, FrontOfSmall, StopsAsked, small_of, RunEndIs, CarriesOut}
 
 -- ---- bytes that are put in parts
 
@@ -69,6 +69,12 @@ later_same w d = record { there = refl; rose = omega arith; as_large = refl }
 
 none_blamed : 0 ≤ 0 + 0
 none_blamed = omega arith
+
+-- nothing was done, so that nothing stopped
+none_asked : {D M : Type 0} (w : DiskWords D) (r : RunWords M) (input : Option Input) → StopsAsked w r input no_did
+none_asked w r None = tt
+none_asked w r (Some (Ok events)) = λ none. refl
+none_asked w r (Some (Err line)) = tt
 
 -- the disks are as they were, and no call on them was made
 untouched : {D M : Type 0} (w : DiskWords D) (r : RunWords M) (before now : Outside D) → now.source ≡ before.source → now.dest ≡ before.dest
@@ -119,6 +125,7 @@ starved w r before now input keeps source dest =
     record {
       did = no_did;
       blamed = λ other. absurd (other refl);
+      asked = λ other. absurd (other refl);
       is = starved_puts w r before now input no_did keeps (record { source = source; dest = dest });
     }
 
@@ -131,13 +138,14 @@ cut_off {M = M} w r before now events mech same out =
     record {
       did = cut.did;
       blamed = λ other. absurd (other refl);
+      asked = λ other. absurd (other refl);
       is = λ told. inr (inl (cut.puts told));
     }
 
 pub schedule_starved : {D M : Type 0} (w : DiskWords D) (r : RunWords M) (before now : Outside D) (events : List Numbered) → Keeps before.taken now.taken
     → CarriesOut w r before now (Some (Ok events)) ends.NoMemory
 schedule_starved w r before now events keeps =
-    record { did = no_did; blamed = λ other. absurd (other refl); is = λ told. inl keeps }
+    record { did = no_did; blamed = λ other. absurd (other refl); asked = λ other. absurd (other refl); is = λ told. inl keeps }
 
 -- ---- a run that ended, and its last line
 
@@ -173,7 +181,7 @@ module _ {D M : Type 0} (w : DiskWords D) (r : RunWords M) (before now : Outside
 
   carried : (end : RunEnd) (result : Ran) (i : Is result)
       → RunEndIs w r before now (Some (Ok events)) i.did end → CarriesOut w r before now (Some (Ok events)) end
-  carried end result i is = record { did = i.did; blamed = λ other. blame result i; is = is }
+  carried end result i is = record { did = i.did; blamed = λ other. blame result i; asked = λ other. i.asked; is = is }
 
   named : (a b : RunEnd) → a ≡ b → CarriesOut w r before now (Some (Ok events)) b → CarriesOut w r before now (Some (Ok events)) a
   named a b same c = subst (λ (e : RunEnd). CarriesOut w r before now (Some (Ok events)) e) (sym same) c
@@ -351,7 +359,7 @@ module _ {D M : Type 0} (w : DiskWords D) (r : RunWords M) (before now : Outside
       let untold = i.puts in
       named end ends.NoVolume all.end_is
       (carried ends.NoVolume (ran.Unmade (unmade.NotVolume block at)) i
-      (inr (record { untold = untold.0; block = block; at = at; puts = kept_appends before.taken middle now.taken _ untold.1 all.puts })))
+      (inr (inl (record { untold = untold.0; block = block; at = at; puts = kept_appends before.taken middle now.taken _ untold.1 all.puts }))))
   put_unreadable block at end i (inl (inr front)) =
       let untold = i.puts in
       named end ends.WriteFault front.end_is
@@ -374,9 +382,52 @@ module _ {D M : Type 0} (w : DiskWords D) (r : RunWords M) (before now : Outside
       → UnmadePut middle now.taken count now.writes cause end → CarriesOut w r before now (Some (Ok events)) end
   unmade_ends unmade.DiskFailed end i why none =
       named end ends.DiskFault none.end_is
-      (carried ends.DiskFault (ran.Unmade unmade.DiskFailed) i (disk_rose why, Keeps-trans before.taken middle now.taken i.puts none.keeps, tt))
+      (carried ends.DiskFault (ran.Unmade unmade.DiskFailed) i (disk_rose why, inl (Keeps-trans before.taken middle now.taken i.puts none.keeps)))
   unmade_ends (unmade.TooSmall need have) end i why line = put_small need have end i line
   unmade_ends (unmade.NotVolume block at) end i why line = put_unreadable block at end i line
+
+  -- ---- a server that stopped couldn't be opened anew
+
+  lost_unreadable : (block at : ℕ) (end : RunEnd) (i : Is (ran.Lost (unmade.NotVolume block at)))
+      → LinePut middle now.taken count now.writes (not_volume_text block at) ends.NoVolume end → CarriesOut w r before now (Some (Ok events)) end
+  lost_unreadable block at end i (inl (inl all)) =
+      let lost = i.puts in
+      named end ends.NoVolume all.end_is
+      (carried ends.NoVolume (ran.Lost (unmade.NotVolume block at)) i
+      (inr (inr (record {
+        untold = lost.0;
+        stops = lost.1;
+        block = block;
+        at = at;
+        lines = lost.2;
+        puts = Appends-trans before.taken middle now.taken lost.2 (not_volume_text block at) lost.3 all.puts;
+      }))))
+  lost_unreadable block at end i (inl (inr front)) =
+      let lost = i.puts in
+      named end ends.WriteFault front.end_is
+      (carried ends.WriteFault (ran.Lost (unmade.NotVolume block at)) i
+      (rose_late before.writes count now.writes le front.rose, λ told. absurd (lost.0 told)))
+  lost_unreadable block at end i (inr none) =
+      let lost = i.puts in
+      named end ends.NoMemory none.end_is
+      (carried ends.NoMemory (ran.Lost (unmade.NotVolume block at)) i (λ told. absurd (lost.0 told)))
+
+  lost_ends : (cause : Unmade) (end : RunEnd) (i : Is (ran.Lost cause)) → RanHasCause w.faults old new before.writes count (ran.Lost cause)
+      → UnmadePut middle now.taken count now.writes cause end → CarriesOut w r before now (Some (Ok events)) end
+  lost_ends unmade.DiskFailed end i why none =
+      let lost = i.puts in
+      named end ends.DiskFault none.end_is
+      (carried ends.DiskFault (ran.Lost unmade.DiskFailed) i (
+        disk_rose why,
+        inr (record {
+          stops = lost.1;
+          lines = lost.2;
+          puts = appends_kept before.taken middle now.taken lost.2 lost.3 none.keeps;
+          are = lost.4;
+        }),
+      ))
+  lost_ends (unmade.TooSmall need have) end i why line = absurd i.puts.0
+  lost_ends (unmade.NotVolume block at) end i why line = lost_unreadable block at end i line
 
   by_answer : (result : Ran) (end : RunEnd) → Is result → RanHasCause w.faults old new before.writes count result → count ≤ now.writes
       → EndPut middle now.taken count now.writes result end → CarriesOut w r before now (Some (Ok events)) end
@@ -384,6 +435,7 @@ module _ {D M : Type 0} (w : DiskWords D) (r : RunWords M) (before now : Outside
   by_answer (ran.OverLimit line) end i why later put = over_ends line end i put
   by_answer ran.WriteFault end i why later put = fault_ends end i why later put
   by_answer (ran.Unmade cause) end i why later put = unmade_ends cause end i why put
+  by_answer (ran.Lost cause) end i why later put = lost_ends cause end i why put
   by_answer (ran.Mistaken mistake) end i why later put = mistaken_ends mistake end i put
 
   -- how a run ends, by its answer; its mechanism is the one that is spoken of
@@ -417,8 +469,14 @@ untold w r before now input did ends.Mistaken is = tt
 untold w r before now input did ends.ReadFault is = is
 untold w r before now input did ends.WriteFault is = (is.0, tt)
 untold w r before now input did ends.NoMemory is = tt
-untold w r before now input did ends.DiskFault is = (is.0, is.1, tt)
+untold w r before now input did ends.DiskFault is = (is.0, tt)
 untold w r before now input did ends.NoVolume is = tt
+
+-- less is said of stops then, too
+asked_of : {D M : Type 0} (w : DiskWords D) (r : RunWords M) (input : Input) (did : Did) (left : Option (List ℕ))
+    → IfSome left (λ text. asked text ≡ input) → StopsAsked w r (Some input) did → StopsAsked w r (option_map asked left) did
+asked_of w r input did None told is = tt
+asked_of w r input did (Some text) told is = subst (λ (i : Input). StopsAsked w r (Some i) did) (sym told) is
 
 told_of : {D M : Type 0} (w : DiskWords D) (r : RunWords M) (before now : Outside D) (input : Input) (did : Did) (end : RunEnd) (left : Option (List ℕ))
     → IfSome left (λ text. asked text ≡ input) → RunEndIs w r before now (Some input) did end
@@ -437,6 +495,7 @@ ends_of w r before now input end told carried =
     record {
       did = carried.did;
       blamed = carried.blamed;
+      asked = λ other. asked_of w r input carried.did before.left told (carried.asked other);
       is = told_of w r before now input carried.did end before.left told carried.is;
     }
 
@@ -461,6 +520,7 @@ line_carried w r before now end owed line same source dest (inl all) =
     (record {
       did = no_did;
       blamed = λ other. untouched w r before now source dest;
+      asked = λ other. none_asked w r (Some (Err owed));
       is = (subst (λ (l : List ℕ). Appends before.taken now.taken l) same all.puts, record { source = source; dest = dest });
     })
 line_carried w r before now end owed line same source dest (inr front) =
@@ -468,6 +528,7 @@ line_carried w r before now end owed line same source dest (inr front) =
     (record {
       did = no_did;
       blamed = λ other. untouched w r before now source dest;
+      asked = λ other. none_asked w r (Some (Err owed));
       is = (front.rose, (subst (λ (l : List ℕ). AppendsFront before.taken now.taken l) same front.puts, record { source = source; dest = dest }));
     })
 
@@ -496,6 +557,7 @@ failed_ends w r before now rose keeps source dest =
     record {
       did = no_did;
       blamed = λ other. untouched w r before now source dest;
+      asked = λ other. none_asked w r (option_map asked before.left);
       is = (rose, keeps, record { source = source; dest = dest });
     }
 

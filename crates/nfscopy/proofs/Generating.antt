@@ -1,10 +1,12 @@
 -- How `gen` ends, put together from the run of the large copy, what was counted of it, and what was put.
-use Rattle.std.proofs.Common.{◌≡◌, ◌≢◌, inl, inr, ℕ, ◌+◌, ◌≤◌, List, [], ◌∷◌, true, false, refl, sym, ◌∙◌, ap, subst, arith}
+use Rattle.std.proofs.Common.{◌≡◌, ◌≢◌, inl, inr, ℕ, ◌+◌, ◌≤◌, Bool, ◌||◌, List, [], ◌∷◌, true, false, refl, sym, ◌∙◌, ap, subst, arith}
 use Rattle.std.specs.Prelude.{Option, None, Some, IfSome, is_some}
 use Rattle.std.specs.Io.KnownBytes.{Appends, Keeps}
+use Rattle.std.proofs.lemmas.Bool.{or_parts}
+use Rattle.std.specs.List.{list_any}
 use Rattle.std.specs.Option.{option_map_or}
 use Rattle.copy_model.specs.Volume.{Volume, file_at}
-use Rattle.large_copy.specs.Large.{blocks_of, large_schedule}
+use Rattle.large_copy.specs.Large.{blocks_of, is_crash, large_events, large_schedule}
 use Rattle.large_run.specs.Alike as found
 use Rattle.large_run.specs.Large.{RunsLarge}
 use Rattle.large_run.specs.declared.large.Large.{Large}
@@ -13,19 +15,22 @@ use Rattle.nfs_base.specs.declared.side.Side.TheVariants.{Source, Dest}
 use Rattle.outcome.specs.Causes.{Rose, RoseBy}
 use Rattle.wire_machine.specs.Check.{Reading}
 use Rattle.wire_machine.specs.Runs.{numbered}
+use Rattle.wire_machine.specs.declared.choice.Choice.{Choice}
 use Rattle.wire_machine.specs.declared.mistake.Mistake.{Mistake}
-use Rattle.wire_run.specs.Run.{Did, RanHasCause, RanIs, asks_for, volume_in}
-use Rattle.wire_run.specs.Running.{HasDisks, Later, RunMachines, Running, disk_of, faults_in}
+use Rattle.wire_run.specs.Run.{Did, RanHasCause, RanIs, asks_for, is_stop, stops_in, stops_server, volume_in}
+use Rattle.wire_run.specs.Running.{HasDisks, Later, Running, disk_of, faults_in}
+use Rattle.run_ends.specs.Ends.{RunMachines}
 use Rattle.wire_run.specs.System.{Holds, shown_at}
 use Rattle.wire_run.specs.declared.fresh.Unmade.{Unmade}
 use Rattle.wire_run.specs.declared.fresh.Unmade.TheVariants as unmade
 use Rattle.wire_run.specs.declared.run.Ran.{Ran}
 use Rattle.wire_run.specs.declared.run.Ran.TheVariants as ran
-use Rattle.wire_run.specs.declared.setting.TheConstants.{SOURCE_TAG, DEST_TAG}
+use Rattle.run_ends.specs.declared.setting.TheConstants.{SOURCE_TAG, DEST_TAG}
 use Rattle.wire_schedule.specs.Expansion.{events_of_all}
 use Rattle.wire_schedule.specs.ScheduleText.{entry}
 use Rattle.wire_schedule.specs.declared.directive.Directive.TheVariants.{Once}
 use Rattle.wire_schedule.specs.declared.directive.Entry.{Entry}
+use Rattle.wire_schedule.specs.declared.event.Event.{Event}
 use Rattle.wire_schedule.specs.declared.event.Event.TheVariants as kinds
 use Rattle.wire_tally.specs.Tally.{no_tally, tallied}
 use Rattle.nfscopy.specs.Ends.{CopyWords, Ends, EndsAs, ServiceWords}
@@ -95,9 +100,51 @@ pub asks_by : (mebibytes : ℕ) (more : List Entry) (side : Side)
 asks_by mebibytes more Source is = ap (λ (entries : List Entry). asks_for Source (numbered 1 (events_of_all entries))) is
 asks_by mebibytes more Dest is = ap (λ (entries : List Entry). asks_for Dest (numbered 1 (events_of_all entries))) is
 
+-- ---- it stops no server
+
+-- an event that is no crash doesn't
+unstopping : (event : Event) → is_crash event ≡ false → stops_server event ≡ false
+unstopping (kinds.Volume side files blocks) none = refl
+unstopping (kinds.Write side file off bytes) none = refl
+unstopping (kinds.Commit side file) none = refl
+unstopping (kinds.Copy copy spec) none = refl
+unstopping (kinds.Status copy) none = refl
+unstopping (kinds.Cancel copy) none = refl
+unstopping kinds.Retry none = refl
+unstopping (kinds.Deliver number) none = refl
+unstopping kinds.Flow none = refl
+unstopping (kinds.Work worker) none = refl
+unstopping (kinds.Tick seconds) none = refl
+unstopping (kinds.Peek side file off len) none = refl
+unstopping (kinds.Crash side pick) none = absurd cc
+unstopping (kinds.CrashAfter side calls pick) none = absurd cc
+
+none_of : (line : ℕ) (events : List Event) → list_any is_crash events ≡ false → stops_in (numbered line events) ≡ false
+none_of line [] none = refl
+none_of line (event ∷ events) none =
+    let parts = or_parts (is_crash event) (list_any is_crash events) none in
+    ap (λ (b : Bool). b || stops_in (numbered line events)) (unstopping event parts.0) ∙ none_of line events parts.1
+
+pub quiet_by : (mebibytes : ℕ) → list_any is_crash (large_events mebibytes) ≡ false → stops_in (gen_events mebibytes) ≡ false
+quiet_by mebibytes none = none_of 1 (large_events mebibytes) none
+
+-- so no run of it loses one
+pub never_lost : {D M : Type 0} (told : Type 0) (m : RunMachines M) (read : Reading) (faults size : D → ℕ) (mech : M) (mebibytes : ℕ) (old new : Running D M) (large : Large)
+    (cause : Unmade) → RunsLarge told m read faults size mech mebibytes old new large → large.ran ≡ ran.Lost cause
+    → list_any is_crash (large_events mebibytes) ≡ false → ⊥
+never_lost told m read faults size mech mebibytes old new large cause runs is none =
+    let lost = subst (λ (x : Ran). RanIs told m read faults size mech (gen_events mebibytes) old new (Some []) (Some runs.lines) x) is runs.is in
+    let stops = lost.puts.1 in
+    let quiet = quiet_by mebibytes none in
+    cc
+
 -- ---- the end
 
 module _ {D M : Type 0} (w : DiskWords D) (r : RunWords M) (mebibytes : ℕ) (before now : Outside D) where
+  -- no small step of what was done stopped a server
+  abbrev NoneStopped : Did → Type 0
+  NoneStopped did = list_any (λ (choice : Choice). is_stop choice) did.choices ≡ false
+
   -- what is owed, with what the disks did
   abbrev OwesBy : Did → Option Owing → Type 0
   OwesBy did None = DiskRose w before now
@@ -106,6 +153,7 @@ module _ {D M : Type 0} (w : DiskWords D) (r : RunWords M) (mebibytes : ℕ) (be
   pub record Settled (owing : Option Owing) : Type 0 where
     pub did : Did
     pub blamed : Blamed w r before now did
+    pub unstopped : NoneStopped did
     pub owes : OwesBy did owing
 
   put_whole : (did : Did) (due : GenEnd) (text : List ℕ) → Owes w r mebibytes before now did due text → Appends before.taken now.taken text
@@ -118,26 +166,26 @@ module _ {D M : Type 0} (w : DiskWords D) (r : RunWords M) (mebibytes : ℕ) (be
   put_whole did ends.NoMemory text owes puts = absurd owes
   put_whole did ends.DiskFault text owes puts = absurd owes
 
-  carried : (did : Did) (end result : GenEnd) → result ≡ end → Blamed w r before now did → GenEndIs w r mebibytes before now did end
+  carried : (owing : Option Owing) (settled : Settled owing) (end result : GenEnd) → result ≡ end → GenEndIs w r mebibytes before now settled.did end
       → GenCarriesOut w r mebibytes before now result
-  carried did end result same blamed is =
+  carried owing settled end result same is =
       subst (λ (e : GenEnd). GenCarriesOut w r mebibytes before now e) (sym same)
-      (record { did = did; blamed = λ other. blamed; is = is })
+      (record { did = settled.did; blamed = λ other. settled.blamed; unstopped = λ other. settled.unstopped; is = is })
 
   -- memory ran out, and nothing was put
   pub starved : Keeps before.taken now.taken → GenCarriesOut w r mebibytes before now ends.NoMemory
-  starved keeps = record { did = no_did; blamed = λ other. absurd (other refl); is = keeps }
+  starved keeps = record { did = no_did; blamed = λ other. absurd (other refl); unstopped = λ other. absurd (other refl); is = keeps }
 
   put_ends : (owing : Option Owing) (result : GenEnd) → Settled owing → OwedPut before.taken now.taken before.writes now.writes owing result
       → GenCarriesOut w r mebibytes before now result
-  put_ends None result settled (inl none) = carried settled.did ends.DiskFault result none.end_is settled.blamed (settled.owes, none.keeps)
-  put_ends None result settled (inr none) = carried settled.did ends.NoMemory result none.end_is settled.blamed none.keeps
+  put_ends None result settled (inl none) = carried None settled ends.DiskFault result none.end_is (settled.owes, none.keeps)
+  put_ends None result settled (inr none) = carried None settled ends.NoMemory result none.end_is none.keeps
   put_ends (Some owing) result settled (inl all) =
-      carried settled.did owing.end result all.end_is settled.blamed (put_whole settled.did owing.end owing.text settled.owes all.puts)
+      carried (Some owing) settled owing.end result all.end_is (put_whole settled.did owing.end owing.text settled.owes all.puts)
   put_ends (Some owing) result settled (inr (inl front)) =
-      carried settled.did ends.WriteFault result front.end_is settled.blamed
+      carried (Some owing) settled ends.WriteFault result front.end_is
       (front.rose, record { due = owing.end; text = owing.text; owed = settled.owes; puts = front.puts })
-  put_ends (Some owing) result settled (inr (inr none)) = carried settled.did ends.NoMemory result none.end_is settled.blamed none.keeps
+  put_ends (Some owing) result settled (inr (inr none)) = carried (Some owing) settled ends.NoMemory result none.end_is none.keeps
 
   -- ---- the run, and a look at both files behind it
 
@@ -145,7 +193,7 @@ module _ {D M : Type 0} (w : DiskWords D) (r : RunWords M) (mebibytes : ℕ) (be
       (now_dest : now.dest ≡ new.dest) (had : HasDisks old) (there : HasDisks new)
       (source_holds : w.told → Holds w.timeline w.size SOURCE_TAG (shown_at new.source_state new.dest_state Source) now.source)
       (dest_holds : w.told → Holds w.timeline w.size DEST_TAG (shown_at new.source_state new.dest_state Dest) now.dest)
-      (asks : (side : Side) → asks_for side (gen_events mebibytes) ≡ true)
+      (asks : (side : Side) → asks_for side (gen_events mebibytes) ≡ true) (quiet : stops_in (gen_events mebibytes) ≡ false)
       (middle : Running D M) (lines : List ℕ)
       (source_later : Later w.faults w.size 0 middle.source new.source) (dest_later : Later w.faults w.size 0 middle.dest new.dest) where
     abbrev Is : Ran → Type 0
@@ -209,6 +257,7 @@ module _ {D M : Type 0} (w : DiskWords D) (r : RunWords M) (mebibytes : ℕ) (be
         record {
           did = i.did;
           blamed = blame ran.Whole i;
+          unstopped = i.asked quiet;
           owes = (
             summary,
             refl,
@@ -227,6 +276,7 @@ module _ {D M : Type 0} (w : DiskWords D) (r : RunWords M) (mebibytes : ℕ) (be
         record {
           did = i.did;
           blamed = blame (ran.OverLimit line) i;
+          unstopped = i.asked quiet;
           owes = (
             refl,
             λ told.
@@ -240,6 +290,7 @@ module _ {D M : Type 0} (w : DiskWords D) (r : RunWords M) (mebibytes : ℕ) (be
         record {
           did = i.did;
           blamed = blame (ran.Mistaken mistake) i;
+          unstopped = i.asked quiet;
           owes = (
             mistake,
             refl,
@@ -261,12 +312,13 @@ module _ {D M : Type 0} (w : DiskWords D) (r : RunWords M) (mebibytes : ℕ) (be
     unmade_settled : (cause : Unmade) → Is (ran.Unmade cause) → RanHasCause w.faults old middle 0 0 (ran.Unmade cause) → new ≡ middle
         → Settled (owing_for (summed.Unmade cause))
     unmade_settled unmade.DiskFailed i why same =
-        record { did = i.did; blamed = blame (ran.Unmade unmade.DiskFailed) i; owes = disk_rose same why }
+        record { did = i.did; blamed = blame (ran.Unmade unmade.DiskFailed) i; unstopped = i.asked quiet; owes = disk_rose same why }
     unmade_settled (unmade.TooSmall need have) i why same =
         let short = i.puts in
         record {
           did = i.did;
           blamed = blame (ran.Unmade (unmade.TooSmall need have)) i;
+          unstopped = i.asked quiet;
           owes = inl (record {
             first = record { side = short.side; need = need; have = have };
             is = small_at w r before (gen_events mebibytes) old.source old.dest source dest ∙ short.is;
@@ -278,6 +330,7 @@ module _ {D M : Type 0} (w : DiskWords D) (r : RunWords M) (mebibytes : ℕ) (be
         record {
           did = i.did;
           blamed = blame (ran.Unmade (unmade.NotVolume block at)) i;
+          unstopped = i.asked quiet;
           owes = inr (record { untold = i.puts.0; block = block; at = at; line = refl });
         }
 
@@ -296,13 +349,13 @@ module _ {D M : Type 0} (w : DiskWords D) (r : RunWords M) (mebibytes : ℕ) (be
       (now_dest : now.dest ≡ new.dest) (had : HasDisks old) (there : HasDisks new)
       (source_holds : w.told → Holds w.timeline w.size SOURCE_TAG (shown_at new.source_state new.dest_state Source) now.source)
       (dest_holds : w.told → Holds w.timeline w.size DEST_TAG (shown_at new.source_state new.dest_state Dest) now.dest)
-      (asks : (side : Side) → asks_for side (gen_events mebibytes) ≡ true) (mech : M) → mech ≡ r.mech → (result : Summed) (end : GenEnd)
+      (asks : (side : Side) → asks_for side (gen_events mebibytes) ≡ true) (quiet : stops_in (gen_events mebibytes) ≡ false) (mech : M) → mech ≡ r.mech → (result : Summed) (end : GenEnd)
       → Sums w.told r.machines r.read w.faults w.size mech mebibytes old new result
       → OwedPut before.taken now.taken before.writes now.writes (owing_for result) end → GenCarriesOut w r mebibytes before now end
-  summed_ends old new source dest now_source now_dest had there source_holds dest_holds asks mech same result end sums put =
+  summed_ends old new source dest now_source now_dest had there source_holds dest_holds asks quiet mech same result end sums put =
       let s = subst (λ (m : M). Sums w.told r.machines r.read w.faults w.size m mebibytes old new result) same sums in
       put_ends (owing_for result) end
-      (summed_settled old new source dest now_source now_dest had there source_holds dest_holds asks s.middle s.ran.lines s.source s.dest
+      (summed_settled old new source dest now_source now_dest had there source_holds dest_holds asks quiet s.middle s.ran.lines s.source s.dest
       result s.large s.ran.is s.ran.cause s.ran.tally s.is) put
 
 -- what the top call says for words that ask for it

@@ -9,8 +9,8 @@ use Rattle.nfscopy.specs.RunEnds.{KeepsIf, RunWords, RunsKeep}
 use Rattle.run_client.specs.Accepted.{AreAccepted}
 use Rattle.run_promise.specs.Promise.{KeepsPromise}
 use Rattle.wire_machine.specs.Runs.{End, Numbered, Runs, events_in, numbered}
-use Rattle.wire_run.specs.Run.{IsFirst}
-use Rattle.wire_run.specs.Running.{RunStep, RunWorld}
+use Rattle.run_ends.specs.First.{IsFirst}
+use Rattle.run_ends.specs.Ends.{RunStep, RunWorld}
 use Rattle.wire_schedule.specs.Admission.{after, at_start}
 use Rattle.wire_schedule.specs.Expansion.{events_of, events_of_all}
 use Rattle.wire_schedule.specs.ScheduleText.{schedule_of}

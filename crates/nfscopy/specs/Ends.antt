@@ -44,7 +44,7 @@ use Rattle.nfscopy.specs.GenEnds.{GenEnds, gen_events}
 use Rattle.nfscopy.specs.Input.{asked}
 use Rattle.nfscopy.specs.Notice.{usage_text}
 use Rattle.volume_format.specs.DiskWords.{DiskWords}
-use Rattle.wire_run.specs.Setting.{dest_name, dest_place, dest_source, source_peers, source_place, user}
+use Rattle.run_ends.specs.Setting.{dest_name, dest_place, dest_source, source_peers, source_place, user}
 use Rattle.nfscopy.specs.Outside.{Outside, SameDisks, SameInput}
 use Rattle.nfscopy.specs.RunEnds.{KeepsIf, RunEnds, RunWords, RunsKeep}
 use Rattle.nfscopy.specs.ShowEnds.{ShowEnds}

@@ -1,6 +1,7 @@
 -- How `gen` ends: for each end why it came, what was put, and what became of the disks.
 use Rattle.std.specs.Prelude.{◌≡◌, ◌≢◌, ◌⊎◌, ◌+◌, ℕ, true, false, None, Some, List, ◌++◌}
 use Rattle.std.specs.Io.KnownBytes.{Keeps, Appends}
+use Rattle.std.specs.List.{list_any}
 use Rattle.outcome.specs.Causes.{Rose, RoseBy}
 use Rattle.streams.specs.Sink.{AppendsFront}
 use Rattle.copy_model.specs.Volume.{file_at}
@@ -8,12 +9,13 @@ use Rattle.large_copy.specs.Large.{large_events}
 use Rattle.nfs_base.specs.declared.side.Side.{Side}
 use Rattle.nfs_base.specs.declared.side.Side.TheVariants.{Source, Dest}
 use Rattle.wire_machine.specs.Runs.{End, MistakenBy, Numbered, TooLargeAt, Whole, last_line, numbered}
+use Rattle.wire_machine.specs.declared.choice.Choice.{Choice}
 use Rattle.wire_machine.specs.declared.mistake.Mistake.{Mistake}
 use Rattle.wire_run.specs.Fresh.{Small}
-use Rattle.wire_run.specs.Run.{Did, ScheduleRuns, Volumes, volume_in}
+use Rattle.wire_run.specs.Run.{Did, ScheduleRuns, Volumes, is_stop, volume_in}
 use Rattle.wire_run.specs.Running.{faults_in}
 use Rattle.wire_run.specs.System.{DiskHolds}
-use Rattle.wire_run.specs.declared.setting.TheConstants.{SOURCE_TAG, DEST_TAG}
+use Rattle.run_ends.specs.declared.setting.TheConstants.{SOURCE_TAG, DEST_TAG}
 use Rattle.wire_tally.specs.Tally.{no_tally, tallied}
 use Rattle.volume_format.specs.Lines.{not_volume_text, small_text}
 use Rattle.nfscopy.specs.Notice.{mistaken_text, too_much_text}
@@ -115,10 +117,11 @@ module _ {D M : Type 0} (w : DiskWords D) (r : RunWords M) (mebibytes : ℕ) whe
   GenEndIs before now did ends.DiskFault = DiskRose w before now × Keeps before.taken now.taken
   GenEndIs before now did end = PutsAllOf before now did end
 
-  -- What became of the schedule, with the run's own choices.
+  -- What became of the schedule, with the run's own choices. No server stops in it.
   pub record GenCarriesOut (before now : Outside D) (end : GenEnd) : Type 0 where
     pub did : Did
     pub blamed : end ≢ ends.NoMemory → Blamed w r before now did
+    pub unstopped : end ≢ ends.NoMemory → list_any (λ (choice : Choice). is_stop choice) did.choices ≡ false
     pub is : GenEndIs before now did end
 
   -- where nothing hinders its run, the summary is put, but for want of memory

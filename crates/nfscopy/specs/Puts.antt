@@ -18,7 +18,7 @@ LastPut old new before now line end result = AllPut old new line end result ⊎ 
 abbrev pub LinePut : Option (List ℕ) → Option (List ℕ) → (before now : ℕ) → List ℕ → RunEnd → RunEnd → Type 0
 LinePut old new before now line end result = LastPut old new before now line end result ⊎ NonePut old new ends.NoMemory result
 
--- why a volume wasn't made
+-- why a volume wasn't made, or a server that stopped wasn't opened anew
 abbrev pub UnmadePut : Option (List ℕ) → Option (List ℕ) → (before now : ℕ) → Unmade → RunEnd → Type 0
 UnmadePut old new before now unmade.DiskFailed result = NonePut old new ends.DiskFault result
 UnmadePut old new before now (unmade.TooSmall need have) result = LinePut old new before now (small_text need have) ends.NoVolume result
@@ -30,4 +30,5 @@ EndPut old new before now ran.Whole result = NonePut old new ends.Done result
 EndPut old new before now (ran.OverLimit line) result = LinePut old new before now (bad_line_text line) ends.OverLimit result
 EndPut old new before now ran.WriteFault result = NonePut old new ends.WriteFault result
 EndPut old new before now (ran.Unmade cause) result = UnmadePut old new before now cause result
+EndPut old new before now (ran.Lost cause) result = UnmadePut old new before now cause result
 EndPut old new before now (ran.Mistaken mistake) result = LinePut old new before now (mistaken_text mistake) ends.Mistaken result

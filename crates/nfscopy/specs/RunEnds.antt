@@ -1,22 +1,24 @@
 -- How `run` ends: for each end why it came, what was put, and what became of the disks.
-use Rattle.std.specs.Prelude.{◌≡◌, ◌≢◌, ◌⊎◌, ◌≤◌, ◌+◌, ℕ, true, Option, None, Some, is_some, Ok, Err, List, ◌++◌, take, option_map}
+use Rattle.std.specs.Prelude.{◌≡◌, ◌≢◌, ◌⊎◌, ◌≤◌, ◌+◌, ℕ, true, false, Option, None, Some, is_some, Ok, Err, List, ◌++◌, take, option_map}
 use Rattle.std.specs.Io.KnownBytes.{Keeps, Appends, IsAtEnd}
+use Rattle.std.specs.List.{list_any}
 use Rattle.outcome.specs.Causes.{Rose}
 use Rattle.streams.specs.Sink.{AppendsFront}
 use Rattle.nfs_base.specs.declared.side.Side.TheVariants.{Source, Dest}
 use Rattle.wire_machine.specs.Check.{Reading}
 use Rattle.wire_machine.specs.Runs.{End, Numbered, Whole, TooLargeAt, MistakenBy, last_line}
+use Rattle.wire_machine.specs.declared.choice.Choice.{Choice}
 use Rattle.wire_machine.specs.declared.mistake.Mistake.{Mistake}
 use Rattle.gss_ctx.specs.Seals.{Mic}
 use Rattle.gss_mech.specs.declared.mechanism.Accepted.{Accepted}
 use Rattle.wire_log.specs.Keeping.{reading}
 use Rattle.run_promise.specs.Promise.{KeepsPromise}
-use Rattle.wire_run.specs.Ends.{Words, count_gives, run_machines, words_of}
+use Rattle.run_ends.specs.Ends.{RunMachines, Words, count_gives, run_machines, words_of}
 use Rattle.wire_run.specs.Fresh.{Small}
-use Rattle.wire_run.specs.Run.{Did, RunsFront, ScheduleRuns, Volumes, asks_for, first_small}
+use Rattle.wire_run.specs.Run.{Did, IsBefore, RunsFront, ScheduleRuns, Volumes, asks_for, first_small, is_stop, stops_in}
 use Rattle.wire_run.specs.System.{DiskHolds}
-use Rattle.wire_run.specs.declared.setting.TheConstants.{SOURCE_TAG, DEST_TAG}
-use Rattle.wire_run.specs.Running.{Later, RunMachines, failed_steps, size_in}
+use Rattle.run_ends.specs.declared.setting.TheConstants.{SOURCE_TAG, DEST_TAG}
+use Rattle.wire_run.specs.Running.{Later, failed_steps, size_in}
 use Rattle.nfscopy.specs.declared.ends.RunEnd.{RunEnd}
 use Rattle.nfscopy.specs.declared.ends.RunEnd.TheVariants as ends
 use Rattle.nfscopy.specs.Input.{Input, asked, IfSchedule, IfRefused}
@@ -119,6 +121,22 @@ module _ {D M : Type 0} (w : DiskWords D) (r : RunWords M) where
     pub at : ℕ
     pub puts : Appends before.taken now.taken (not_volume_text block at)
 
+  -- A server that stopped couldn't be opened anew: all lines of the events before that one were put.
+  pub record PutsBefore (before now : Outside D) (events : List Numbered) : Type 0 where
+    pub stops : stops_in events ≡ true
+    pub lines : List ℕ
+    pub puts : Appends before.taken now.taken lines
+    pub are : w.told → IsBefore r.machines r.read r.mech events lines
+
+  -- the same, where its disk didn't give back what was written, which is told by a last line
+  pub record PutsUnopened (before now : Outside D) (events : List Numbered) : Type 0 where
+    pub untold : w.told → ⊥
+    pub stops : stops_in events ≡ true
+    pub block : ℕ
+    pub at : ℕ
+    pub lines : List ℕ
+    pub puts : Appends before.taken now.taken (lines ++ not_volume_text block at)
+
   -- what an end says; want of memory, which is status 5, has no cause
   abbrev pub RunEndIs : Outside D → Outside D → Option Input → Did → RunEnd → Type 0
   RunEndIs before now input did ends.Done = IfSchedule input (RunDone before now did)
@@ -128,9 +146,10 @@ module _ {D M : Type 0} (w : DiskWords D) (r : RunWords M) where
   RunEndIs before now input did ends.ReadFault = Rose before.reads now.reads × Keeps before.taken now.taken × SameDisks before now
   RunEndIs before now input did ends.WriteFault = Rose before.writes now.writes × PutsFront before now input did
   RunEndIs before now input did ends.NoMemory = PutsFront before now input did
-  RunEndIs before now input did ends.DiskFault = DiskRose w before now × Keeps before.taken now.taken × IfSchedule input (λ events. Unit {0})
+  RunEndIs before now input did ends.DiskFault =
+      DiskRose w before now × IfSchedule input (λ events. Keeps before.taken now.taken ⊎ PutsBefore before now events)
   RunEndIs before now input did ends.NoVolume =
-      IfSchedule input (λ events. PutsSmall before now (small_of before events) ⊎ PutsUnreadable before now)
+      IfSchedule input (λ events. PutsSmall before now (small_of before events) ⊎ (PutsUnreadable before now ⊎ PutsUnopened before now events))
 
   -- The disks that were handed in are handed back, as large as before; and whatever a disk tells of what it holds, no more calls of a
   -- run failed at it than its count of faults rose by. Each small step in which a call failed is one at a disk.
@@ -141,10 +160,17 @@ module _ {D M : Type 0} (w : DiskWords D) (r : RunWords M) where
     pub dest : Later w.faults w.size (did.failed Dest) before.dest now.dest
     pub blamed : failed_steps did.choices ≤ did.failed Source + did.failed Dest
 
+  -- No small step stopped a server, unless a line of the schedule asks for that.
+  abbrev pub StopsAsked : Option Input → Did → Type 0
+  StopsAsked None did = Unit {0}
+  StopsAsked (Some (Ok events)) did = stops_in events ≡ false → list_any (λ (choice : Choice). is_stop choice) did.choices ≡ false
+  StopsAsked (Some (Err line)) did = Unit {0}
+
   -- What became of an input that is told or not, with the run's own choices.
   pub record CarriesOut (before now : Outside D) (input : Option Input) (end : RunEnd) : Type 0 where
     pub did : Did
     pub blamed : end ≢ ends.NoMemory → Blamed before now did
+    pub asked : end ≢ ends.NoMemory → StopsAsked input did
     pub is : RunEndIs before now input did end
 
   -- Nothing hinders the run of a schedule: its disks tell what they hold and have room for their volumes, no count of faults rises,

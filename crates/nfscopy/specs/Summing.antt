@@ -5,7 +5,8 @@ use Rattle.large_run.specs.Alike.{AreAlike, LeavesAll, MayDiffer}
 use Rattle.large_run.specs.Large.{RunsLarge}
 use Rattle.large_run.specs.declared.large.Large.{Large}
 use Rattle.wire_machine.specs.Check.{Reading}
-use Rattle.wire_run.specs.Running.{Later, RunMachines, Running}
+use Rattle.wire_run.specs.Running.{Later, Running}
+use Rattle.run_ends.specs.Ends.{RunMachines}
 use Rattle.wire_run.specs.declared.fresh.Unmade.TheVariants as unmade
 use Rattle.wire_run.specs.declared.run.Ran.TheVariants as ran
 use Rattle.volume_format.specs.Lines.{not_volume_text, small_text}

@@ -14,7 +14,7 @@ use crate::ends::format_code;
 use crate::generate::generate;
 use crate::run::run;
 use crate::show::show;
-use disk_model::Disk;
+use disk_model::{CrashDisk, Disk};
 use gss_mech::Mechanism;
 use large_copy::LargeCopy;
 use std::alloc::Global;
@@ -23,7 +23,7 @@ use volume_format::{NewVolume, format};
 use wire_run::Disks;
 
 /// `run`: reads a schedule, carries it out over the two disks and puts its transcript.
-pub fn do_run<S: Source, K: Sink, D: Disk + Drop, M: Mechanism>(
+pub fn do_run<S: Source, K: Sink, D: CrashDisk + Drop, M: Mechanism>(
     alloc: Global,
     input: &mut S,
     output: &mut K,
@@ -43,7 +43,7 @@ pub fn do_run<S: Source, K: Sink, D: Disk + Drop, M: Mechanism>(
 }
 
 /// `gen N`: carries out the schedule of a large copy over the two disks, and puts its summary.
-pub fn do_gen<K: Sink, D: Disk + Drop, M: Mechanism>(
+pub fn do_gen<K: Sink, D: CrashDisk + Drop, M: Mechanism>(
     alloc: Global,
     plan: LargeCopy,
     output: &mut K,

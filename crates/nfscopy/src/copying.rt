@@ -15,9 +15,9 @@ use gss_mech::Mechanism;
 use linked_copy::{CopyEnd, CopyOrder, copy_over};
 use net_links::Net;
 use outcome::Mem;
+use run_ends::{dest_place, source_place, user};
 use std::alloc::Global;
 use streams::{Clock, Draws, Sink, Source};
-use wire_run::{dest_place, source_place, user};
 
 /// Makes a copy over links that are dialed for it.
 pub(crate) fn copy<

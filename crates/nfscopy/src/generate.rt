@@ -5,16 +5,17 @@ ghost use Rattle.volume_format.specs.DiskWords.{disk_words};
 ghost use Rattle.nfscopy.specs.RunEnds.{run_words, RunsKeep};
 ghost use Rattle.nfscopy.specs.Summing.{owing_for, OwedPut, Owes, Sums};
 ghost use Rattle.wire_log.specs.Keeping.{reading};
-ghost use Rattle.wire_run.specs.Ends.{run_machines};
+ghost use Rattle.run_ends.specs.Ends.{run_machines};
 ghost use Rattle.wire_run.specs.Running.{at_rest, mech_of, HasDisks};
 
 use crate::ends::GenEnd;
 use crate::notice::{mistaken_line, too_much};
 use crate::summary::Summary;
-use disk_model::Disk;
+use disk_model::CrashDisk;
 use gss_mech::Mechanism;
 use large_copy::{
     LargeCopy, large_copies_have_files, large_schedules_have_texts, large_schedules_name_disks,
+    large_schedules_stop_nobody,
 };
 use large_run::{Large, files_are_alike, run_large};
 use outcome::{Mem, NoMemory};
@@ -50,7 +51,7 @@ pub(crate) struct Owed {
 }
 
 /// Carries out the schedule of a large copy over the two disks, and puts its summary.
-pub(crate) fn generate<K: Sink, D: Disk + Drop, M: Mechanism>(
+pub(crate) fn generate<K: Sink, D: CrashDisk + Drop, M: Mechanism>(
     alloc: Global,
     plan: LargeCopy,
     output: &mut K,
@@ -70,6 +71,7 @@ pub(crate) fn generate<K: Sink, D: Disk + Drop, M: Mechanism>(
     schedules_are_accepted();
     large_schedules_have_texts();
     large_schedules_name_disks();
+    large_schedules_stop_nobody();
     let _mebibytes = plan.mebibytes();
     let handed = Disks {
         source: disks.source.take(),
@@ -87,7 +89,7 @@ pub(crate) fn generate<K: Sink, D: Disk + Drop, M: Mechanism>(
 }
 
 /// Runs the schedule, and looks at both files behind a whole run.
-fn sum_up<D: Disk + Drop, M: Mechanism + Copy>(
+fn sum_up<D: CrashDisk + Drop, M: Mechanism + Copy>(
     system: &mut System<D, M>,
     alloc: Global,
     plan: LargeCopy,
@@ -98,6 +100,7 @@ fn sum_up<D: Disk + Drop, M: Mechanism + Copy>(
     ensures there { IfOk result (λ summed. HasDisks system.new) }
 {
     large_copies_have_files();
+    large_schedules_stop_nobody();
     let Large { ran, tally } = run_large(system, alloc, plan)?;
     match ran {
         Ran::Whole => {
@@ -113,6 +116,7 @@ fn sum_up<D: Disk + Drop, M: Mechanism + Copy>(
         Ran::OverLimit { .. } => Ok(Summed::OverLimit),
         Ran::Mistaken(mistake) => Ok(Summed::Mistaken(mistake)),
         Ran::Unmade(cause) => Ok(Summed::Unmade(cause)),
+        Ran::Lost(_) => unreachable!(),
         Ran::WriteFault => unreachable!(),
     }
 }

@@ -12,7 +12,7 @@ ghost use Rattle.wire_schedule.specs.ScheduleText.{schedule_of};
 
 use crate::ends::{RunEnd, UsageEnd};
 use crate::notice::{bad_line, mistaken_line, too_much_line, usage_line};
-use disk_model::Disk;
+use disk_model::CrashDisk;
 use gss_mech::Mechanism;
 use nfs_base::INPUT_LIMIT;
 use outcome::NoMemory;
@@ -36,7 +36,7 @@ pub(crate) fn usage<K: Sink>(output: &mut K) -> UsageEnd
 }
 
 /// Reads a schedule, carries it out over the two disks and puts its transcript. Codes are those of the mechanism.
-pub(crate) fn run<S: Source, K: Sink, D: Disk + Drop, M: Mechanism>(
+pub(crate) fn run<S: Source, K: Sink, D: CrashDisk + Drop, M: Mechanism>(
     alloc: Global,
     input: &mut S,
     output: &mut K,
@@ -64,7 +64,7 @@ pub(crate) fn run<S: Source, K: Sink, D: Disk + Drop, M: Mechanism>(
 }
 
 /// Carries out the schedule of a text, and puts its transcript.
-fn run_text<K: Sink, D: Disk + Drop, M: Mechanism>(
+fn run_text<K: Sink, D: CrashDisk + Drop, M: Mechanism>(
     alloc: Global,
     text: &[u8],
     output: &mut K,
@@ -87,7 +87,7 @@ fn run_text<K: Sink, D: Disk + Drop, M: Mechanism>(
 }
 
 /// Carries out a schedule, and puts its transcript. The disks are handed back, but for want of memory.
-fn run_schedule<K: Sink, D: Disk + Drop, M: Mechanism>(
+fn run_schedule<K: Sink, D: CrashDisk + Drop, M: Mechanism>(
     alloc: Global,
     schedule: &Schedule,
     output: &mut K,
@@ -126,7 +126,7 @@ fn put_end<K: Sink>(alloc: Global, ran: Ran, output: &mut K) -> RunEnd
         Ran::Whole => RunEnd::Done,
         Ran::OverLimit { line } => put_bad(alloc, BadLine { line }, output, RunEnd::OverLimit),
         Ran::WriteFault => RunEnd::WriteFault,
-        Ran::Unmade(cause) => put_unmade(alloc, cause, output),
+        Ran::Unmade(cause) | Ran::Lost(cause) => put_unmade(alloc, cause, output),
         Ran::Mistaken(mistake) => match mistaken_line(alloc, mistake) {
             Ok(line) => put_last(output, line.as_bytes(), RunEnd::Mistaken),
             Err(NoMemory) => RunEnd::NoMemory,

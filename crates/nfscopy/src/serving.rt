@@ -9,7 +9,7 @@ ghost use Rattle.server_volume.specs.Store.{seat_of};
 ghost use Rattle.source_core.specs.Location.{IsShort};
 ghost use Rattle.source_server.specs.Serving.{net_words, ServeEnds};
 ghost use Rattle.volume_format.specs.DiskWords.{disk_words};
-ghost use Rattle.wire_run.specs.Setting.{dest_name, dest_place, dest_source, source_peers, source_place};
+ghost use Rattle.run_ends.specs.Setting.{dest_name, dest_place, dest_source, source_peers, source_place};
 
 use crate::command::DestOrder;
 use crate::ends::serve_code;
@@ -18,13 +18,13 @@ use disk_model::Disk;
 use gss_mech::Mechanism;
 use net_links::Net;
 use outcome::Mem;
+use run_ends::{dest_name, dest_place, dest_source, source_peers, source_place};
 use source_server::{Acquaintance, ServeEnd, serve_source};
 use std::alloc::Global;
 use std::marker::{Send, Sync};
 use std::sync::Wait;
 use std::thread::Threads;
 use streams::{Clock, Draws, Sink, Source};
-use wire_run::{dest_name, dest_place, dest_source, source_peers, source_place};
 
 /// Serves the volume on the disk in the source's place to so many connections.
 pub(crate) fn serve_as_source<

@@ -16,7 +16,7 @@ use crate::commands::{do_format, do_gen, do_run, do_show};
 use crate::copying::copy;
 use crate::run::usage;
 use crate::serving::{serve_as_dest, serve_as_source};
-use disk_model::Disk;
+use disk_model::CrashDisk;
 use gss_mech::Mechanism;
 use net_links::Net;
 use std::alloc::Global;
@@ -41,7 +41,7 @@ pub fn nfscopy<
     R: Threads + Wait + Sync,
     S: Source,
     K: Sink,
-    D: Disk + Drop + Send,
+    D: CrashDisk + Drop + Send,
     M: Mechanism + Sync,
     C: Clock + Drop + Send,
     W: Draws + Drop + Send,

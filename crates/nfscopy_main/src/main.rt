@@ -8,7 +8,7 @@ ghost use Rattle.nfscopy.specs.Command.{command_of, is_copy, is_format, service_
 ghost use Rattle.nfscopy.specs.Ends.{HasDisks};
 ghost use Rattle.volume_format.specs.DiskWords.{disk_words};
 
-use disk_model::{Disk, FileDisk, MemoryDisk};
+use disk_model::{CrashDisk, FileDisk, MemoryDisk};
 use gss_mech::Realm;
 use net_links::TcpNet;
 use nfs_base::Side;
@@ -74,7 +74,7 @@ fn words(rt: &(impl Env + AllocGlobal)) -> io::Result<Vec<String>> {
 }
 
 /// Does what the words ask for over these disks and this net, with these threads, and answers the exit status.
-fn call<R: Threads + Wait + Sync, D: Disk + Drop + Send>(
+fn call<R: Threads + Wait + Sync, D: CrashDisk + Drop + Send>(
     rt: &HostRuntime,
     threads: &R,
     words: &[String],

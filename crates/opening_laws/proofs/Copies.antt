@@ -81,14 +81,14 @@ module _ (spell : Spelling) (meaning : Meaning) (base : ℕ) (own : System) (i :
   job_after : (j : ℕ) → base ≤ j → s.job (suc k) j ≡ own.job (suc i) (j - base)
   job_after j behind = subst (λ (n : ℕ). s.job (suc k) n ≡ own.job (suc i) (j - base)) (place j behind) (goes.after.job (j - base))
 
-  reach_at : (j : ℕ) → base ≤ j → s.reach j ≡ own.reach (j - base)
-  reach_at j behind = subst (λ (n : ℕ). s.reach n ≡ own.reach (j - base)) (place j behind) (goes.reach (j - base))
-
   was_made : (j : ℕ) → j < s.made k → base ≤ j → j - base < own.made i
   was_made j there behind = omega (arith, there, behind, goes.before.made)
 
   is_made : (j : ℕ) → j < s.made (suc k) → base ≤ j → j - base < own.made (suc i)
   is_made j there behind = omega (arith, there, behind, goes.after.made)
+
+  reach_at : (j : ℕ) → j < s.made (suc k) → base ≤ j → s.reach j ≡ own.reach (j - base)
+  reach_at j there behind = subst (λ (n : ℕ). s.reach n ≡ own.reach (j - base)) (place j behind) (goes.reach (j - base) (is_made j there behind))
 
   behind_made : (j : ℕ) → s.made k ≤ j → base ≤ j
   behind_made j new = omega (arith, new, goes.before.made)
@@ -251,12 +251,13 @@ module _ (spell : Spelling) (meaning : Meaning) (base : ℕ) (own : System) (i :
 
     -- ---- rooms
 
-    apart_behind : (j l : ℕ) → base ≤ j → base ≤ l → AreApart own (suc i) (j - base) (l - base) → AreApart s (suc k) j l
-    apart_behind j l first second apart =
+    apart_behind : (j l : ℕ) → j < l → l < s.made (suc k) → base ≤ j → base ≤ l → AreApart own (suc i) (j - base) (l - base)
+        → AreApart s (suc k) j l
+    apart_behind j l later there first second apart =
         let j_plan = plan_after j first in
         let l_plan = plan_after l second in
-        let j_reach = reach_at j first in
-        let l_reach = reach_at l second in
+        let j_reach = reach_at j (omega (arith, later, there)) first in
+        let l_reach = reach_at l there second in
         λ byte j_from j_to l_from l_to.
         apart byte (subst (λ (p : Plan). p.dst_off ≤ byte) j_plan j_from)
         (subst (λ (n : ℕ). byte < (plan_at own (suc i) (j - base)).dst_off + n) j_reach (subst (λ (p : Plan). byte < p.dst_off + s.reach j) j_plan j_to))
@@ -271,7 +272,7 @@ module _ (spell : Spelling) (meaning : Meaning) (base : ℕ) (own : System) (i :
           absurd (false≢true (sym (lost_stays (s.job (suc k) j) gone) ∙ live))
       | inr behind ↦
           let second = behind_made l new in
-          apart_behind j l behind second
+          apart_behind j l later there behind second
           (laws.apart (j - base) (l - base) (omega (arith, later, behind)) (unmade l new) (is_made l there second)
           (subst (λ (x : Job). may_land x ≡ true) (job_after j behind) live)
           (sym (ap (λ (p : Plan). p.dst_file) (plan_after l second)) ∙ same ∙ ap (λ (p : Plan). p.dst_file) (plan_after j behind)))
@@ -282,7 +283,7 @@ module _ (spell : Spelling) (meaning : Meaning) (base : ℕ) (own : System) (i :
       | inl past ↦ subst (λ (x : Job). len_of x.entries ≤ s.reach j) (sym (goes.past j past)) (goes.room j past)
       | inr behind ↦
           subst (λ (x : Job). len_of x.entries ≤ s.reach j) (sym (job_after j behind))
-          (subst (λ (n : ℕ). len_of (own.job (suc i) (j - base)).entries ≤ n) (sym (reach_at j behind)) (laws.reach (j - base) (is_made j there behind)))
+          (subst (λ (n : ℕ). len_of (own.job (suc i) (j - base)).entries ≤ n) (sym (reach_at j there behind)) (laws.reach (j - base) (is_made j there behind)))
     ]
 
     -- ---- chunks that are held, and calls

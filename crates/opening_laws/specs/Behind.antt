@@ -54,13 +54,14 @@ pub record ShowsBehind (base : ℕ) (own : System) (i : ℕ) (s : System) (k : �
   pub holds : (worker : ℕ) → s.holds k worker ≡ option_map (chunk_behind base) (own.holds i worker)
   pub caller : s.caller Source Dest k ≡ caller_behind base (own.caller Source Dest i)
 
--- In the step from a moment of both. The copies of the openings before are lost, and stay as they are.
+-- In the step from a moment of both. The copies of the openings before are lost, and stay as they are. At a place at which this opening
+-- accepts no copy one of a later opening may stand, so that only a copy that is accepted takes as much room in both.
 pub record GoesBehind (base : ℕ) (own : System) (i : ℕ) (s : System) (k : ℕ) : Type 0 where
   pub before : ShowsBehind base own i s k
   pub after : ShowsBehind base own (suc i) s (suc k)
   pub deed : s.deed k ≡ deed_behind base (own.deed i)
   pub acts : s.acts Dest k ≡ own.acts Dest i
-  pub reach : (j : ℕ) → s.reach (base + j) ≡ own.reach j
+  pub reach : (j : ℕ) → j < own.made (suc i) → s.reach (base + j) ≡ own.reach j
   pub past : (j : ℕ) → j < base → s.job (suc k) j ≡ s.job k j
   pub lost : (j : ℕ) → j < base → (s.job k j).lost ≡ true
   pub room : (j : ℕ) → j < base → len_of (s.job k j).entries ≤ s.reach j

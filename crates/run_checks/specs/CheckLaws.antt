@@ -6,18 +6,34 @@ use Rattle.std.specs.Option.{option_or}
 use Rattle.nfs_base.specs.declared.seal.End.{End}
 use Rattle.nfs_base.specs.declared.seal.End.TheVariants.{Source, Dest, Client}
 use Rattle.nfs_base.specs.declared.seal.Seal.{Seal}
+use Rattle.nfs_base.specs.declared.side.Side.TheVariants as sides
+use Rattle.volume_stops.specs.declared.kept.Kept.{Kept}
 use Rattle.wire_model.specs.Check.{IsUnmistaken}
 use Rattle.wire_model.specs.Meaning.{Meaning}
 use Rattle.wire_model.specs.Spelling.{Spelling}
 use Rattle.wire_model.specs.Wire.{Acts}
 use Rattle.wire_machine.specs.Check.{Reading, is_right, mistake, mistake_in, mistake_of, mistake_unless, seal_of}
 use Rattle.wire_machine.specs.Ends.{Machines}
-use Rattle.wire_machine.specs.History.{At, Telling, acts_at, acts_in, acts_of, at_moment, next, sent_of}
-use Rattle.wire_machine.specs.Steps.{AreSteps, IsStep, Step}
+use Rattle.wire_machine.specs.History.{At, Telling, acts_at, acts_in, acts_of, at_moment, next, sent_of, step_acts, told_unless}
+use Rattle.wire_machine.specs.Steps.{AreSteps, IsStep, Step, cut_of}
 use Rattle.wire_machine.specs.World.{Parts, Posted, World, opening_of}
-use Rattle.run_checks.specs.Growing.{AreActs, all_later, all_sent, counts_one, part_of, posts_behind}
+use Rattle.run_checks.specs.Growing.{AreActs, all_later, all_sent, counts_one, made_behind, part_of}
 use Rattle.run_checks.specs.Listed.{Passes, WereSent, reading_of}
 use Rattle.run_checks.specs.Right.{right_by}
+
+-- ---- a server that stopped took, accepted and sent what it did
+
+took_unless : (o : Option Kept) (a : Acts) → (told_unless o a).took ≡ a.took
+took_unless None a = refl
+took_unless (Some kept) a = refl
+
+accepted_unless : (o : Option Kept) (a : Acts) → (told_unless o a).accepted ≡ a.accepted
+accepted_unless None a = refl
+accepted_unless (Some kept) a = refl
+
+out_unless : (o : Option Kept) (a : Acts) → (told_unless o a).out ≡ a.out
+out_unless None a = refl
+out_unless (Some kept) a = refl
 
 -- no small step takes a record by mistake
 abbrev pub AreRight : {S T C W : Type 0} → Machines S T C W → Reading → World S T C W → List (Step S T C W) → Type 0
@@ -81,7 +97,7 @@ module _ {S T C W : Type 0} (m : Machines S T C W) (tell : Telling S T) (spell :
   done_at first (x ∷ steps) zero number s are right count is =
       subst (IsDone m (reading_of spell) first (number + 0)) (same_Some x s is) (record { step = are.0; right = right.0; count = count ∙ omega arith })
   done_at first (x ∷ steps) (suc k) number s are right count is =
-      let one = counts_one m first x.parts x.after (posts_behind m x.event first x.parts x.after are.0.small) in
+      let one = counts_one m first x.parts x.after (made_behind m x.choice x.event first x.parts x.after are.0.small) in
       let sum : number + 1 + k ≡ number + suc k = omega arith in
       subst (λ w. IsDone m (reading_of spell) w (number + suc k) s) (sym (moment_later first x steps k))
       (subst (λ n. IsDone m (reading_of spell) (world_at x.after steps k) n s) sum
@@ -89,20 +105,20 @@ module _ {S T C W : Type 0} (m : Machines S T C W) (tell : Telling S T) (spell :
 
   -- ---- the acts of a step
 
-  took_in : (before : World S T C W) (parts : Parts) (now : World S T C W) (e : End) → (acts_in tell before parts now e).took ≡ (part_of m parts e).took
-  took_in before parts now Source = refl
-  took_in before parts now Dest = refl
-  took_in before parts now Client = refl
+  took_in : (before : World S T C W) (s : Step S T C W) (e : End) → (step_acts tell before s e).took ≡ (part_of m s.parts e).took
+  took_in before s Source = took_unless (cut_of sides.Source before s) (acts_in tell before s.parts s.after Source)
+  took_in before s Dest = took_unless (cut_of sides.Dest before s) (acts_in tell before s.parts s.after Dest)
+  took_in before s Client = refl
 
-  accepted_in : (before : World S T C W) (parts : Parts) (now : World S T C W) (e : End) → (acts_in tell before parts now e).accepted ≡ (part_of m parts e).out.accepted
-  accepted_in before parts now Source = refl
-  accepted_in before parts now Dest = refl
-  accepted_in before parts now Client = refl
+  accepted_in : (before : World S T C W) (s : Step S T C W) (e : End) → (step_acts tell before s e).accepted ≡ (part_of m s.parts e).out.accepted
+  accepted_in before s Source = accepted_unless (cut_of sides.Source before s) (acts_in tell before s.parts s.after Source)
+  accepted_in before s Dest = accepted_unless (cut_of sides.Dest before s) (acts_in tell before s.parts s.after Dest)
+  accepted_in before s Client = refl
 
-  out_in : (before : World S T C W) (parts : Parts) (now : World S T C W) (e : End) → (acts_in tell before parts now e).out ≡ map sent_of (part_of m parts e).out.sent
-  out_in before parts now Source = refl
-  out_in before parts now Dest = refl
-  out_in before parts now Client = refl
+  out_in : (before : World S T C W) (s : Step S T C W) (e : End) → (step_acts tell before s e).out ≡ map sent_of (part_of m s.parts e).out.sent
+  out_in before s Source = out_unless (cut_of sides.Source before s) (acts_in tell before s.parts s.after Source)
+  out_in before s Dest = out_unless (cut_of sides.Dest before s) (acts_in tell before s.parts s.after Dest)
+  out_in before s Client = refl
 
   none_taken : (before : World S T C W) (e : End) → (acts_of m tell spell meaning before None e).took ≡ None
   none_taken before Source = refl
@@ -133,8 +149,8 @@ module _ {S T C W : Type 0} (m : Machines S T C W) (tell : Telling S T) (spell :
     acts_are k s is =
         let before = world_at first steps k in
         record {
-          took = λ e. ap (λ (a : Acts). a.took) (acts_done k (Some s) is e) ∙ took_in before s.parts s.after e;
-          out = λ e. ap (λ (a : Acts). a.out) (acts_done k (Some s) is e) ∙ out_in before s.parts s.after e;
+          took = λ e. ap (λ (a : Acts). a.took) (acts_done k (Some s) is e) ∙ took_in before s e;
+          out = λ e. ap (λ (a : Acts). a.out) (acts_done k (Some s) is e) ∙ out_in before s e;
           opening = λ e. ap (opening_of m e) (next_done k (Some s) is);
         }
 
@@ -146,7 +162,7 @@ module _ {S T C W : Type 0} (m : Machines S T C W) (tell : Telling S T) (spell :
         let before = world_at first steps k in
         let d = done k s is in
         subst (λ (w : World S T C W). WereSent acts boot (suc k) w.log) (sym (next_done k (Some s) is))
-        (all_sent m acts boot k before s.parts s.after (posts_behind m s.event before s.parts s.after d.step.small) d.count (acts_are k s is) were)
+        (all_sent m acts boot k before s.parts s.after (made_behind m s.choice s.event before s.parts s.after d.step.small) d.count (acts_are k s is) were)
 
     -- at each moment all records of the list were sent as they are listed
     pub were_sent : (k : ℕ) → WereSent acts boot k (world_at first steps k).log
@@ -165,8 +181,8 @@ module _ {S T C W : Type 0} (m : Machines S T C W) (tell : Telling S T) (spell :
         let part = part_of m s.parts e in
         accepts_right (reading_of spell) before.log e (opening_of m e before) part.out.accepted part.took seal bytes
         (none_mistaken m (reading_of spell) before s.parts (done k s is).right e)
-        (sym (ap (λ (a : Acts). a.accepted) same ∙ accepted_in before s.parts s.after e) ∙ accepted)
-        (sym (ap (λ (a : Acts). a.took) same ∙ took_in before s.parts s.after e) ∙ took)
+        (sym (ap (λ (a : Acts). a.accepted) same ∙ accepted_in before s e) ∙ accepted)
+        (sym (ap (λ (a : Acts). a.took) same ∙ took_in before s e) ∙ took)
 
     -- no end is mistaken in any step
     pub unmistaken : IsUnmistaken spell acts boot

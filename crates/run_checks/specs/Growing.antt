@@ -2,16 +2,21 @@
 use Rattle.std.proofs.Common.{◌≡◌, ℕ, zero, suc, ◌+◌, true, List, [], ◌∷◌, ◌++◌, map, Contains, Option, None, Some, refl, sym, ap, subst, ◌∙◌, arith}
 use Rattle.nfs_base.specs.declared.seal.End.{End}
 use Rattle.nfs_base.specs.declared.seal.End.TheVariants.{Source, Dest, Client}
+use Rattle.nfs_base.specs.declared.side.Side.{Side}
+use Rattle.nfs_base.specs.declared.side.Side.TheVariants as sides
 use Rattle.outbox.specs.declared.outgoing.Outgoing.{Outgoing}
+use Rattle.volume_stops.specs.declared.kept.Kept.{Kept}
 use Rattle.wire_lines.specs.declared.letters.Speaker.{Speaker}
 use Rattle.wire_schedule.specs.declared.event.Event.{Event}
 use Rattle.wire_schedule.specs.declared.event.Event.TheVariants as events
 use Rattle.wire_model.specs.Wire.{Acts, Sent}
+use Rattle.wire_machine.specs.declared.choice.Choice.{Choice}
+use Rattle.wire_machine.specs.declared.choice.Choice.TheVariants.{Went, Failed, Stopped}
 use Rattle.wire_machine.specs.declared.port.Port.{Port}
 use Rattle.wire_machine.specs.declared.port.Port.TheVariants as ports
 use Rattle.wire_machine.specs.Ends.{ClientAct, DestAct, Machines, SourceAct}
 use Rattle.wire_machine.specs.History.{sent_of}
-use Rattle.wire_machine.specs.Steps.{AllRest, AllTick, Arrives, ClientDoes, DestDoes, IsCommanded, IsDelivered, IsSmall, SourceDoes, command_of}
+use Rattle.wire_machine.specs.Steps.{AllRest, AllTick, Arrives, ClientDoes, CrashesAt, DestDoes, DestStops, IsCommanded, IsCut, IsDelivered, IsMade, IsSmall, SourceDoes, SourceStops, StopsDelivered, StopsTaking, command_of}
 use Rattle.wire_machine.specs.World.{Part, Parts, Posted, World, all_posted, marked, opening_of, posted_at, with_parts}
 use Rattle.run_checks.specs.Listed.{WasSent, WereSent}
 
@@ -111,7 +116,55 @@ module _ {S T C W : Type 0} (m : Machines S T C W) where
   posts_behind (events.Work worker) before parts after small = (0, by_dest _ _ _ before parts after small)
   posts_behind (events.Tick seconds) before parts after small = (0, by_all seconds before parts after small)
   posts_behind (events.Peek side file off len) before parts after small = (0, by_none before parts after small)
+  posts_behind (events.CrashAfter side calls pick) before parts after small = (0, by_none before parts after small)
   posts_behind event before parts after small = is_commanded (command_of event) before parts after small
+
+  -- ---- a server stops in it
+
+  source_stops : (act : SourceAct) (took : Option (List ℕ)) (kept : Kept) (before : World S T C W) (parts : Parts) (after : World S T C W)
+      → SourceStops m act took kept before parts after → Posts before.log before.steps parts after
+  source_stops act took kept before parts after stops =
+      record { world = record before { source = stops.source; draws = stops.draws }; log_is = refl; steps_are = refl; after_is = stops.after_is }
+
+  dest_stops : (act : DestAct) (speaker : Speaker) (took : Option (List ℕ)) (kept : Kept) (before : World S T C W) (parts : Parts) (after : World S T C W)
+      → DestStops m act speaker took kept before parts after → Posts before.log before.steps parts after
+  dest_stops act speaker took kept before parts after stops =
+      record { world = record before { dest = stops.dest; draws = stops.draws }; log_is = refl; steps_are = refl; after_is = stops.after_is }
+
+  crashes_at : (side : Side) (kept : Kept) (before : World S T C W) (parts : Parts) (after : World S T C W)
+      → CrashesAt m side kept before parts after → Posts before.log before.steps parts after
+  crashes_at sides.Source kept before parts after crashes =
+      record { world = record before { source = crashes.source }; log_is = refl; steps_are = refl; after_is = crashes.after_is }
+  crashes_at sides.Dest kept before parts after crashes =
+      record { world = record before { dest = crashes.dest }; log_is = refl; steps_are = refl; after_is = crashes.after_is }
+
+  stops_taking : (port : Option Port) (bytes : List ℕ) (kept : Kept) (before : World S T C W) (parts : Parts) (after : World S T C W)
+      → StopsTaking m port bytes kept before parts after → Posts before.log before.steps parts after
+  stops_taking None bytes kept before parts after never = absurd never
+  stops_taking (Some (ports.Source conn)) bytes kept before parts after stops = source_stops _ _ kept before parts after stops
+  stops_taking (Some ports.Dest) bytes kept before parts after stops = dest_stops _ _ _ kept before parts after stops
+  stops_taking (Some (ports.Worker worker)) bytes kept before parts after stops = dest_stops _ _ _ kept before parts after stops
+  stops_taking (Some (ports.Client from)) bytes kept before parts after never = absurd never
+
+  stops_delivered : (number : ℕ) (o : Option Posted) (kept : Kept) (before : World S T C W) (parts : Parts) (after : World S T C W)
+      → StopsDelivered m number o kept before parts after → PostsBehind before parts after
+  stops_delivered number None kept before parts after never = absurd never
+  stops_delivered number (Some r) kept before parts after stops =
+      (number, stops_taking r.port r.bytes kept (record before { log = marked number before.log }) parts after stops)
+
+  cut_behind : (event : Event) (kept : Kept) (before : World S T C W) (parts : Parts) (after : World S T C W) → IsCut m event kept before parts after
+      → PostsBehind before parts after
+  cut_behind (events.Deliver number) kept before parts after cut = stops_delivered number (posted_at number before.log) kept before parts after cut
+  cut_behind (events.Work worker) kept before parts after cut = (0, dest_stops _ _ _ kept before parts after cut)
+  cut_behind (events.Crash side pick) kept before parts after cut = (0, crashes_at side kept before parts after cut)
+  cut_behind event kept before parts after never = absurd never
+
+  -- by what the disks did in it
+  pub made_behind : (choice : Choice) (event : Event) (before : World S T C W) (parts : Parts) (after : World S T C W) → IsMade m choice event before parts after
+      → PostsBehind before parts after
+  made_behind Went event before parts after made = posts_behind event before parts after made
+  made_behind Failed event before parts after made = posts_behind event before parts after made
+  made_behind (Stopped kept) event before parts after made = cut_behind event kept before parts after made
 
   -- one step more is counted
   pub counts_one : (before : World S T C W) (parts : Parts) (after : World S T C W) → PostsBehind before parts after → after.steps ≡ before.steps + 1

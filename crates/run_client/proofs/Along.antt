@@ -20,8 +20,7 @@ use Rattle.wire_machine.specs.Steps.{IsStep, after_steps, small_steps}
 use Rattle.wire_machine.specs.World.{Part, Posted, posted_at}
 use Rattle.wire_machine.specs.declared.port.Port.{Port}
 use Rattle.wire_machine.specs.declared.port.Port.TheVariants as ports
-use Rattle.wire_run.specs.Ends.{Words, machines, ways}
-use Rattle.wire_run.specs.Running.{RunStep, RunWorld}
+use Rattle.run_ends.specs.Ends.{RunStep, RunWorld, Words, machines, ways}
 use Rattle.wire_schedule.specs.Admission.{after}
 use Rattle.wire_schedule.specs.declared.context.Context.{Context}
 use Rattle.wire_schedule.specs.declared.event.Event.{Event}
@@ -82,6 +81,8 @@ small_bounded (events.Volume side files blocks) log clock begun c is within = λ
 small_bounded events.Flow log clock begun c is within = λ j none. none
 small_bounded (events.Work worker) log clock begun c is within = λ j none. none
 small_bounded (events.Peek side file off len) log clock begun c is within = λ j none. none
+small_bounded (events.Crash side pick) log clock begun c is within = λ j none. none
+small_bounded (events.CrashAfter side calls pick) log clock begun c is within = λ j none. none
 
 -- ---- along small steps each act of the client is one that it may make
 

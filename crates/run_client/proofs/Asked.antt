@@ -98,6 +98,8 @@ asked context events.Flow admitted fits = tt
 asked context (events.Work worker) admitted fits = tt
 asked context (events.Tick seconds) admitted fits = tt
 asked context (events.Peek side file off len) admitted fits = tt
+asked context (events.Crash side pick) admitted fits = tt
+asked context (events.CrashAfter side calls pick) admitted fits = tt
 
 -- ---- which copies were begun after an event, and after its small steps
 
@@ -139,6 +141,8 @@ module _ {S T C W : Type 0} (before : World S T C W) (context : Context) where
   smalls_asked (events.Work worker) is = (is, tt)
   smalls_asked (events.Tick seconds) is = (is, tt)
   smalls_asked (events.Peek side file off len) is = (is, tt)
+  smalls_asked (events.Crash side pick) is = (is, tt)
+  smalls_asked (events.CrashAfter side calls pick) is = (is, tt)
 
   pub smalls_begin : (event : Event) → begun_all (small_steps before event) context.begun ≡ (after context event).begun
   smalls_begin events.Flow = deliveries_begin_none context.begun (waiting before.log)
@@ -153,6 +157,8 @@ module _ {S T C W : Type 0} (before : World S T C W) (context : Context) where
   smalls_begin (events.Work worker) = refl
   smalls_begin (events.Tick seconds) = refl
   smalls_begin (events.Peek side file off len) = refl
+  smalls_begin (events.Crash side pick) = refl
+  smalls_begin (events.CrashAfter side calls pick) = refl
 
 -- ---- a copy that wasn't begun after an event wasn't begun before it, nor by it
 
@@ -169,6 +175,8 @@ begun_size events.Flow begun = refl
 begun_size (events.Work worker) begun = refl
 begun_size (events.Tick seconds) begun = refl
 begun_size (events.Peek side file off len) begun = refl
+begun_size (events.Crash side pick) begun = refl
+begun_size (events.CrashAfter side calls pick) begun = refl
 
 never : {X : Type 0} → true ≡ false → X
 never is = absurd (cc)

@@ -5,7 +5,7 @@ use Rattle.std.specs.List.{AllByRecursion}
 use Rattle.std.proofs.lemmas.List.Elements.{recursion_from_All}
 use Rattle.caller_laws.specs.Good.{Identity}
 use Rattle.client_core.specs.Endings.{ways_of}
-use Rattle.client_core.specs.State.{ClientState, new_client}
+use Rattle.client_core.specs.State.{ClientState}
 use Rattle.client_steps.specs.declared.setting.Setting.{Setting}
 use Rattle.client_laws.specs.CallerLaws.{StartsOwn}
 use Rattle.client_laws.specs.MountTurns.{TakesBytes}
@@ -15,7 +15,6 @@ use Rattle.client_word.specs.Carried.{IsCarried, SendsBytes}
 use Rattle.client_word.specs.Views.{IsClientStep, IsSeenAt}
 use Rattle.dest_core.specs.Stepping.{DestState}
 use Rattle.nfs_base.specs.declared.seal.End.TheVariants as ends
-use Rattle.nfs_base.specs.declared.side.Side.{Side}
 use Rattle.outbox.specs.declared.outgoing.Outbox.{Outbox}
 use Rattle.outbox.specs.declared.outgoing.Outgoing.{Outgoing}
 use Rattle.run_client.specs.Along.{GoesAlong, Goes, Turned, act_at, client_at, codes_of, part_by, run_at, second_at}
@@ -31,10 +30,9 @@ use Rattle.wire_model.specs.Meaning.{Meaning}
 use Rattle.wire_model.specs.Spelling.{Spelling}
 use Rattle.wire_model.specs.System.{System}
 use Rattle.wire_model.specs.Wire.{Sent}
-use Rattle.wire_model.specs.WordLaws.{WordLaws, WordStart}
-use Rattle.wire_run.specs.Ends.{SourceState, Words, client_does, machines, ways}
-use Rattle.wire_run.specs.Handling.{client_took}
-use Rattle.wire_run.specs.Running.{RunStep, RunWorld}
+use Rattle.wire_model.specs.WordLaws.{WordLaws}
+use Rattle.run_ends.specs.Ends.{RunStep, RunWorld, SourceState, Words, client_does, machines, ways}
+use Rattle.run_ends.specs.Handling.{client_took}
 use Rattle.wire_spelling.specs.Spelling.{spelling}
 use Rattle.wire_xdr.specs.Cursor.{IsBytes}
 use Rattle.run_client.specs.View.{client_view}

@@ -21,8 +21,8 @@ use Rattle.wire_machine.specs.History.{part_acts, sent_of}
 use Rattle.wire_machine.specs.World.{Part}
 use Rattle.wire_model.specs.CallerLaws.{CallerLaws}
 use Rattle.wire_model.specs.Wire.{Acts}
-use Rattle.wire_run.specs.Ends.{Words, ways}
-use Rattle.wire_run.specs.Handling.{client_took}
+use Rattle.run_ends.specs.Ends.{Words, ways}
+use Rattle.run_ends.specs.Handling.{client_took}
 use Rattle.wire_spelling.specs.Spelling.{spelling}
 use Rattle.run_client.specs.Along.{Goes}
 use Rattle.run_client.specs.Turns.{turn_of}

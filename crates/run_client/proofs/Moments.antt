@@ -13,8 +13,7 @@ use Rattle.wire_machine.specs.Ends.{ClientAct}
 use Rattle.wire_machine.specs.Steps.{AreSteps}
 use Rattle.wire_model.specs.Meaning.{Meaning}
 use Rattle.wire_model.specs.Spelling.{Spelling}
-use Rattle.wire_run.specs.Ends.{Words, machines}
-use Rattle.wire_run.specs.Running.{RunStep, RunWorld}
+use Rattle.run_ends.specs.Ends.{RunStep, RunWorld, Words, machines}
 use Rattle.wire_schedule.specs.Admission.{at_start}
 use Rattle.run_client.proofs.Along.{AllMay, IsWithin}
 

@@ -18,8 +18,7 @@ use Rattle.wire_model.specs.Spelling.{Spelling}
 use Rattle.wire_model.specs.System.{wire_of}
 use Rattle.wire_model.specs.Told.{opening}
 use Rattle.wire_model.specs.Wire.{Acts}
-use Rattle.wire_run.specs.Ends.{Words, machines}
-use Rattle.wire_run.specs.Running.{RunStep, RunWorld}
+use Rattle.run_ends.specs.Ends.{RunStep, RunWorld, Words, machines}
 use Rattle.wire_spelling.specs.Spelling.{spelling}
 use Rattle.run_checks.specs.CheckLaws.{opening_at}
 use Rattle.run_system.specs.System.{ClientView, system_of, telling}

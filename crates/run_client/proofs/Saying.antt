@@ -38,7 +38,7 @@ use Rattle.run_client.specs.Along.{Goes}
 use Rattle.run_client.specs.Turns.{turn_of}
 use Rattle.wire_machine.specs.Ends.{ClientAct}
 use Rattle.wire_machine.specs.World.{Part}
-use Rattle.wire_run.specs.Ends.{Words, ways}
+use Rattle.run_ends.specs.Ends.{Words, ways}
 use Rattle.run_client.specs.Told.{tells_exact}
 
 -- ---- what a note tells is a word of its copy

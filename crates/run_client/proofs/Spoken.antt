@@ -6,22 +6,23 @@ use Rattle.copy_model.specs.Volume.{Volume}
 use Rattle.nfs_base.specs.declared.seal.End.{End}
 use Rattle.nfs_base.specs.declared.seal.End.TheVariants as ends
 use Rattle.nfs_base.specs.declared.side.Side.{Side}
+use Rattle.nfs_base.specs.declared.side.Side.TheVariants as sides
 use Rattle.outbox.specs.declared.note.Note.{Note}
 use Rattle.outbox.specs.declared.outgoing.Outgoing.{Outgoing}
+use Rattle.volume_stops.specs.declared.kept.Kept.{Kept}
 use Rattle.wire_lines.specs.declared.letters.Speaker.{Speaker}
 use Rattle.wire_lines.specs.declared.letters.Speaker.TheVariants as speakers
 use Rattle.wire_lines.specs.declared.line.Line.{Line}
 use Rattle.wire_lines.specs.declared.line.Line.TheVariants as lines
 use Rattle.wire_machine.specs.Ends.{ClientAct, DestAct}
-use Rattle.wire_machine.specs.Lines.{lines_of, notes_of, own_lines, records_of, sent_lines, shown, step_lines, unsent, volume_at}
-use Rattle.wire_machine.specs.Steps.{AreSteps, Arrives, DestDoes, IsCommanded, IsDelivered, IsSmall, IsStep, client_part, command_of, dest_part, source_part, tick_parts}
+use Rattle.wire_machine.specs.Lines.{lines_of, notes_of, own_lines, records_of, sent_lines, shown, step_lines, told_by, unsent, volume_at}
+use Rattle.wire_machine.specs.Steps.{AreSteps, Arrives, CrashesAt, DestDoes, DestStops, IsCommanded, IsCut, IsDelivered, IsMade, IsSmall, IsStep, StopsDelivered, StopsTaking, client_part, command_of, dest_part, source_part, tick_parts}
 use Rattle.wire_machine.specs.World.{Parts, Posted, marked, posted_at}
 use Rattle.wire_machine.specs.declared.choice.Choice.{Choice}
 use Rattle.wire_machine.specs.declared.choice.Choice.TheVariants as choices
 use Rattle.wire_machine.specs.declared.port.Port.{Port}
 use Rattle.wire_machine.specs.declared.port.Port.TheVariants as ports
-use Rattle.wire_run.specs.Ends.{Words, machines}
-use Rattle.wire_run.specs.Running.{RunStep, RunWorld}
+use Rattle.run_ends.specs.Ends.{RunStep, RunWorld, Words, machines}
 use Rattle.wire_schedule.specs.declared.event.Event.{Event}
 use Rattle.wire_schedule.specs.declared.event.Event.TheVariants as events
 use Rattle.run_client.specs.Lines.{by_client, told_in, told_in_lines}
@@ -87,7 +88,48 @@ module _ {M : Type 0} (words : Words M ℕ) where
   small_tells (events.Tick seconds) before parts after small =
       subst (λ (p : Parts). Tells p) (sym small.parts_are) (parts_tell (tick_parts (machines words) small.source_out small.dest_out small.client_out) (λ note. refl) (λ note. refl) refl)
   small_tells (events.Peek side file off len) before parts after small = subst (λ (p : Parts). Tells p) (sym small.0) refl
+  small_tells (events.CrashAfter side calls pick) before parts after small = subst (λ (p : Parts). Tells p) (sym small.0) refl
   small_tells event before parts after small = commanded (command_of event) before parts after small
+
+  -- ---- a server stops
+
+  dest_stops : (act : DestAct) (speaker : Speaker) (took : Option (List ℕ)) (kept : Kept) (before : RunWorld M) (parts : Parts) (after : RunWorld M)
+      → IsOther speaker → DestStops (machines words) act speaker took kept before parts after → Tells parts
+  dest_stops act speaker took kept before parts after other stops =
+      subst (λ (p : Parts). Tells p) (sym stops.parts_are) (parts_tell (dest_part speaker took stops.out) (λ note. refl) other refl)
+
+  stops_taking : (port : Option Port) (bytes : List ℕ) (kept : Kept) (before : RunWorld M) (parts : Parts) (after : RunWorld M)
+      → StopsTaking (machines words) port bytes kept before parts after → Tells parts
+  stops_taking None bytes kept before parts after never = absurd never
+  stops_taking (Some (ports.Source conn)) bytes kept before parts after stops =
+      subst (λ (p : Parts). Tells p) (sym stops.parts_are) (parts_tell (source_part (Some bytes) stops.out) (λ note. refl) (λ note. refl) refl)
+  stops_taking (Some ports.Dest) bytes kept before parts after stops = dest_stops _ speakers.Dest _ kept before parts after (λ note. refl) stops
+  stops_taking (Some (ports.Worker worker)) bytes kept before parts after stops = dest_stops _ speakers.Worker _ kept before parts after (λ note. refl) stops
+  stops_taking (Some (ports.Client from)) bytes kept before parts after never = absurd never
+
+  stops_delivered : (number : ℕ) (o : Option Posted) (kept : Kept) (before : RunWorld M) (parts : Parts) (after : RunWorld M)
+      → StopsDelivered (machines words) number o kept before parts after → Tells parts
+  stops_delivered number None kept before parts after never = absurd never
+  stops_delivered number (Some r) kept before parts after stops =
+      stops_taking r.port r.bytes kept (record before { log = marked number before.log }) parts after stops
+
+  crashes : (side : Side) (kept : Kept) (before : RunWorld M) (parts : Parts) (after : RunWorld M)
+      → CrashesAt (machines words) side kept before parts after → Tells parts
+  crashes sides.Source kept before parts after stops = subst (λ (p : Parts). Tells p) (sym stops.parts_are) refl
+  crashes sides.Dest kept before parts after stops = subst (λ (p : Parts). Tells p) (sym stops.parts_are) refl
+
+  cut_tells : (event : Event) (kept : Kept) (before : RunWorld M) (parts : Parts) (after : RunWorld M)
+      → IsCut (machines words) event kept before parts after → Tells parts
+  cut_tells (events.Deliver number) kept before parts after cut = stops_delivered number (posted_at number before.log) kept before parts after cut
+  cut_tells (events.Work worker) kept before parts after cut = dest_stops _ speakers.Dest _ kept before parts after (λ note. refl) cut
+  cut_tells (events.Crash side pick) kept before parts after cut = crashes side kept before parts after cut
+  cut_tells event kept before parts after never = absurd never
+
+  made_tells : (choice : Choice) (event : Event) (before : RunWorld M) (parts : Parts) (after : RunWorld M)
+      → IsMade (machines words) choice event before parts after → Tells parts
+  made_tells choices.Went event before parts after made = small_tells event before parts after made
+  made_tells choices.Failed event before parts after made = small_tells event before parts after made
+  made_tells (choices.Stopped kept) event before parts after made = cut_tells event kept before parts after made
 
   -- ---- the other lines tell nothing
 
@@ -103,12 +145,18 @@ module _ {M : Type 0} (words : Words M ℕ) where
   none_shown v choices.Went side file off len false = refl
   none_shown v choices.Went side file off len true = refl
   none_shown v choices.Failed side file off len broken = refl
+  none_shown v (choices.Stopped kept) side file off len broken = refl
 
   none_own : (w : RunWorld M) (event : Event) (choice : Choice) → told_in_lines (own_lines (machines words) w event choice) ≡ []
   none_own w (events.Deliver number) choice = none_unsent number (posted_at number w.log)
   none_own w (events.Peek side file off len) choice =
       none_shown (volume_at (machines words) side w) choice side file off len (volume_at (machines words) side w).broken
   none_own w event choice = refl
+
+  none_told : (choice : Choice) (w : RunWorld M) (s : RunStep M) → told_in_lines (told_by (machines words) choice w s) ≡ []
+  none_told choices.Went w s = none_own w s.event s.choice
+  none_told choices.Failed w s = none_own w s.event s.choice
+  none_told (choices.Stopped kept) w s = refl
 
   none_recorded : (sent : ℕ) (parts : Parts) → told_in_lines (records_of sent parts) ≡ []
   none_recorded sent parts =
@@ -125,9 +173,9 @@ module _ {M : Type 0} (words : Words M ℕ) where
 
   step_tells : (w : RunWorld M) (s : RunStep M) → IsStep (machines words) w s → told_in_lines (step_lines (machines words) w s) ≡ notes_in s
   step_tells w s step =
-      behind_none (own_lines (machines words) w s.event s.choice) (notes_of s.parts ++ records_of (length w.log) s.parts) (none_own w s.event s.choice)
+      behind_none (told_by (machines words) s.choice w s) (notes_of s.parts ++ records_of (length w.log) s.parts) (none_told s.choice w s)
       ∙ before_none (notes_of s.parts) (records_of (length w.log) s.parts) (none_recorded (length w.log) s.parts)
-      ∙ small_tells s.event w s.parts s.after step.small
+      ∙ made_tells s.choice s.event w s.parts s.after step.small
 
   pub lines_tell : (w : RunWorld M) (steps : List (RunStep M)) → AreSteps (machines words) w steps → told_in_lines (lines_of (machines words) w steps) ≡ notes_along steps
   lines_tell w [] are = refl

@@ -14,8 +14,7 @@ use Rattle.wire_machine.specs.Ends.{ClientAct}
 use Rattle.wire_machine.specs.World.{Part}
 use Rattle.wire_model.specs.Meaning.{Meaning}
 use Rattle.wire_model.specs.Spelling.{Spelling}
-use Rattle.wire_run.specs.Ends.{Words}
-use Rattle.wire_run.specs.Running.{RunStep, RunWorld}
+use Rattle.run_ends.specs.Ends.{RunStep, RunWorld, Words}
 use Rattle.run_client.specs.Told.{IsToldInTurns, notes_along}
 
 module _ {M : Type 0} (words : Words M ℕ) (s : Setting M) (who : Identity) where

@@ -17,8 +17,8 @@ use Rattle.wire_machine.specs.Ends.{ClientAct}
 use Rattle.wire_machine.specs.Ends as acts
 use Rattle.wire_machine.specs.World.{Part}
 use Rattle.wire_model.specs.Wire.{ForOther}
-use Rattle.wire_run.specs.Ends.{Words, client_does, ways}
-use Rattle.wire_run.specs.Handling.{client_took}
+use Rattle.run_ends.specs.Ends.{Words, client_does, ways}
+use Rattle.run_ends.specs.Handling.{client_took}
 use Rattle.wire_xdr.specs.Cursor.{IsBytes}
 use Rattle.run_client.specs.Along.{Goes, MayAct}
 use Rattle.run_client.specs.Turns.{Acted, Does, turn_of}

@@ -8,8 +8,7 @@ use Rattle.client_laws.specs.WholeTurns.{IsSettled}
 use Rattle.wire_machine.specs.Steps.{AreSteps}
 use Rattle.wire_model.specs.Meaning.{Meaning}
 use Rattle.wire_model.specs.Spelling.{Spelling}
-use Rattle.wire_run.specs.Ends.{Words, machines, ways}
-use Rattle.wire_run.specs.Running.{RunStep, RunWorld}
+use Rattle.run_ends.specs.Ends.{RunStep, RunWorld, Words, machines, ways}
 use Rattle.run_system.specs.Moments.{made_at, rests_at}
 use Rattle.run_system.specs.System.{telling}
 use Rattle.run_client.specs.Along.{GoesAlong, MayGo, act_at, act_by, client_at, codes_of, part_by, run_at, second_at, second_by}

@@ -22,8 +22,7 @@ use Rattle.wire_model.specs.Spelling.{Spelling}
 use Rattle.wire_model.specs.System.{System}
 use Rattle.wire_model.specs.Told.{opening}
 use Rattle.wire_model.specs.Wire.{Wire}
-use Rattle.wire_run.specs.Ends.{Words, machines, ways}
-use Rattle.wire_run.specs.Running.{RunStep, RunWorld}
+use Rattle.run_ends.specs.Ends.{RunStep, RunWorld, Words, machines, ways}
 use Rattle.run_system.specs.Moments.{world_at}
 use Rattle.run_system.specs.System.{ClientView, system_of, telling}
 use Rattle.run_client.specs.Turns.{Acted, Rested, act_in, second_in, turn_of}

@@ -1,18 +1,22 @@
--- The client's part of each small step: it acts, where the step is an act of its own, and rests else.
+-- The client's part of each small step: it acts, where the step is an act of its own, and rests else. It rests where a server stops.
 use Rattle.std.proofs.Common.{◌≡◌, ℕ, ◌+◌, List, Option, Some, None, refl, sym, ap, subst}
 use Rattle.std.specs.Prelude.{IfSome}
 use Rattle.client_core.specs.State.{ClientState}
+use Rattle.nfs_base.specs.declared.side.Side.{Side}
+use Rattle.nfs_base.specs.declared.side.Side.TheVariants as sides
 use Rattle.outbox.specs.declared.outgoing.Outbox.{Outbox}
+use Rattle.volume_stops.specs.declared.kept.Kept.{Kept}
 use Rattle.wire_lines.specs.declared.letters.Speaker.{Speaker}
 use Rattle.wire_machine.specs.Ends.{ClientAct, DestAct, Machines, SourceAct}
 use Rattle.wire_machine.specs.Ends as acts
-use Rattle.wire_machine.specs.Steps.{AllRest, AllTick, Arrives, ClientDoes, DestDoes, IsCommanded, IsDelivered, IsSmall, IsStep, SourceDoes, command_of}
+use Rattle.wire_machine.specs.Steps.{AllRest, AllTick, Arrives, ClientDoes, CrashesAt, DestDoes, DestStops, IsCommanded, IsCut, IsDelivered, IsMade, IsSmall, IsStep, SourceDoes, SourceStops, StopsDelivered, StopsTaking, command_of}
 use Rattle.wire_machine.specs.World.{Part, Parts, Posted, marked, posted_at}
+use Rattle.wire_machine.specs.declared.choice.Choice.{Choice}
+use Rattle.wire_machine.specs.declared.choice.Choice.TheVariants.{Went, Failed, Stopped}
 use Rattle.wire_machine.specs.declared.port.Port.{Port}
 use Rattle.wire_machine.specs.declared.port.Port.TheVariants as ports
-use Rattle.wire_run.specs.Ends.{Words, client_goes, machines}
-use Rattle.wire_run.specs.Handling.{client_took}
-use Rattle.wire_run.specs.Running.{RunStep, RunWorld}
+use Rattle.run_ends.specs.Ends.{RunStep, RunWorld, Words, client_goes, machines}
+use Rattle.run_ends.specs.Handling.{client_took}
 use Rattle.wire_schedule.specs.declared.event.Event.{Event}
 use Rattle.wire_schedule.specs.declared.event.Event.TheVariants as events
 use Rattle.run_client.specs.Turns.{Acted, Does, Rested, act_in, delivered_in, second_in, taken_at}
@@ -31,6 +35,8 @@ takes_none events.Flow = tt
 takes_none (events.Work worker) = tt
 takes_none (events.Tick seconds) = tt
 takes_none (events.Peek side file off len) = tt
+takes_none (events.Crash side pick) = tt
+takes_none (events.CrashAfter side calls pick) = tt
 
 module _ {M : Type 0} (words : Words M ℕ) where
   rests : (before : RunWorld M) (parts : Parts) (after : RunWorld M) → AllRest (machines words) before parts after → Rested before.client after.client parts.client
@@ -94,9 +100,58 @@ module _ {M : Type 0} (words : Words M ℕ) where
   small_does (events.Work worker) before parts after small = by_dest _ _ _ before parts after small
   small_does (events.Tick seconds) before parts after small = ticks seconds before parts after small
   small_does (events.Peek side file off len) before parts after small = rests before parts after small
+  small_does (events.CrashAfter side calls pick) before parts after small = rests before parts after small
   small_does event before parts after small = commanded (command_of event) before parts after (takes_none event) small
 
-  -- of each small step
+  -- ---- a server stops
+
+  source_stops : (act : SourceAct) (took : Option (List ℕ)) (kept : Kept) (before : RunWorld M) (parts : Parts) (after : RunWorld M)
+      → SourceStops (machines words) act took kept before parts after → Rested before.client after.client parts.client
+  source_stops act took kept before parts after stops =
+      record { same = ap (λ (w : RunWorld M). w.client) stops.after_is; idle_is = ap (λ (p : Parts). p.client) stops.parts_are }
+
+  dest_stops : (act : DestAct) (speaker : Speaker) (took : Option (List ℕ)) (kept : Kept) (before : RunWorld M) (parts : Parts) (after : RunWorld M)
+      → DestStops (machines words) act speaker took kept before parts after → Rested before.client after.client parts.client
+  dest_stops act speaker took kept before parts after stops =
+      record { same = ap (λ (w : RunWorld M). w.client) stops.after_is; idle_is = ap (λ (p : Parts). p.client) stops.parts_are }
+
+  crashes : (side : Side) (kept : Kept) (before : RunWorld M) (parts : Parts) (after : RunWorld M) → CrashesAt (machines words) side kept before parts after
+      → Rested before.client after.client parts.client
+  crashes sides.Source kept before parts after stops =
+      record { same = ap (λ (w : RunWorld M). w.client) stops.after_is; idle_is = ap (λ (p : Parts). p.client) stops.parts_are }
+  crashes sides.Dest kept before parts after stops =
+      record { same = ap (λ (w : RunWorld M). w.client) stops.after_is; idle_is = ap (λ (p : Parts). p.client) stops.parts_are }
+
+  stops_taking : (port : Option Port) (bytes : List ℕ) (kept : Kept) (before : RunWorld M) (parts : Parts) (after : RunWorld M)
+      → StopsTaking (machines words) port bytes kept before parts after → Does words (taken_at port bytes) before.clock before.client after.client parts.client
+  stops_taking None bytes kept before parts after never = absurd never
+  stops_taking (Some (ports.Source conn)) bytes kept before parts after stops = source_stops _ _ kept before parts after stops
+  stops_taking (Some ports.Dest) bytes kept before parts after stops = dest_stops _ _ _ kept before parts after stops
+  stops_taking (Some (ports.Worker worker)) bytes kept before parts after stops = dest_stops _ _ _ kept before parts after stops
+  stops_taking (Some (ports.Client from)) bytes kept before parts after never = absurd never
+
+  stops_delivered : (number : ℕ) (o : Option Posted) (kept : Kept) (before : RunWorld M) (parts : Parts) (after : RunWorld M)
+      → StopsDelivered (machines words) number o kept before parts after → Does words (delivered_in o) before.clock before.client after.client parts.client
+  stops_delivered number None kept before parts after never = absurd never
+  stops_delivered number (Some r) kept before parts after stops =
+      stops_taking r.port r.bytes kept (record before { log = marked number before.log }) parts after stops
+
+  cut_does : (event : Event) (kept : Kept) (before : RunWorld M) (parts : Parts) (after : RunWorld M) → IsCut (machines words) event kept before parts after
+      → Does words (act_in event before.log) (second_in event before.clock) before.client after.client parts.client
+  cut_does (events.Deliver number) kept before parts after cut = stops_delivered number (posted_at number before.log) kept before parts after cut
+  cut_does (events.Work worker) kept before parts after cut = dest_stops _ _ _ kept before parts after cut
+  cut_does (events.Crash side pick) kept before parts after cut = crashes side kept before parts after cut
+  cut_does event kept before parts after never = absurd never
+
+  -- ---- each small step
+
+  made_does : (choice : Choice) (event : Event) (before : RunWorld M) (parts : Parts) (after : RunWorld M)
+      → IsMade (machines words) choice event before parts after
+      → Does words (act_in event before.log) (second_in event before.clock) before.client after.client parts.client
+  made_does Went event before parts after made = small_does event before parts after made
+  made_does Failed event before parts after made = small_does event before parts after made
+  made_does (Stopped kept) event before parts after made = cut_does event kept before parts after made
+
   pub step_does : (before : RunWorld M) (s : RunStep M) → IsStep (machines words) before s
       → Does words (act_in s.event before.log) (second_in s.event before.clock) before.client s.after.client s.parts.client
-  step_does before s step = small_does s.event before s.parts s.after step.small
+  step_does before s step = made_does s.choice s.event before s.parts s.after step.small

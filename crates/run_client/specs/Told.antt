@@ -7,8 +7,7 @@ use Rattle.client_steps.specs.declared.setting.Setting.{Setting}
 use Rattle.outbox.specs.declared.note.Note.{Note}
 use Rattle.outbox.specs.declared.note.Note.TheVariants as notes
 use Rattle.run_client.specs.Along.{part_by}
-use Rattle.wire_run.specs.Ends.{Words, ways}
-use Rattle.wire_run.specs.Running.{RunStep}
+use Rattle.run_ends.specs.Ends.{RunStep, Words, ways}
 
 -- in a small step
 abbrev pub notes_in : {M : Type 0} → RunStep M → List Note

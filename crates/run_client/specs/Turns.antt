@@ -10,8 +10,8 @@ use Rattle.wire_machine.specs.Steps.{command_of}
 use Rattle.wire_machine.specs.World.{Part, Posted, idle, posted_at}
 use Rattle.wire_machine.specs.declared.port.Port.{Port}
 use Rattle.wire_machine.specs.declared.port.Port.TheVariants as ports
-use Rattle.wire_run.specs.Ends.{Words, client_goes}
-use Rattle.wire_run.specs.Handling.{client_took}
+use Rattle.run_ends.specs.Ends.{Words, client_goes}
+use Rattle.run_ends.specs.Handling.{client_took}
 use Rattle.wire_schedule.specs.declared.event.Event.{Event}
 use Rattle.wire_schedule.specs.declared.event.Event.TheVariants as events
 use Rattle.write_queue.specs.declared.work.Work.TheVariants as works

@@ -11,8 +11,7 @@ ghost use Rattle.wire_machine.specs.Lines.{lines_of};
 ghost use Rattle.wire_machine.specs.Steps.{AreSteps};
 ghost use Rattle.wire_model.specs.Meaning.{Meaning};
 ghost use Rattle.wire_model.specs.Spelling.{Spelling};
-ghost use Rattle.wire_run.specs.Ends.{count_gives, run_machines, words_of};
-ghost use Rattle.wire_run.specs.Running.{RunStep, RunWorld};
+ghost use Rattle.run_ends.specs.Ends.{RunStep, RunWorld, count_gives, run_machines, words_of};
 ghost use Rattle.run_client.specs.Lines.{told_in_lines};
 ghost use Rattle.run_client.specs.Told.{notes_along};
 

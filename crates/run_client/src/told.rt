@@ -9,8 +9,7 @@ ghost use Rattle.outbox.specs.declared.note.Note.TheVariants as notes;
 ghost use Rattle.run_client.specs.Along.{GoesAlong, client_at};
 ghost use Rattle.wire_model.specs.Meaning.{Meaning};
 ghost use Rattle.wire_model.specs.Spelling.{Spelling};
-ghost use Rattle.wire_run.specs.Ends.{count_gives, words_of};
-ghost use Rattle.wire_run.specs.Running.{RunStep, RunWorld};
+ghost use Rattle.run_ends.specs.Ends.{RunStep, RunWorld, count_gives, words_of};
 ghost use Rattle.run_client.specs.Told.{IsToldInTurns, notes_along};
 
 use client_laws::{none_is_stable_once_cancelled, stable_is_told_once};

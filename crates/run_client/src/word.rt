@@ -9,8 +9,7 @@ ghost use Rattle.run_system.specs.System.{system_of};
 ghost use Rattle.run_client.specs.View.{client_view};
 ghost use Rattle.wire_model.specs.Meaning.{Meaning};
 ghost use Rattle.wire_model.specs.Spelling.{Spelling};
-ghost use Rattle.wire_run.specs.Ends.{count_gives, run_machines, words_of};
-ghost use Rattle.wire_run.specs.Running.{RunStep, RunWorld};
+ghost use Rattle.run_ends.specs.Ends.{RunStep, RunWorld, count_gives, run_machines, words_of};
 ghost use Rattle.run_client.specs.Told.{notes_at, tells_exact};
 
 use crate::words::clients_are_carried;

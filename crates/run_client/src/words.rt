@@ -10,8 +10,7 @@ ghost use Rattle.wire_meaning.specs.Meaning.{meaning};
 ghost use Rattle.wire_model.specs.Meaning.{Meaning};
 ghost use Rattle.wire_model.specs.Spelling.{Spelling};
 ghost use Rattle.wire_model.specs.WordLaws.{WordLaws, WordStart};
-ghost use Rattle.wire_run.specs.Ends.{count_gives, run_machines, ways, words_of};
-ghost use Rattle.wire_run.specs.Running.{RunStep, RunWorld};
+ghost use Rattle.run_ends.specs.Ends.{RunStep, RunWorld, count_gives, run_machines, ways, words_of};
 ghost use Rattle.wire_spelling.specs.Spelling.{spelling};
 ghost use Rattle.run_client.specs.View.{client_view};
 

@@ -1,5 +1,5 @@
--- Along a run the destination is seen as it should be, and so it obeys the laws.
-use Rattle.std.proofs.Common.{◌≡◌, ◌*◌, ℕ, zero, suc, false, List, [], slice_get, Option, Some, None, refl, sym, ap, subst}
+-- From its opening on the destination is seen as it should be, and so it obeys the laws.
+use Rattle.std.proofs.Common.{◌≡◌, ℕ, zero, suc, false, List, [], slice_get, Option, Some, None, refl, sym, ap, subst}
 use Rattle.std.specs.Prelude.{codes as text}
 use Rattle.caller_laws.specs.Good.{Identity}
 use Rattle.caller_laws.specs.View.{Above, caller_of}
@@ -26,26 +26,27 @@ use Rattle.mount_fits.specs.Moving.{GivesBytes}
 use Rattle.mount_runs.specs.Runs.{AreSpelled}
 use Rattle.nfs_base.specs.declared.seal.End.{End}
 use Rattle.nfs_base.specs.declared.seal.End.TheVariants.{Dest, Source}
+use Rattle.nfs_base.specs.declared.side.Side.TheVariants as sides
 use Rattle.run_system.specs.Moments.{made_at, rests_at, world_at}
-use Rattle.run_system.specs.System.{ClientView, system_of, telling}
+use Rattle.run_system.specs.System.{ClientView, opening_of, telling}
 use Rattle.session_server.specs.Host.{Codes}
 use Rattle.streams.specs.Draws.{counted_draw}
 use Rattle.streams.specs.declared.draws.Drawn.TheVariants.{Got}
 use Rattle.wire_lines.specs.declared.letters.Speaker.TheVariants as speakers
 use Rattle.wire_machine.specs.History as history
-use Rattle.wire_machine.specs.Steps.{AreSteps}
+use Rattle.wire_machine.specs.Steps.{AreSteps, NeverStops}
 use Rattle.wire_meaning.specs.Meaning.{meaning}
 use Rattle.wire_model.specs.CallerLaws.{CallerLaws, CallerStart}
 use Rattle.wire_model.specs.Spelling.{Spelling}
 use Rattle.wire_model.specs.Wire.{Acts}
-use Rattle.wire_run.specs.Ends.{Words, count_gives, machines}
-use Rattle.wire_run.specs.Fresh.{IsFreshDest, Shape}
-use Rattle.wire_run.specs.Running.{RunMachines, RunStep, RunWorld}
-use Rattle.wire_run.specs.Setting.{dest_name, dest_source}
+use Rattle.run_ends.specs.Ends.{RunMachines, RunStep, RunWorld, Words, count_gives, machines}
+use Rattle.run_ends.specs.Opening.{IsNewDest}
+use Rattle.run_ends.specs.Setting.{dest_name, dest_source}
 use Rattle.wire_spelling.specs.Spelling.{spelling}
 use Rattle.wire_xdr.specs.Cursor.{IsBytes}
-use Rattle.run_dest.proofs.CallerSteps.{small_did}
 use Rattle.run_dest.proofs.RunSteps.{AreKnown, did, rested}
+use Rattle.run_dest.proofs.Uncut.{acts_are, uncut_at}
+use Rattle.run_dest.specs.ActLaws.{step_did}
 use Rattle.run_dest.specs.Kept as runs
 use Rattle.run_dest.specs.Kept.{Fits, GoesSeen, IsKept, IsLawfulCaller, TokensAreBytes, means_of}
 
@@ -73,7 +74,8 @@ module _ {M : Type 0} (words : Words M ℕ) (accepts : List ℕ → Option (List
     abbrev pub acts : ℕ → Acts
     acts k = runs.shown_at words mech spell meaning first steps k
 
-    module _ (known : AreKnown words who mech) (own : StartsOwn who (words.started mech dest_name) words.gives) (are : AreSteps m first steps) where
+    module _ (known : AreKnown words who mech) (own : StartsOwn who (words.started mech dest_name) words.gives) (are : AreSteps m first steps)
+        (never : NeverStops sides.Dest first steps) where
       abbrev Goes : ℕ → Acts → Type 0
       Goes k shown = GoesSeen (Fits words mech (dest k)) who (means_of words mech) mech (dest k) (dest (suc k)) shown
 
@@ -87,9 +89,12 @@ module _ {M : Type 0} (words : Words M ℕ) (accepts : List ℕ → Option (List
       goes_at k (Some s) is keeps settled =
           let made = made_at m (telling codes) spell meaning first steps k s are is in
           let before = world_at m (telling codes) spell meaning first steps k in
+          let uncut = uncut_at m (telling codes) spell meaning first steps k s never is in
           subst (λ (w : RunWorld M). GoesSeen (Fits words mech (dest k)) who (means_of words mech) mech (dest k) w.dest
           (history.acts_of m (telling codes) spell meaning before (Some s) Dest)) (sym made.after)
-          (did words who mech known own before s.parts s.after _ (small_did words s.event before s.parts s.after made.step.small) keeps settled)
+          (subst (λ (shown : Acts). GoesSeen (Fits words mech (dest k)) who (means_of words mech) mech (dest k) s.after.dest shown)
+          (sym (acts_are m (telling codes) spell meaning before s uncut))
+          (did words who mech known own before s.parts s.after _ (step_did words before s uncut made.step) keeps settled))
 
       pub run_seen : runs.RunIsSeen words mech spell meaning first steps who
       run_seen k keeps settled = goes_at k (slice_get steps k) refl keeps settled
@@ -151,38 +156,42 @@ module _ {M : Type 0} (words : Words M ℕ) (accepts : List ℕ → Option (List
 
     pub lawful_shown : (view : ClientView M) (purposes : ℕ → Purposes) → CallerStart (caller_in (dest 0))
         → ((k : ℕ) → CallerLaws spell Source Dest (caller_in (dest k)) (caller_in (dest (suc k))) (acts k))
-        → IsLawfulCaller spell (system_of m codes spell meaning view first steps purposes)
-    unfolding system_of
+        → IsLawfulCaller spell (opening_of m codes spell meaning view first steps purposes)
+    unfolding opening_of
     lawful_shown view purposes start laws = record { start = start; laws = laws }
 
 -- ---- the beginning
 
-copier_is : {M : Type 0} (mech : M) (shape : Shape) (d : DestState M) → IsFreshDest mech shape d
-    → copier_in d ≡ no_copier 1 (shape.blocks * 4096) dest_source dest_name
-copier_is {M} mech shape d is = ap (λ (x : Destination M). x.copier) is.extra
+module _ {M : Type 0} (mech : M) (d : DestState M) (is : IsNewDest mech d) where
+  abbrev pub boot_of : ℕ
+  boot_of = d.state.machine.store.volume.boot
 
-pub begins_kept : {M : Type 0} (mech : M) (shape : Shape) (d : DestState M) → IsFreshDest mech shape d → IsKept mech d
-begins_kept {M} mech shape d is = record {
-  owner = ap (λ (c : ContextTable Carried). c.owner) is.contexts;
-  principal = ap (λ (x : Destination M). x.copier.principal) is.extra;
-  mech_is = ap (λ (x : Destination M). x.mech) is.extra;
-}
+  abbrev pub capacity_of : ℕ
+  capacity_of = d.state.machine.store.volume.capacity
 
-pub begins_settled : {M : Type 0} (who : Identity) (mech : M) (shape : Shape) (d : DestState M) → IsFreshDest mech shape d
-    → IsSettledAs who (no_copier 1 (shape.blocks * 4096) dest_source dest_name) → IsSettledAs who (copier_in d)
-begins_settled who mech shape d is settled = subst (IsSettledAs who) (sym (copier_is mech shape d is)) settled
+  copier_is : copier_in d ≡ no_copier boot_of capacity_of dest_source dest_name
+  copier_is = ap (λ (x : Destination M). x.copier) is.extra
 
-pub begins_planned : {M : Type 0} (mech : M) (shape : Shape) (d : DestState M) → IsFreshDest mech shape d → EachPlanIsFit (copier_in d).copies.book.table
-begins_planned mech shape d is = subst (λ (x : Copier). EachPlanIsFit x.copies.book.table) (sym (copier_is mech shape d is)) tt
+  pub begins_kept : IsKept mech d
+  begins_kept = record {
+    owner = ap (λ (c : ContextTable Carried). c.owner) is.contexts;
+    principal = ap (λ (x : Destination M). x.copier.principal) is.extra;
+    mech_is = ap (λ (x : Destination M). x.mech) is.extra;
+  }
 
-pub begins_fit : {M : Type 0} (mech : M) (shape : Shape) (d : DestState M) → IsFreshDest mech shape d → MountIsFit (fresh Source false) → MountIsFit (mount_of d)
-begins_fit mech shape d is fit = subst MountIsFit (sym (ap (λ (x : Copier). x.work.mount) (copier_is mech shape d is))) fit
+  pub begins_settled : (who : Identity) → ((boot capacity : ℕ) → IsSettledAs who (no_copier boot capacity dest_source dest_name)) → IsSettledAs who (copier_in d)
+  begins_settled who settled = subst (IsSettledAs who) (sym copier_is) (settled boot_of capacity_of)
 
-pub begins_start : {M : Type 0} (mech : M) (shape : Shape) (d : DestState M) → IsFreshDest mech shape d
-    → ((above : Above) → CallerStart (caller_of above (fresh Source false))) → CallerStart (caller_in d)
-begins_start mech shape d is start =
-    subst (λ (m : Mounted). CallerStart (caller_of (above_in d.state.machine.store.volume.boot (copier_in d)) m))
-    (sym (ap (λ (x : Copier). x.work.mount) (copier_is mech shape d is))) (start (above_in d.state.machine.store.volume.boot (copier_in d)))
+  pub begins_planned : EachPlanIsFit (copier_in d).copies.book.table
+  begins_planned = subst (λ (x : Copier). EachPlanIsFit x.copies.book.table) (sym copier_is) tt
+
+  pub begins_fit : MountIsFit (fresh Source false) → MountIsFit (mount_of d)
+  begins_fit fit = subst MountIsFit (sym (ap (λ (x : Copier). x.work.mount) copier_is)) fit
+
+  pub begins_start : ((above : Above) → CallerStart (caller_of above (fresh Source false))) → CallerStart (caller_in d)
+  begins_start start =
+      subst (λ (m : Mounted). CallerStart (caller_of (above_in boot_of (copier_in d)) m)) (sym (ap (λ (x : Copier). x.work.mount) copier_is))
+      (start (above_in boot_of (copier_in d)))
 
 -- ---- what it goes by
 

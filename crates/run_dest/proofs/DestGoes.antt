@@ -1,5 +1,5 @@
 -- Each small step of a run has a story of what it does to the destination's jobs, keeps them sound, and leaves its opening.
-use Rattle.std.proofs.Common.{◌≡◌, inl, inr, ℕ, ◌-◌, Bool, true, false, List, Option, Some, sym, subst}
+use Rattle.std.proofs.Common.{◌≡◌, inl, inr, ℕ, ◌-◌, Bool, true, false, List, Option, sym, subst}
 use Rattle.dest_copies.specs.Story.{Story}
 use Rattle.dest_core.specs.Stepping.{DestState, DestStep, IsRecord, IsReply, IsWork, tick_step}
 use Rattle.dest_own.specs.Going.{jobs_in}
@@ -10,8 +10,7 @@ use Rattle.server_volume.specs.declared.used.Used.{Used}
 use Rattle.wire_machine.specs.Ends.{DestAct}
 use Rattle.wire_machine.specs.Ends as acts
 use Rattle.wire_machine.specs.World.{Parts}
-use Rattle.wire_run.specs.Ends.{Words, dest_does, hears, is_worker}
-use Rattle.wire_run.specs.Running.{RunWorld}
+use Rattle.run_ends.specs.Ends.{RunWorld, Words, dest_does, hears, is_worker}
 use Rattle.run_dest.specs.Acts.{DestDid}
 
 pub record Goes {M : Type 0} (s t : DestState M) (used : List Used) : Type 0 where

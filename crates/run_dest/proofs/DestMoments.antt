@@ -1,7 +1,8 @@
--- What each moment of a run is to its destination.
-use Rattle.std.proofs.Common.{◌≡◌, ◌∙◌, inl, inr, ℕ, suc, ◌-◌, Bool, true, false, List, slice_get, Option, Some, None, refl, sym, ap}
+-- What each moment of an opening is to its destination.
+use Rattle.std.proofs.Common.{◌≡◌, ◌∙◌, inl, inr, ℕ, suc, ◌-◌, Bool, true, false, List, slice_get, Option, Some, None, refl, sym, ap, subst}
 use Rattle.dest_core.specs.Stepping.{DestState, DestStep}
 use Rattle.nfs_base.specs.declared.seal.End.TheVariants.{Dest}
+use Rattle.nfs_base.specs.declared.side.Side.TheVariants as sides
 use Rattle.outbox.specs.declared.outgoing.Outbox.{Outbox}
 use Rattle.run_dest.specs.Acts.{DestDid, IsSecond, speaker_of}
 use Rattle.run_dest.specs.Moments.{dest_part}
@@ -15,14 +16,15 @@ use Rattle.wire_machine.specs.Ends.{DestAct}
 use Rattle.wire_machine.specs.Ends as acts
 use Rattle.wire_machine.specs.History.{At, at_moment, called_with, is_call, next, takes_call, told_by}
 use Rattle.wire_machine.specs.History as history
+use Rattle.wire_machine.specs.Steps.{NeverStops}
 use Rattle.wire_machine.specs.World.{Part, Parts}
 use Rattle.wire_model.specs.Meaning.{Meaning}
 use Rattle.wire_model.specs.Spelling.{Spelling}
-use Rattle.wire_model.specs.Wire.{Executed}
-use Rattle.wire_run.specs.Ends.{Words, dest_goes, hears, is_worker, machines}
-use Rattle.wire_run.specs.Handling.{IsHandled, dest_took}
-use Rattle.wire_run.specs.Running.{RunMachines, RunStep, RunWorld}
+use Rattle.wire_model.specs.Wire.{Acts, Executed}
+use Rattle.run_ends.specs.Ends.{RunMachines, RunStep, RunWorld, Words, dest_goes, hears, is_worker, machines}
+use Rattle.run_ends.specs.Handling.{IsHandled, dest_took}
 use Rattle.run_dest.specs.Kinds.{Kind}
+use Rattle.run_dest.proofs.Uncut.{acts_are, uncut_at}
 
 -- ---- what is told
 
@@ -138,14 +140,18 @@ module _ {M : Type 0} (words : Words M ℕ) (spell : Spelling) (meaning : Meanin
         none = none_here before.dest (record { host = after.dest; out = parts.dest.out }) parts.dest before.clock refl (ap (λ (p : Part). p.took) r.part);
       }))))
 
-  module _ (first : RunWorld M) (steps : List (RunStep M))
+  module _ (first : RunWorld M) (steps : List (RunStep M)) (never : NeverStops sides.Dest first steps)
       (did : (k : ℕ) (s : RunStep M) → slice_get steps k ≡ Some s → DestDid words (at_moment m (telling codes) spell meaning first steps k).world s.parts s.after) where
     kind_by : (k : ℕ) (o : Option (RunStep M)) → slice_get steps k ≡ o
         → Kind words (at_moment m (telling codes) spell meaning first steps k).world.dest
         (record { host = (next m (telling codes) spell meaning (at_moment m (telling codes) spell meaning first steps k) o).world.dest; out = (dest_part o).out })
         (dest_part o).took (dest_part o).speaker (history.acts_of m (telling codes) spell meaning (at_moment m (telling codes) spell meaning first steps k).world o Dest).executed
     kind_by k None is = inr (inr (inr (inr (record { same = refl; used = refl; sent = refl; none = refl }))))
-    kind_by k (Some s) is = did_kind (at_moment m (telling codes) spell meaning first steps k).world s.parts s.after (did k s is)
+    kind_by k (Some s) is =
+        let before = (at_moment m (telling codes) spell meaning first steps k).world in
+        let uncut = uncut_at m (telling codes) spell meaning first steps k s never is in
+        subst (λ (acts : Acts). Kind words before.dest (record { host = s.after.dest; out = s.parts.dest.out }) s.parts.dest.took s.parts.dest.speaker acts.executed)
+        (sym (acts_are m (telling codes) spell meaning before s uncut)) (did_kind before s.parts s.after (did k s is))
 
     pub kind_at : (k : ℕ)
         → Kind words (at_moment m (telling codes) spell meaning first steps k).world.dest

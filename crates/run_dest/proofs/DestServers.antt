@@ -8,7 +8,7 @@ use Rattle.server_laws.specs.Good.{IsGood}
 use Rattle.server_volume.specs.Choices.{choice_of}
 use Rattle.wire_lines.specs.declared.letters.Speaker.{Speaker}
 use Rattle.wire_model.specs.Wire.{Executed}
-use Rattle.wire_run.specs.Ends.{Words}
+use Rattle.run_ends.specs.Ends.{Words}
 use Rattle.run_dest.specs.Kinds.{Kind}
 use Rattle.run_dest.proofs.Records.{AreServed, comes, good_on}
 

@@ -8,8 +8,7 @@ use Rattle.wire_lines.specs.declared.letters.Speaker.{Speaker}
 use Rattle.wire_model.specs.Meaning.{Meaning}
 use Rattle.wire_model.specs.Spelling.{Spelling}
 use Rattle.wire_model.specs.System.{System}
-use Rattle.wire_run.specs.Ends.{Words, machines}
-use Rattle.wire_run.specs.Running.{RunMachines, RunStep, RunWorld}
+use Rattle.run_ends.specs.Ends.{RunMachines, RunStep, RunWorld, Words, machines}
 
 module _ {M : Type 0} (words : Words M ℕ) (spell : Spelling) (meaning : Meaning) (first : RunWorld M) (steps : List (RunStep M)) where
   abbrev m : RunMachines M

@@ -21,9 +21,8 @@ use Rattle.wire_model.specs.Meaning.{Meaning}
 use Rattle.wire_model.specs.Spelling.{Spelling}
 use Rattle.wire_model.specs.System.{System}
 use Rattle.wire_model.specs.Wire.{Executed}
-use Rattle.wire_run.specs.Ends.{Words, dest_goes, hears, is_worker, machines}
-use Rattle.wire_run.specs.Handling.{dest_took}
-use Rattle.wire_run.specs.Running.{RunMachines, RunStep, RunWorld}
+use Rattle.run_ends.specs.Ends.{RunMachines, RunStep, RunWorld, Words, dest_goes, hears, is_worker, machines}
+use Rattle.run_ends.specs.Handling.{dest_took}
 use Rattle.wire_xdr.specs.Cursor.{IsBytes}
 
 module _ {M : Type 0} (words : Words M ℕ) (spell : Spelling) (meaning : Meaning) (s : System) (k : ℕ) where

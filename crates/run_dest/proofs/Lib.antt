@@ -1,8 +1,7 @@
 pub mod Along
+mod Beginning
 mod CallerRuns
-mod CallerSteps
 mod DestMoments
-pub mod DestRuns
 pub mod DestGoes
 pub mod GoesAlong
 pub mod Going
@@ -15,11 +14,8 @@ mod Records
 pub mod Resting
 mod RunSteps
 mod Runs
-pub mod ServerSteps
 mod DestServers
 pub mod Shown
-pub mod SourceCalls
-pub mod SourceRuns
-pub mod SourceSteps
+mod Uncut
 mod Volumes
 mod Whole

@@ -1,5 +1,5 @@
--- What is seen at a moment of a run are the jobs that its destination has, and so at the next.
-use Rattle.std.proofs.Common.{◌≡◌, ◌⊎◌, ◌∙◌, inl, inr, ⊎_elim, ℕ, zero, suc, ◌<◌, ◌≤◌, Bool, true, false, List, [], ◌∷◌, length, slice_get, Option, Some, None, refl, sym, ap, subst, arith}
+-- What is seen at a moment of an opening are the jobs that the destination has, and so at the next.
+use Rattle.std.proofs.Common.{◌≡◌, ◌⊎◌, ◌∙◌, inl, inr, ⊎_elim, ℕ, zero, suc, ◌<◌, ◌≤◌, Bool, true, false, List, [], length, slice_get, Option, Some, None, refl, sym, ap, subst}
 use Rattle.std.specs.Prelude.{◌||◌, slice_index_or}
 use Rattle.std.proofs.lemmas.Bool.{cases_lt}
 use Rattle.deed_laws.specs.Linked.{AreLinked, GoOn, IsSeenAs, IsShown as IsShownAs, Planned, looked_up, name_at}
@@ -16,6 +16,7 @@ use Rattle.job_book.specs.Book.{BookView}
 use Rattle.job_table.specs.Table.{JobTable}
 use Rattle.nfs_base.specs.declared.job.JobName.{JobName}
 use Rattle.nfs_base.specs.declared.seal.End.TheVariants.{Dest}
+use Rattle.nfs_base.specs.declared.side.Side.TheVariants as sides
 use Rattle.run_system.specs.Listing.{listed_in}
 use Rattle.run_system.specs.Moments.{made_at}
 use Rattle.run_system.specs.System.{telling}
@@ -23,19 +24,19 @@ use Rattle.server_volume.specs.declared.used.Used.{Used}
 use Rattle.session_server.specs.Host as hosts
 use Rattle.wire_lines.specs.declared.letters.Speaker.{Speaker}
 use Rattle.wire_lines.specs.declared.letters.Speaker.TheVariants as speakers
-use Rattle.wire_machine.specs.History.{At, Listed, Telling, acts_in, acts_of, at_moment, called_with, deed_of, is_call, is_reported, job_at, jobs_after, next, no_job, part_acts, takes_call, told_by}
-use Rattle.wire_machine.specs.Steps.{AreSteps, IsStep}
+use Rattle.wire_machine.specs.History.{At, Listed, Telling, acts_in, acts_of, at_moment, called_with, is_call, is_reported, jobs_after, next, no_job, part_acts, takes_call, told_by}
+use Rattle.wire_machine.specs.Steps.{AreSteps, IsStep, NeverStops, cut_of}
 use Rattle.wire_machine.specs.World.{Part}
 use Rattle.wire_model.specs.Copies.{Job as Copy}
 use Rattle.wire_model.specs.Meaning.{Meaning}
 use Rattle.wire_model.specs.Spelling.{Spelling}
-use Rattle.wire_model.specs.Wire.{Executed}
-use Rattle.wire_run.specs.Ends.{SourceState, Words, machines}
-use Rattle.wire_run.specs.Running.{RunMachines, RunStep, RunWorld}
+use Rattle.wire_model.specs.Wire.{Acts, Executed}
+use Rattle.run_ends.specs.Ends.{RunMachines, RunStep, RunWorld, SourceState, Words, machines}
 use Rattle.run_dest.specs.Acts.{DestDid}
-use Rattle.run_dest.specs.ActLaws.{small_did}
+use Rattle.run_dest.specs.ActLaws.{step_did}
 use Rattle.run_dest.specs.Moments.{dest_part}
 use Rattle.run_dest.proofs.DestGoes.{AreKnown, Goes, did_goes}
+use Rattle.run_dest.proofs.Uncut.{acts_are, jobs_are, uncut_at, untold}
 
 abbrev boot_of : {M : Type 0} → DestState M → ℕ
 boot_of s = s.state.machine.store.volume.boot
@@ -55,6 +56,23 @@ pub record AreFolds : Type 0 where
   pub marked : (stable : JobName → Bool) (now : JobTable) (jobs : List Copy) (place : ℕ) → place < now.made
       → (slice_index_or (jobs_after (listed_in now) stable now.boot now.made jobs) place no_job).stable
       ≡ ((slice_index_or jobs place no_job).stable || stable (name_at now.boot place))
+
+-- the destination's jobs are seen, they are sound, and belong to its volume's opening
+pub record AreSeen {M : Type 0} (d : DestState M) (jobs : List Copy) : Type 0 where
+  pub made : length jobs ≡ made_in d
+  pub linked : AreLinked plan_seen (table_in d) (λ j. slice_index_or jobs j no_job)
+  pub none_yet : (j : ℕ) → made_in d ≤ j → slice_index_or jobs j no_job ≡ no_job
+  pub unlost : (j : ℕ) → (slice_index_or jobs j no_job).lost ≡ false
+  pub boot : (table_in d).boot ≡ boot_of d
+  pub kept : IsKept (table_in d)
+
+-- what the destination did in a step, which is shown so, and in which its copies went on
+pub record AreDone {M : Type 0} (spell : Spelling) (meaning : Meaning) (d t : DestState M) (part : Part) (shown : Acts) (old new : List Copy) : Type 0 where
+  pub acts : shown ≡ part_acts part shown.executed
+  pub goes : GoOn plan_seen (table_in d) (table_in t) (λ j. slice_index_or old j no_job) (λ j. slice_index_or new j no_job)
+  pub marked : (j : ℕ) → j < made_in t
+      → (slice_index_or new j no_job).stable ≡ ((slice_index_or old j no_job).stable || is_reported spell meaning shown (name_at (table_in t).boot j))
+  pub story : Story (jobs_in d) (jobs_in t) part.out.used
 
 -- ---- a story is told by deeds
 
@@ -91,27 +109,13 @@ module _ {M : Type 0} (words : Words M ℕ) (known : AreKnown words) (folds : Ar
   abbrev on_by : Moment → Option (RunStep M) → Moment
   on_by at o = next m tell spell meaning at o
 
-  -- the destination's jobs are seen, they are sound, and belong to its volume's opening
-  pub record IsSeen (at : At m (telling codes) spell meaning) : Type 0 where
-    pub made : length at.seen.jobs ≡ made_in at.world.dest
-    pub linked : AreLinked plan_seen (table_in at.world.dest) (λ j. job_at at.seen j)
-    pub none_yet : (j : ℕ) → made_in at.world.dest ≤ j → job_at at.seen j ≡ no_job
-    pub unlost : (j : ℕ) → (job_at at.seen j).lost ≡ false
-    pub boot : (table_in at.world.dest).boot ≡ boot_of at.world.dest
-    pub kept : IsKept (table_in at.world.dest)
+  abbrev pub IsSeen : At m (telling codes) spell meaning → Type 0
+  IsSeen at = AreSeen at.world.dest at.seen.jobs
 
-  -- what the destination did in the step from a moment
-  pub record IsDone (at : At m (telling codes) spell meaning) (o : Option (RunStep M)) : Type 0 where
-    pub acts : acts_of m (telling codes) spell meaning at.world o Dest
-        ≡ part_acts (dest_part o) (acts_of m (telling codes) spell meaning at.world o Dest).executed
-    pub deed : (next m (telling codes) spell meaning at o).seen.deed
-        ≡ deed_of (next m (telling codes) spell meaning at o).world.dest.state.machine.store.volume (dest_part o)
-    pub goes : GoOn plan_seen (table_in at.world.dest) (table_in (next m (telling codes) spell meaning at o).world.dest) (λ j. job_at at.seen j)
-        (λ j. job_at (next m (telling codes) spell meaning at o).seen j)
-    pub marked : (j : ℕ) → j < made_in (next m (telling codes) spell meaning at o).world.dest
-        → (job_at (next m (telling codes) spell meaning at o).seen j).stable
-        ≡ ((job_at at.seen j).stable || is_reported spell meaning (acts_of m (telling codes) spell meaning at.world o Dest) (name_at (table_in (next m (telling codes) spell meaning at o).world.dest).boot j))
-    pub story : Story (jobs_in at.world.dest) (jobs_in (next m (telling codes) spell meaning at o).world.dest) (dest_part o).out.used
+  abbrev pub IsDone : At m (telling codes) spell meaning → Option (RunStep M) → Type 0
+  IsDone at o =
+      AreDone spell meaning at.world.dest (next m (telling codes) spell meaning at o).world.dest (dest_part o) (acts_of m (telling codes) spell meaning at.world o Dest)
+      at.seen.jobs (next m (telling codes) spell meaning at o).seen.jobs
 
   -- ---- what is executed
 
@@ -134,11 +138,12 @@ module _ {M : Type 0} (words : Words M ℕ) (known : AreKnown words) (folds : Ar
       → (acts_of m (telling codes) spell meaning w o Dest).executed ≡ None
   quiet_by w None quiet = refl
   quiet_by w (Some s) quiet =
-      none_told s.parts.dest (λ bytes. tell.dest_told bytes w.clock w.dest s.after.dest s.parts.dest.out) quiet
+      untold (cut_of sides.Dest w s) (acts_in tell w s.parts s.after Dest)
+      (none_told s.parts.dest (λ bytes. tell.dest_told bytes w.clock w.dest s.after.dest s.parts.dest.out) quiet)
 
   -- ---- a small step
 
-  module _ (at : At m (telling codes) spell meaning) (s : RunStep M) (step : IsStep m at.world s) (shown : IsSeen at) where
+  module _ (at : At m (telling codes) spell meaning) (s : RunStep M) (uncut : cut_of sides.Dest at.world s ≡ None) (step : IsStep m at.world s) (shown : IsSeen at) where
     abbrev before : JobTable
     before = table_in at.world.dest
 
@@ -148,11 +153,14 @@ module _ {M : Type 0} (words : Words M ℕ) (known : AreKnown words) (folds : Ar
     abbrev reported : JobName → Bool
     reported = is_reported spell meaning (acts_in tell at.world s.parts s.after Dest)
 
+    abbrev old : ℕ → Copy
+    old j = slice_index_or at.seen.jobs j no_job
+
     abbrev jobs_by : ℕ → List Copy
     jobs_by boot = jobs_after (listed_in now) reported boot now.made at.seen.jobs
 
     goes : Goes at.world.dest s.after.dest s.parts.dest.out.used
-    goes = did_goes words known at.world s.parts s.after (small_did words s.event at.world s.parts s.after step.small)
+    goes = did_goes words known at.world s.parts s.after (step_did words at.world s uncut step)
 
     by_deeds : ByDeeds (jobs_in at.world.dest) (jobs_in s.after.dest)
     by_deeds = deeds_of (jobs_in at.world.dest) (jobs_in s.after.dest) s.parts.dest.out.used goes.story
@@ -166,15 +174,15 @@ module _ {M : Type 0} (words : Words M ℕ) (known : AreKnown words) (folds : Ar
     within : length at.seen.jobs ≤ now.made
     within = subst (λ n. n ≤ now.made) (sym shown.made) later.made
 
-    goes_on : GoOn plan_seen before now (λ j. job_at at.seen j) (λ j. slice_index_or (jobs_by (boot_of s.after.dest)) j no_job)
+    goes_on : GoOn plan_seen before now old (λ j. slice_index_or (jobs_by (boot_of s.after.dest)) j no_job)
     goes_on =
-        subst (λ (boot : ℕ). GoOn plan_seen before now (λ j. job_at at.seen j) (λ j. slice_index_or (jobs_by boot) j no_job)) boot_is
+        subst (λ (boot : ℕ). GoOn plan_seen before now old (λ j. slice_index_or (jobs_by boot) j no_job)) boot_is
         (folds.on reported before now at.seen.jobs shown.made later.made)
 
     marks : (j : ℕ) → j < now.made
-        → (slice_index_or (jobs_by (boot_of s.after.dest)) j no_job).stable ≡ ((job_at at.seen j).stable || reported (name_at now.boot j))
+        → (slice_index_or (jobs_by (boot_of s.after.dest)) j no_job).stable ≡ ((old j).stable || reported (name_at now.boot j))
     marks j below =
-        subst (λ (boot : ℕ). (slice_index_or (jobs_by boot) j no_job).stable ≡ ((job_at at.seen j).stable || reported (name_at now.boot j))) boot_is
+        subst (λ (boot : ℕ). (slice_index_or (jobs_by boot) j no_job).stable ≡ ((old j).stable || reported (name_at now.boot j))) boot_is
         (folds.marked reported now at.seen.jobs j below)
 
     past : (j : ℕ) → now.made ≤ j → slice_index_or (jobs_by (boot_of s.after.dest)) j no_job ≡ no_job
@@ -184,71 +192,75 @@ module _ {M : Type 0} (words : Words M ℕ) (known : AreKnown words) (folds : Ar
     not_lost j =
         ⊎_elim
         (λ (below : j < now.made).
-        (goes_on.seen_as j below).lost ∙ seen_lost (seen_in now (name_at now.boot j)) (job_at at.seen j) ∙ shown.unlost j)
+        (goes_on.seen_as j below).lost ∙ seen_lost (seen_in now (name_at now.boot j)) (old j) ∙ shown.unlost j)
         (λ (high : now.made ≤ j). ap (λ (job : Copy). job.lost) (past j high)) (cases_lt j now.made)
 
+    abbrev new_jobs : List Copy
+    new_jobs = (next m (telling codes) spell meaning at (Some s)).seen.jobs
+
     seen_then : IsSeen (next m (telling codes) spell meaning at (Some s))
-    seen_then = record {
-      made = folds.count (listed_in now) reported (boot_of s.after.dest) now.made at.seen.jobs within;
-      linked = folds.linked plan_seen by_deeds.0 (jobs_in at.world.dest) (jobs_in s.after.dest) by_deeds.1 (λ j. job_at at.seen j)
-          (λ j. slice_index_or (jobs_by (boot_of s.after.dest)) j no_job) shown.linked goes_on;
-      none_yet = past;
-      unlost = not_lost;
-      boot = boot_is;
-      kept = goes.kept shown.kept;
-    }
+    seen_then =
+        subst (λ (jobs : List Copy). AreSeen s.after.dest jobs) (sym (jobs_are m tell spell meaning at s uncut))
+        (record {
+          made = folds.count (listed_in now) reported (boot_of s.after.dest) now.made at.seen.jobs within;
+          linked = folds.linked plan_seen by_deeds.0 (jobs_in at.world.dest) (jobs_in s.after.dest) by_deeds.1 old
+              (λ j. slice_index_or (jobs_by (boot_of s.after.dest)) j no_job) shown.linked goes_on;
+          none_yet = past;
+          unlost = not_lost;
+          boot = boot_is;
+          kept = goes.kept shown.kept;
+        })
 
     done_then : IsDone at (Some s)
-    done_then = record { acts = refl; deed = refl; goes = goes_on; marked = marks; story = goes.story }
+    done_then =
+        subst (λ (acts : Acts). AreDone spell meaning at.world.dest s.after.dest s.parts.dest acts at.seen.jobs new_jobs) (sym (acts_are m tell spell meaning at.world s uncut))
+        (subst (λ (jobs : List Copy). AreDone spell meaning at.world.dest s.after.dest s.parts.dest (acts_in tell at.world s.parts s.after Dest) at.seen.jobs jobs)
+        (sym (jobs_are m tell spell meaning at s uncut))
+        (record { acts = refl; goes = goes_on; marked = marks; story = goes.story }))
 
   -- ---- a rest
 
   rest_done : (at : At m (telling codes) spell meaning) → IsSeen at → IsDone at None
   rest_done at shown = record {
     acts = refl;
-    deed = refl;
     goes = record {
-      seen_as = λ j below. shown_stays (seen_in (table_in at.world.dest) (name_at (table_in at.world.dest).boot j)) (job_at at.seen j) (shown.linked j below);
+      seen_as = λ j below.
+          shown_stays (seen_in (table_in at.world.dest) (name_at (table_in at.world.dest).boot j)) (slice_index_or at.seen.jobs j no_job) (shown.linked j below);
       fresh = λ j high. ap (λ (job : Copy). job.retired) (shown.none_yet j high);
     };
-    marked = λ j below. or_false (job_at at.seen j).stable;
+    marked = λ j below. or_false (slice_index_or at.seen.jobs j no_job).stable;
     story = (known.rest at.world.dest []).story;
   }
 
   -- ---- both
 
-  abbrev Steps : Moment → Option (RunStep M) → Type 0
-  Steps at o = (s : RunStep M) → o ≡ Some s → IsStep m at.world s
+  next_seen : (at : At m (telling codes) spell meaning) (o : Option (RunStep M)) → ((s : RunStep M) → o ≡ Some s → cut_of sides.Dest at.world s ≡ None)
+      → ((s : RunStep M) → o ≡ Some s → IsStep m at.world s) → IsSeen at → IsSeen (next m (telling codes) spell meaning at o)
+  next_seen at None uncut step shown = shown
+  next_seen at (Some s) uncut step shown = seen_then at s (uncut s refl) (step s refl) shown
 
-  pub next_seen : (at : At m (telling codes) spell meaning) (o : Option (RunStep M)) → ((s : RunStep M) → o ≡ Some s → IsStep m at.world s) → IsSeen at
-      → IsSeen (next m (telling codes) spell meaning at o)
-  next_seen at None step shown = record {
-    made = shown.made;
-    linked = shown.linked;
-    none_yet = shown.none_yet;
-    unlost = shown.unlost;
-    boot = shown.boot;
-    kept = shown.kept;
-  }
-  next_seen at (Some s) step shown = seen_then at s (step s refl) shown
-
-  pub next_done : (at : At m (telling codes) spell meaning) (o : Option (RunStep M)) → ((s : RunStep M) → o ≡ Some s → IsStep m at.world s) → IsSeen at → IsDone at o
-  next_done at None step shown = rest_done at shown
-  next_done at (Some s) step shown = done_then at s (step s refl) shown
+  next_done : (at : At m (telling codes) spell meaning) (o : Option (RunStep M)) → ((s : RunStep M) → o ≡ Some s → cut_of sides.Dest at.world s ≡ None)
+      → ((s : RunStep M) → o ≡ Some s → IsStep m at.world s) → IsSeen at → IsDone at o
+  next_done at None uncut step shown = rest_done at shown
+  next_done at (Some s) uncut step shown = done_then at s (uncut s refl) (step s refl) shown
 
   -- ---- a run
 
-  module _ (first : RunWorld M) (steps : List (RunStep M)) (begun : IsSeen (at_moment m (telling codes) spell meaning first steps 0)) (are : AreSteps m first steps) where
+  module _ (first : RunWorld M) (steps : List (RunStep M)) (begun : IsSeen (at_moment m (telling codes) spell meaning first steps 0)) (are : AreSteps m first steps)
+      (never : NeverStops sides.Dest first steps) where
     step_from : (k : ℕ) (s : RunStep M) → slice_get steps k ≡ Some s → IsStep m (at_moment m (telling codes) spell meaning first steps k).world s
     step_from k s is = (made_at m (telling codes) spell meaning first steps k s are is).step
 
+    uncut_from : (k : ℕ) (s : RunStep M) → slice_get steps k ≡ Some s → cut_of sides.Dest (at_moment m (telling codes) spell meaning first steps k).world s ≡ None
+    uncut_from k s is = uncut_at m (telling codes) spell meaning first steps k s never is
+
     -- what each step is to the destination
     pub did_at : (k : ℕ) (s : RunStep M) → slice_get steps k ≡ Some s → DestDid words (at_moment m (telling codes) spell meaning first steps k).world s.parts s.after
-    did_at k s is = small_did words s.event (at_moment m (telling codes) spell meaning first steps k).world s.parts s.after (step_from k s is).small
+    did_at k s is = step_did words (at_moment m (telling codes) spell meaning first steps k).world s (uncut_from k s is) (step_from k s is)
 
     pub seen_at : (k : ℕ) → IsSeen (at_moment m (telling codes) spell meaning first steps k)
     seen_at zero = begun
-    seen_at (suc k) = next_seen (at_moment m (telling codes) spell meaning first steps k) (slice_get steps k) (step_from k) (seen_at k)
+    seen_at (suc k) = next_seen (at_moment m (telling codes) spell meaning first steps k) (slice_get steps k) (uncut_from k) (step_from k) (seen_at k)
 
     pub done_at : (k : ℕ) → IsDone (at_moment m (telling codes) spell meaning first steps k) (slice_get steps k)
-    done_at k = next_done (at_moment m (telling codes) spell meaning first steps k) (slice_get steps k) (step_from k) (seen_at k)
+    done_at k = next_done (at_moment m (telling codes) spell meaning first steps k) (slice_get steps k) (uncut_from k) (step_from k) (seen_at k)

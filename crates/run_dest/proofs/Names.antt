@@ -15,8 +15,8 @@ use Rattle.wire_meaning.specs.Meaning.{meaning}
 use Rattle.wire_model.specs.NameLaws.{NameLaws}
 use Rattle.wire_model.specs.System.{System}
 use Rattle.wire_model.specs.Wire.{Executed}
-use Rattle.wire_run.specs.Ends.{Words}
-use Rattle.wire_run.specs.Handling.{IsHandled}
+use Rattle.run_ends.specs.Ends.{Words}
+use Rattle.run_ends.specs.Handling.{IsHandled}
 use Rattle.wire_spelling.specs.Spelling.{spelling}
 use Rattle.wire_xdr.specs.Cursor.{IsBytes}
 use Rattle.run_dest.specs.Kinds.{Kind}

@@ -58,7 +58,7 @@ use Rattle.session_server.specs.declared.host.TheConstants.{MOST_STEPS}
 use Rattle.state_ids.specs.declared.access.Access.TheVariants as access
 use Rattle.wire_lines.specs.declared.letters.Speaker.{Speaker}
 use Rattle.wire_model.specs.Wire.{Executed}
-use Rattle.wire_run.specs.Ends.{Words}
+use Rattle.run_ends.specs.Ends.{Words}
 use Rattle.run_dest.specs.Kinds.{Kind, TakesRecord}
 use Rattle.run_dest.proofs.Records.{codes_of}
 

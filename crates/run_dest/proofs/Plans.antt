@@ -1,6 +1,6 @@
--- The plans of the destination's jobs are within bounds at each moment of a run: it has no job at first, and each of its acts leaves
--- plans that are.
-use Rattle.std.proofs.Common.{◌≡◌, inl, inr, ℕ, zero, suc, List, [], ◌∷◌, slice_get, Option, None, Some, refl, sym, ap, subst}
+-- The plans of the destination's jobs are within bounds at each moment of an opening: it has no job at first, and each of its acts
+-- leaves plans that are.
+use Rattle.std.proofs.Common.{◌≡◌, inl, inr, ℕ, zero, suc, List, [], ◌∷◌, slice_get, Option, None, Some, refl, sym, subst}
 use Rattle.std.proofs.lemmas.List.Elements.{All-head, All-tail}
 use Rattle.std.specs.List.{AllByRecursion}
 use Rattle.std.specs.Prelude.{All}
@@ -9,15 +9,17 @@ use Rattle.dest_core.specs.Stepping.{DestState, copier_in}
 use Rattle.job_table.specs.Fits.{PlansAreFit}
 use Rattle.job_table.specs.Table.{JobTable}
 use Rattle.job_table.specs.declared.job.Job.{Job}
+use Rattle.nfs_base.specs.declared.side.Side.TheVariants as sides
 use Rattle.run_system.specs.Moments.{made_at, rests_at, world_at}
 use Rattle.run_system.specs.System.{telling}
 use Rattle.session_server.specs.Host.{Codes}
-use Rattle.wire_machine.specs.Steps.{AreSteps}
+use Rattle.wire_machine.specs.Steps.{AreSteps, NeverStops}
 use Rattle.wire_meaning.specs.Meaning.{meaning}
 use Rattle.wire_model.specs.Spelling.{Spelling}
-use Rattle.wire_run.specs.Ends.{Words, machines}
-use Rattle.wire_run.specs.Running.{RunMachines, RunStep, RunWorld}
-use Rattle.run_dest.proofs.CallerSteps.{Did, small_did}
+use Rattle.run_ends.specs.Ends.{RunMachines, RunStep, RunWorld, Words, machines}
+use Rattle.run_dest.proofs.Uncut.{uncut_at}
+use Rattle.run_dest.specs.ActLaws.{step_did}
+use Rattle.run_dest.specs.Acts.{DestDid}
 use Rattle.run_dest.specs.Kept as runs
 
 by_recursion : (jobs : List Job) → All JobIsFit jobs → AllByRecursion JobIsFit jobs
@@ -40,17 +42,17 @@ module _ {M : Type 0} (words : Words M ℕ) (mech : M) (spell : Spelling) (first
   abbrev HaveFit : DestState M → Type 0
   HaveFit d = EachPlanIsFit (copier_in d).copies.book.table
 
-  left_fit : (s : RunStep M) (before : RunWorld M) → Did words before s.parts s.after → HaveFit before.dest → HaveFit s.after.dest
+  left_fit : (s : RunStep M) (before : RunWorld M) → DestDid words before s.parts s.after → HaveFit before.dest → HaveFit s.after.dest
   left_fit s before (inl did) have = each_fits (copier_in s.after.dest).copies.book.table did.goes.3
-  left_fit s before (inr rest) have = subst HaveFit (sym rest.dest) have
+  left_fit s before (inr rest) have = subst HaveFit (sym rest.same) have
 
-  module _ (are : AreSteps m first steps) where
+  module _ (are : AreSteps m first steps) (never : NeverStops sides.Dest first steps) where
     next_fit : (k : ℕ) (o : Option (RunStep M)) → slice_get steps k ≡ o → HaveFit (world k).dest → HaveFit (world (suc k)).dest
     next_fit k None is have = subst (λ (w : RunWorld M). HaveFit w.dest) (sym (rests_at m (telling codes) spell meaning first steps k is)) have
     next_fit k (Some s) is have =
         let made = made_at m (telling codes) spell meaning first steps k s are is in
         subst (λ (w : RunWorld M). HaveFit w.dest) (sym made.after)
-        (left_fit s (world k) (small_did words s.event (world k) s.parts s.after made.step.small) have)
+        (left_fit s (world k) (step_did words (world k) s (uncut_at m (telling codes) spell meaning first steps k s never is) made.step) have)
 
     pub plans_stay : HaveFit first.dest → runs.PlansStayFit words mech spell meaning first steps
     plans_stay begun zero = begun

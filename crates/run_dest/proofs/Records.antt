@@ -19,7 +19,7 @@ use Rattle.session_server.specs.Steps.{IsJudgedTurn}
 use Rattle.tell_laws.specs.Volumes.{ChangesLawfully, KeepsWrites}
 use Rattle.wire_lines.specs.declared.letters.Speaker.{Speaker}
 use Rattle.wire_model.specs.Wire.{Executed}
-use Rattle.wire_run.specs.Ends.{Words}
+use Rattle.run_ends.specs.Ends.{Words}
 use Rattle.run_dest.specs.Kinds.{TakesRecord}
 
 abbrev pub codes_of : {M : Type 0} → Words M ℕ → Codes

@@ -1,4 +1,4 @@
--- In each step of a run the destination is seen as it should be.
+-- In each step the destination is seen as it should be.
 use Rattle.std.proofs.Common.{◌≡◌, ◌∙◌, inl, inr, ℕ, ◌-◌, ◌<◌, ◌≤◌, Bool, true, false, List, [], Option, Some, None, refl, sym, ap, subst, arith}
 use Rattle.std.proofs.lemmas.Bool.{and_parts, leb-true}
 use Rattle.std.specs.Prelude.{nat_le}
@@ -16,17 +16,20 @@ use Rattle.dest_view.specs.Steps.{part_by}
 use Rattle.nfs_base.specs.declared.seal.End.TheVariants.{Dest}
 use Rattle.outbox.specs.declared.outgoing.Outbox.{Outbox}
 use Rattle.wire_lines.specs.declared.letters.Speaker.{Speaker}
+use Rattle.wire_lines.specs.declared.letters.Speaker.TheVariants as speakers
 use Rattle.wire_machine.specs.Ends.{DestAct, no_outbox}
 use Rattle.wire_machine.specs.Ends as acts
 use Rattle.wire_machine.specs.History.{part_acts}
 use Rattle.wire_machine.specs.World.{Part, Parts}
 use Rattle.wire_model.specs.Wire.{Acts, Executed}
-use Rattle.wire_run.specs.Ends.{Words, dest_goes, hears, is_worker}
-use Rattle.wire_run.specs.Handling.{dest_took}
-use Rattle.wire_run.specs.Running.{RunWorld}
-use Rattle.wire_run.specs.Setting.{dest_name}
-use Rattle.run_dest.proofs.CallerSteps.{Did, dest_part}
+use Rattle.run_ends.specs.Ends.{RunWorld, Words, dest_goes, hears, is_worker}
+use Rattle.run_ends.specs.Handling.{dest_took}
+use Rattle.run_ends.specs.Setting.{dest_name}
+use Rattle.run_dest.specs.Acts.{DestDid}
 use Rattle.run_dest.specs.Kept.{Fits, GoesSeen, IsKept, means_of}
+
+abbrev dest_part : Speaker → Option (List ℕ) → Outbox → Part
+dest_part speaker took out = record { took = took; speaker = speaker; out = out }
 
 -- the laws of a destination's steps
 pub record AreKnown {M : Type 0} (words : Words M ℕ) (who : Identity) (mech : M) : Type 0 where
@@ -131,14 +134,14 @@ module _ {M : Type 0} (words : Words M ℕ) (who : Identity) (mech : M) (known :
         deeds = known.tick_deeds codes now s;
       })
 
-  pub did : (before : RunWorld M) (parts : Parts) (after : RunWorld M) (executed : Option Executed) → Did words before parts after → IsKept mech before.dest
+  pub did : (before : RunWorld M) (parts : Parts) (after : RunWorld M) (executed : Option Executed) → DestDid words before parts after → IsKept mech before.dest
       → IsSettledAs who (copier_in before.dest) → Goes before.dest after.dest (part_acts parts.dest executed)
   did before parts after executed (inl a) kept settled =
-      subst (λ (p : Part). Goes before.dest after.dest (part_acts p executed)) (sym a.part)
-      (acted a.act a.now before.dest after.dest a.drawn a.draws a.out a.speaker executed a.goes kept settled)
+      subst (λ (o : Option (List ℕ)). Goes before.dest after.dest (part_acts (dest_part parts.dest.speaker o parts.dest.out) executed)) (sym a.took)
+      (acted a.act a.now before.dest after.dest a.draws a.left parts.dest.out parts.dest.speaker executed a.goes kept settled)
   did before parts after executed (inr r) kept settled =
       subst (λ (p : Part). Goes before.dest after.dest (part_acts p executed)) (sym r.part)
-      (rests before.dest after.dest r.speaker executed r.dest kept settled)
+      (rests before.dest after.dest speakers.Dest executed r.same kept settled)
     where
       rests : (s t : DestState M) (speaker : Speaker) (executed : Option Executed) → t ≡ s → IsKept mech s → IsSettledAs who (copier_in s)
           → GoesSeen (Fits words mech s) who (means_of words mech) mech s t (part_acts (dest_part speaker None no_outbox) executed)

@@ -24,7 +24,7 @@ use Rattle.wire_model.specs.Spelling.{Spelling}
 use Rattle.wire_model.specs.System.{System, dest_effect}
 use Rattle.wire_model.specs.Told.{TakesSimple}
 use Rattle.wire_model.specs.Wire.{Executed}
-use Rattle.wire_run.specs.Ends.{Words}
+use Rattle.run_ends.specs.Ends.{Words}
 use Rattle.wire_spelling.specs.Spelling.{spelling}
 
 -- ---- the number of an opening of the volume stays

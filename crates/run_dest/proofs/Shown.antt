@@ -1,10 +1,8 @@
--- The system of a run shows its destination at every moment, and each of its steps.
-use Rattle.std.proofs.Common.{◌≡◌, ◌∙◌, ⊎_elim, ℕ, zero, suc, ◌*◌, ◌<◌, ◌≤◌, List, [], ◌∷◌, length, slice_get, Option, Some, None, refl, sym, ap, subst, arith}
+-- The system of an opening shows its destination at every moment, and each of its steps.
+use Rattle.std.proofs.Common.{◌≡◌, ◌∙◌, ⊎_elim, ℕ, zero, suc, ◌<◌, ◌≤◌, List, [], ◌∷◌, length, slice_get, Option, Some, None, refl, sym, ap, subst, arith}
 use Rattle.std.specs.Prelude.{slice_index_or}
 use Rattle.std.proofs.lemmas.Bool.{cases_lt}
 use Rattle.client_laws.specs.WholeTurns.{Purposes}
-use Rattle.copy_model.specs.Marks.{len_of}
-use Rattle.copy_model.specs.Volume.{Volume}
 use Rattle.copy_privs.specs.declared.peer.Peer.{Peer}
 use Rattle.dest_copies.specs.Rooms.{ReachesLast}
 use Rattle.dest_copies.specs.Runs.{ShowsRun}
@@ -17,21 +15,19 @@ use Rattle.dest_view.specs.Steps.{Shows, ShowsStep}
 use Rattle.dest_view.specs.View.{made_in}
 use Rattle.nfs_base.specs.declared.seal.End.TheVariants.{Dest}
 use Rattle.nfs_base.specs.declared.side.Side.TheVariants as sides
-use Rattle.run_system.specs.System.{ClientView, system_of, telling}
+use Rattle.run_system.specs.System.{ClientView, opening_of, own_deed, telling}
 use Rattle.session_server.specs.Host as hosts
-use Rattle.wire_machine.specs.History.{acts_at, at_moment, next, no_job}
-use Rattle.wire_machine.specs.Runs.{Numbered}
-use Rattle.wire_machine.specs.Steps.{AreSteps}
+use Rattle.wire_machine.specs.History.{At, acts_at, at_moment, deed_of, next, no_job}
+use Rattle.wire_machine.specs.Steps.{AreSteps, NeverStops}
 use Rattle.wire_model.specs.Copies.{Job as Copy}
 use Rattle.wire_model.specs.CopyLaws.{CopiesStart}
 use Rattle.wire_model.specs.Meaning.{Meaning}
 use Rattle.wire_model.specs.Spelling.{Spelling}
 use Rattle.wire_model.specs.System.{System}
-use Rattle.wire_run.specs.Ends.{Words, machines}
-use Rattle.wire_run.specs.Run.{IsFirst, shape_of}
-use Rattle.wire_run.specs.Running.{RunMachines, RunStep, RunWorld}
-use Rattle.wire_run.specs.Setting.{dest_name, dest_place, dest_source}
-use Rattle.run_dest.specs.Moments.{ShowsAs, host_at, part_at, step_at}
+use Rattle.run_ends.specs.Ends.{RunMachines, RunStep, RunWorld, Words, machines}
+use Rattle.run_ends.specs.Setting.{dest_name, dest_source}
+use Rattle.run_dest.specs.Begun.{IsBegun}
+use Rattle.run_dest.specs.Moments.{ShowsAs, dest_part, host_at, part_at, step_at}
 use Rattle.run_dest.proofs.DestGoes.{AreKnown}
 use Rattle.run_dest.proofs.Moments.{AreFolds, IsDone, IsSeen, done_at, seen_at}
 
@@ -42,13 +38,16 @@ none_past (x ∷ xs) (suc k) past = none_past xs k (omega (arith, past))
 
 -- ---- the first moment
 
-module _ {M : Type 0} (words : Words M ℕ) (known : AreKnown words) (folds : AreFolds) (spell : Spelling) (meaning : Meaning) (first : RunWorld M) (steps : List (RunStep M))
-    (mech : M) (events : List Numbered) (is : IsFirst mech events first) where
-  abbrev pub capacity : ℕ
-  capacity = (shape_of sides.Dest events).blocks * 4096
+abbrev boot_of : {M : Type 0} → RunWorld M → ℕ
+boot_of w = w.dest.state.machine.store.volume.boot
 
-  pub copier_is : copier_in first.dest ≡ no_copier 1 capacity dest_source dest_name
-  copier_is = ap (λ (x : Destination M). x.copier) is.dest.extra
+abbrev capacity_of : {M : Type 0} → RunWorld M → ℕ
+capacity_of w = w.dest.state.machine.store.volume.capacity
+
+module _ {M : Type 0} (words : Words M ℕ) (known : AreKnown words) (folds : AreFolds) (spell : Spelling) (meaning : Meaning) (first : RunWorld M) (steps : List (RunStep M))
+    (mech : M) (is : IsBegun mech first.dest) where
+  pub copier_is : copier_in first.dest ≡ no_copier (boot_of first) (capacity_of first) dest_source dest_name
+  copier_is = ap (λ (x : Destination M). x.copier) is.opened.extra
 
   none_made : made_in first.dest ≡ 0
   none_made = ap (λ (x : Copier). x.copies.book.table.made) copier_is
@@ -60,8 +59,8 @@ module _ {M : Type 0} (words : Words M ℕ) (known : AreKnown words) (folds : Ar
     linked = λ j below. absurd (omega (arith, below, none_made));
     none_yet = λ j high. refl;
     unlost = λ j. refl;
-    boot = ap (λ (x : Copier). x.copies.book.table.boot) copier_is ∙ sym (ap (λ (v : Volume). v.boot) is.dest.volume);
-    kept = subst (λ (x : Copier). IsKept x.copies.book.table) (sym copier_is) (kept 1 capacity dest_source dest_name);
+    boot = ap (λ (x : Copier). x.copies.book.table.boot) copier_is;
+    kept = subst (λ (x : Copier). IsKept x.copies.book.table) (sym copier_is) (kept (boot_of first) (capacity_of first) dest_source dest_name);
   }
 
 module _ {M : Type 0} (words : Words M ℕ) (known : AreKnown words) (folds : AreFolds) (spell : Spelling) (meaning : Meaning) (seen : ClientView M)
@@ -73,16 +72,13 @@ module _ {M : Type 0} (words : Words M ℕ) (known : AreKnown words) (folds : Ar
   codes = record { mic = words.mic; derived = words.derived }
 
   abbrev system : System
-  system = system_of m codes spell meaning seen first steps purposes
-
-  abbrev seen_now : ℕ → Type 0
-  seen_now k = IsSeen words known folds spell meaning (at_moment m (telling codes) spell meaning first steps k)
+  system = opening_of m codes spell meaning seen first steps purposes
 
   -- ---- at a moment
 
   pub shows : (k : ℕ) → IsSeen words known folds spell meaning (at_moment m (telling codes) spell meaning first steps k)
-      → Shows (system_of m codes spell meaning seen first steps purposes) k (host_at m codes spell meaning first steps k)
-  unfolding system_of
+      → Shows (opening_of m codes spell meaning seen first steps purposes) k (host_at m codes spell meaning first steps k)
+  unfolding opening_of
   shows k is = record {
     caller = refl;
     volume = refl;
@@ -94,18 +90,23 @@ module _ {M : Type 0} (words : Words M ℕ) (known : AreKnown words) (folds : Ar
     names = λ j. refl;
   }
 
+  own_deed_is : (at : At m (telling codes) spell meaning) (o : Option (RunStep M)) → own_deed m codes spell meaning seen first steps purposes o
+      ≡ deed_of (next m (telling codes) spell meaning at o).world.dest.state.machine.store.volume (dest_part o)
+  own_deed_is at None = refl
+  own_deed_is at (Some s) = refl
+
   shows_step : (k : ℕ) → IsSeen words known folds spell meaning (at_moment m (telling codes) spell meaning first steps k)
       → IsSeen words known folds spell meaning (at_moment m (telling codes) spell meaning first steps (suc k))
       → IsDone words known folds spell meaning (at_moment m (telling codes) spell meaning first steps k) (slice_get steps k)
-      → ShowsStep spell meaning (system_of m codes spell meaning seen first steps purposes) k (part_at m codes spell meaning first steps k).took
+      → ShowsStep spell meaning (opening_of m codes spell meaning seen first steps purposes) k (part_at m codes spell meaning first steps k).took
       (part_at m codes spell meaning first steps k).speaker (acts_at m (telling codes) spell meaning first steps Dest k).executed
       (host_at m codes spell meaning first steps k) (step_at m codes spell meaning first steps k)
-  unfolding system_of
+  unfolding opening_of
   shows_step k is then done = record {
     before = shows k is;
     after = shows (suc k) then;
     acts = done.acts;
-    deed = done.deed;
+    deed = own_deed_is (at_moment m (telling codes) spell meaning first steps k) (slice_get steps k);
     goes = done.goes;
     marked = done.marked;
   }
@@ -128,8 +129,8 @@ module _ {M : Type 0} (words : Words M ℕ) (known : AreKnown words) (folds : Ar
       ∙ rests_from k high)
       (cases_lt k (length steps))
 
-  pub reaches : ReachesLast (system_of m codes spell meaning seen first steps purposes) (length steps)
-  unfolding system_of
+  pub reaches : ReachesLast (opening_of m codes spell meaning seen first steps purposes) (length steps)
+  unfolding opening_of
   reaches = record {
     reach = λ j. refl;
     made = λ k past. ap (λ (jobs : List Copy). length jobs) (rests_from k past);
@@ -138,18 +139,19 @@ module _ {M : Type 0} (words : Words M ℕ) (known : AreKnown words) (folds : Ar
 
   -- ---- a run
 
-  module _ (begun : IsSeen words known folds spell meaning (at_moment m (telling codes) spell meaning first steps 0)) (are : AreSteps m first steps) where
-    pub shows_at : (k : ℕ) → ShowsStep spell meaning (system_of m codes spell meaning seen first steps purposes) k (part_at m codes spell meaning first steps k).took
+  module _ (begun : IsSeen words known folds spell meaning (at_moment m (telling codes) spell meaning first steps 0)) (are : AreSteps m first steps)
+      (never : NeverStops sides.Dest first steps) where
+    pub shows_at : (k : ℕ) → ShowsStep spell meaning (opening_of m codes spell meaning seen first steps purposes) k (part_at m codes spell meaning first steps k).took
         (part_at m codes spell meaning first steps k).speaker (acts_at m (telling codes) spell meaning first steps Dest k).executed
         (host_at m codes spell meaning first steps k) (step_at m codes spell meaning first steps k)
     shows_at k =
-        let at_each = seen_at words known folds spell meaning first steps begun are in
-        shows_step k (at_each k) (at_each (suc k)) (done_at words known folds spell meaning first steps begun are k)
+        let at_each = seen_at words known folds spell meaning first steps begun are never in
+        shows_step k (at_each k) (at_each (suc k)) (done_at words known folds spell meaning first steps begun are never k)
 
-    shows_run : ShowsRun spell meaning (system_of m codes spell meaning seen first steps purposes) (host_at m codes spell meaning first steps) (step_at m codes spell meaning first steps)
+    shows_run : ShowsRun spell meaning (opening_of m codes spell meaning seen first steps purposes) (host_at m codes spell meaning first steps) (step_at m codes spell meaning first steps)
     shows_run =
-        let at_each = seen_at words known folds spell meaning first steps begun are in
-        let in_each = done_at words known folds spell meaning first steps begun are in
+        let at_each = seen_at words known folds spell meaning first steps begun are never in
+        let in_each = done_at words known folds spell meaning first steps begun are never in
         record {
           took = λ k. (part_at m codes spell meaning first steps k).took;
           speaker = λ k. (part_at m codes spell meaning first steps k).speaker;
@@ -160,17 +162,17 @@ module _ {M : Type 0} (words : Words M ℕ) (known : AreKnown words) (folds : Ar
           sound = λ k. (at_each k).kept.sound;
         }
 
-    pub shows_as : ShowsAs m codes spell meaning first steps (system_of m codes spell meaning seen first steps purposes)
+    pub shows_as : ShowsAs m codes spell meaning first steps (opening_of m codes spell meaning seen first steps purposes)
     unfolding shows_run
     shows_as = record { run = shows_run; took = λ k. refl; speaker = λ k. refl; executed = λ k. refl }
 
   -- ---- from the first moment on
 
-  module _ (mech : M) (events : List Numbered) (is : IsFirst mech events first) where
+  module _ (mech : M) (is : IsBegun mech first.dest) where
     pub starts : ((boot capacity : ℕ) (source : Peer) (principal : List ℕ) → IsKept (no_copier boot capacity source principal).copies.book.table)
         → ((boot capacity : ℕ) (source : Peer) (principal : List ℕ) (d : DestState M) (s : System) → copier_in d ≡ no_copier boot capacity source principal
         → Shows s 0 d → CopiesStart s)
-        → CopiesStart (system_of m codes spell meaning seen first steps purposes)
+        → CopiesStart (opening_of m codes spell meaning seen first steps purposes)
     starts kept opened =
-        opened 1 (capacity words known folds spell meaning first steps mech events is) dest_source dest_name first.dest (system_of m codes spell meaning seen first steps purposes)
-        (copier_is words known folds spell meaning first steps mech events is) (shows 0 (begins words known folds spell meaning first steps mech events is kept))
+        opened (boot_of first) (capacity_of first) dest_source dest_name first.dest (opening_of m codes spell meaning seen first steps purposes)
+        (copier_is words known folds spell meaning first steps mech is) (shows 0 (begins words known folds spell meaning first steps mech is kept))

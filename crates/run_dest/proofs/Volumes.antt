@@ -24,7 +24,7 @@ use Rattle.wire_model.specs.Spelling.{Spelling}
 use Rattle.wire_model.specs.System.{System, dest_effect}
 use Rattle.wire_model.specs.Told.{TakesSimple}
 use Rattle.wire_model.specs.Wire.{Acts, Executed}
-use Rattle.wire_run.specs.Ends.{Words}
+use Rattle.run_ends.specs.Ends.{Words}
 use Rattle.wire_spelling.specs.Spelling.{spelling}
 use Rattle.wire_xdr.specs.Cursor.{IsBytes}
 use Rattle.run_dest.specs.Kinds.{Kind, TakesNone, TakesRecord, TakesReply, TakesSecond, TakesTurn}

@@ -1,6 +1,5 @@
--- From the first moment of a run on, its destination does so.
-use Rattle.std.proofs.Common.{◌≡◌, ℕ, suc, ◌*◌, ◌<◌, ◌≤◌, ◌^◌, List, [], slice_get, Option, Some, refl, ap, arith}
-use Rattle.copy_model.specs.Volume.{Volume}
+-- From its opening on a destination does so.
+use Rattle.std.proofs.Common.{◌≡◌, ℕ, suc, ◌<◌, ◌≤◌, ◌^◌, List, [], slice_get, Option, Some, refl, sym, ap, subst, arith}
 use Rattle.copy_privs.specs.declared.peer.Peer.{Peer}
 use Rattle.dest_core.specs.Core.{no_copies, no_sessions}
 use Rattle.dest_core.specs.Stepping.{DestState}
@@ -17,23 +16,22 @@ use Rattle.nfs_base.specs.declared.seal.End.{End}
 use Rattle.nfs_base.specs.declared.seal.End.TheVariants.{Dest}
 use Rattle.nfs_base.specs.declared.side.Side.TheVariants as sides
 use Rattle.run_dest.specs.Acts.{DestDid}
+use Rattle.run_dest.specs.Begun.{IsBegun}
 use Rattle.run_dest.specs.Moments.{host_at, part_at, step_at}
 use Rattle.run_system.specs.System.{telling}
 use Rattle.server_laws.specs.Good.{IsGood}
 use Rattle.session_server.specs.Host.{Codes}
 use Rattle.tell_laws.specs.Volumes.{volume_of}
 use Rattle.wire_machine.specs.History.{acts_at, at_moment}
-use Rattle.wire_machine.specs.Runs.{Numbered}
+use Rattle.wire_machine.specs.Steps.{NeverStops}
 use Rattle.wire_meaning.specs.Meaning.{meaning}
 use Rattle.wire_model.specs.CopyLaws.{VolumeLaws}
 use Rattle.wire_model.specs.NameLaws.{NameLaws}
 use Rattle.wire_model.specs.Spelling.{Spelling}
 use Rattle.wire_model.specs.System.{System, dest_effect}
 use Rattle.wire_model.specs.Told.{TakesSimple}
-use Rattle.wire_run.specs.Ends.{Words, machines}
-use Rattle.wire_run.specs.Run.{IsFirst, shape_of}
-use Rattle.wire_run.specs.Running.{RunMachines, RunStep, RunWorld}
-use Rattle.wire_run.specs.Setting.{dest_name, dest_place, dest_source}
+use Rattle.run_ends.specs.Ends.{RunMachines, RunStep, RunWorld, Words, machines}
+use Rattle.run_ends.specs.Setting.{dest_name, dest_place, dest_source}
 use Rattle.wire_spelling.specs.Spelling.{spelling}
 use Rattle.run_dest.specs.Kinds.{Kind}
 use Rattle.run_dest.specs.Mounts.{AreFewJobs, AreNotClients, AreSpelled}
@@ -68,30 +66,33 @@ module _ {M : Type 0} (words : Words M ℕ) (accepts : List ℕ → Option (List
       (k : ℕ) (x : RunStep M) → slice_get steps k ≡ Some x
       → DestDid words (at_moment m (telling codes) spell meaning first steps k).world x.parts x.after
 
-  module _ (mech : M) (events : List Numbered) (is : IsFirst mech events first) (served : AreServed words) (did : DidAll)
+  module _ (mech : M) (is : IsBegun mech first.dest) (never : NeverStops sides.Dest first steps) (served : AreServed words) (did : DidAll)
       (starts : (d : DestState M) → d.contexts.boot < 2 ^ 32 → d.contexts.made ≤ d.steps → d.contexts.entries ≡ [] → IsGood d) where
     begun : IsServer (host 0)
     begun =
-        let fresh = is.dest in
-        let made : (host 0).contexts.made ≡ 0 = ap (λ (x : ContextTable Carried). x.made) fresh.contexts in
-        let boot : (host 0).contexts.boot ≡ 1 = ap (λ (x : ContextTable Carried). x.boot) fresh.contexts in
+        let none = is.opened.contexts in
+        let made : (host 0).contexts.made ≡ 0 = ap (λ (x : ContextTable Carried). x.made) none in
+        let boot : (host 0).contexts.boot ≡ (volume_of (host 0)).boot = ap (λ (x : ContextTable Carried). x.boot) none in
         record {
-          good = starts (host 0) (omega (arith, boot)) (omega (arith, made)) (ap (λ (x : ContextTable Carried). x.entries) fresh.contexts);
-          owner = ap (λ (x : ContextTable Carried). x.owner) fresh.contexts;
+          good = starts (host 0) (subst (λ (n : ℕ). n < 2 ^ 32) (sym boot) is.numbered) (omega (arith, made)) (ap (λ (x : ContextTable Carried). x.entries) none);
+          owner = ap (λ (x : ContextTable Carried). x.owner) none;
         }
 
+    abbrev boot : ℕ
+    boot = (volume_of (host 0)).boot
+
     abbrev capacity : ℕ
-    capacity = (shape_of sides.Dest events).blocks * 4096
+    capacity = (volume_of (host 0)).capacity
 
     kinds : (k : ℕ)
         → Kind words (host k) (step_at m codes spell meaning first steps k) (part_at m codes spell meaning first steps k).took (part_at m codes spell meaning first steps k).speaker
         (acts_at m (telling codes) spell meaning first steps Dest k).executed
-    kinds k = kind_at words spell meaning first steps did k
+    kinds k = kind_at words spell meaning first steps never did k
 
     none_yet : HasNumbers (host 0)
     none_yet =
-        let none : made_in (host 0) ≡ 0 = ap (λ (x : Destination M). x.copier.copies.book.table.made) is.dest.extra in
-        let steps : (host 0).steps ≡ 0 = is.dest.steps in
+        let none : made_in (host 0) ≡ 0 = ap (λ (x : Destination M). x.copier.copies.book.table.made) is.opened.extra in
+        let steps : (host 0).steps ≡ 0 = is.opened.steps in
         record { counted = omega (arith, none); few = omega (arith, steps) }
 
     -- numbers of jobs have four bytes
@@ -106,10 +107,10 @@ module _ {M : Type 0} (words : Words M ℕ) (accepts : List ℕ → Option (List
       has : ((boot capacity : ℕ) (mech : M) (source : Peer) (principal : List ℕ) (own : NetLoc) (d : DestState M)
           → d.state.machine.extra ≡ no_copies boot capacity mech source principal own → IsOrderly d) → HasVolume words (host 0)
       has opened =
-          let none : (volume_of (host 0)).writes ≡ 0 = ap (λ (v : Volume). v.writes) is.dest.volume in
+          let none : (volume_of (host 0)).writes ≡ 0 = is.unwritten in
           record {
             writes = omega (arith, none);
-            orderly = opened 1 capacity mech dest_source dest_name dest_place (host 0) is.dest.extra;
+            orderly = opened boot capacity mech dest_source dest_name dest_place (host 0) is.opened.extra;
           }
 
       module _ (orderly : AreOrderly words) (due : AreDue words accepts whose s) (go_on : GoOn words accepts whose s) (sound : (k : ℕ) → IsSound (table_in (host k)))
@@ -128,10 +129,10 @@ module _ {M : Type 0} (words : Words M ℕ) (accepts : List ℕ → Option (List
           → d.state.machine.extra ≡ no_copies boot capacity mech source principal own → d.state.sessions ≡ no_sessions boot → Shows s k d → IsToldRight s k d)
           (stays : Steps words accepts whose s (StaysRight words accepts whose s)) where
         low : (volume_of (host 0)).boot < 2 ^ 32
-        low = let one : (volume_of (host 0)).boot ≡ 1 = ap (λ (v : Volume). v.boot) is.dest.volume in omega (arith, one)
+        low = is.numbered
 
         told : IsToldRight s 0 (host 0)
-        told = tells s 0 1 capacity mech dest_source dest_name dest_place (host 0) is.dest.extra is.dest.sessions (shows 0).before
+        told = tells s 0 boot capacity mech dest_source dest_name dest_place (host 0) is.opened.extra is.opened.sessions (shows 0).before
 
         pub rights : (k : ℕ) → IsToldRight s k (host k)
         rights k =

@@ -1,18 +1,23 @@
--- Every small step of a run is an act of its destination, or the destination rests in it.
+-- Every small step of a run is an act of its destination, or the destination rests in it, where it doesn't stop.
 use Rattle.std.proofs.Common.{◌≡◌, inl, inr, ℕ, ◌+◌, List, Option, Some, None, refl, sym, ap, subst}
+use Rattle.nfs_base.specs.declared.side.Side.{Side}
+use Rattle.nfs_base.specs.declared.side.Side.TheVariants as sides
 use Rattle.outbox.specs.declared.outgoing.Outbox.{Outbox}
 use Rattle.dest_core.specs.Stepping.{DestState}
+use Rattle.volume_stops.specs.declared.kept.Kept.{Kept}
 use Rattle.wire_lines.specs.declared.letters.Speaker.{Speaker}
 use Rattle.wire_lines.specs.declared.letters.Speaker.TheVariants as speakers
+use Rattle.wire_machine.specs.declared.choice.Choice.{Choice}
+use Rattle.wire_machine.specs.declared.choice.Choice.TheVariants.{Went, Failed, Stopped}
 use Rattle.wire_machine.specs.declared.port.Port.{Port}
 use Rattle.wire_machine.specs.declared.port.Port.TheVariants as ports
 use Rattle.wire_machine.specs.Ends.{ClientAct, DestAct, SourceAct}
 use Rattle.wire_machine.specs.Ends as acts
-use Rattle.wire_machine.specs.Steps.{AllRest, AllTick, Arrives, ClientDoes, DestDoes, IsCommanded, IsDelivered, IsSmall, SourceDoes, command_of}
+use Rattle.wire_machine.specs.Steps.{AllRest, AllTick, Arrives, ClientDoes, CrashesAt, DestDoes, IsCommanded, IsCut, IsDelivered, IsMade, IsSmall, IsStep, SourceDoes}
+use Rattle.wire_machine.specs.Steps.{SourceStops, StopsDelivered, StopsTaking, command_of, cut_by, cut_of, kept_if, port_in, same_side, side_at, stops_at}
 use Rattle.wire_machine.specs.World.{Parts, Posted, marked, posted_at}
-use Rattle.wire_run.specs.Ends.{Words, dest_goes, machines}
-use Rattle.wire_run.specs.Handling.{dest_took}
-use Rattle.wire_run.specs.Running.{RunMachines, RunWorld}
+use Rattle.run_ends.specs.Ends.{RunMachines, RunStep, RunWorld, Words, dest_goes, machines}
+use Rattle.run_ends.specs.Handling.{dest_took}
 use Rattle.wire_schedule.specs.declared.event.Event.{Event}
 use Rattle.wire_schedule.specs.declared.event.Event.TheVariants as events
 use Rattle.run_dest.specs.Acts.{DestDid, IsSecond, speaker_of}
@@ -22,6 +27,9 @@ same_second (acts.DestTakes conn bytes) clock = refl
 same_second (acts.Works worker) clock = refl
 same_second (acts.Hears worker bytes) clock = refl
 same_second acts.DestTicks clock = tt
+
+none_kept : (kept : Kept) → Some kept ≡ None → ⊥
+none_kept kept same = cc
 
 module _ {M : Type 0} (words : Words M ℕ) where
   abbrev m : RunMachines M
@@ -99,9 +107,58 @@ module _ {M : Type 0} (words : Words M ℕ) where
   commanded None before parts after d = absurd d
   commanded (Some act) before parts after d = by_client act None before parts after d
 
-  pub small_did : (event : Event) (before : RunWorld M) (parts : Parts) (after : RunWorld M) → IsSmall m event before parts after → DestDid words before parts after
+  small_did : (event : Event) (before : RunWorld M) (parts : Parts) (after : RunWorld M) → IsSmall m event before parts after → Did before parts after
   small_did (events.Deliver number) before parts after d = delivered number (posted_at number before.log) before parts after d
   small_did (events.Work worker) before parts after d = by_dest (acts.Works worker) speakers.Dest None before parts after refl refl d
   small_did (events.Tick seconds) before parts after d = ticks seconds before parts after d
   small_did (events.Peek side file off len) before parts after d = by_none before parts after d
+  small_did (events.CrashAfter side calls pick) before parts after d = by_none before parts after d
   small_did event before parts after d = commanded (command_of event) before parts after d
+
+  -- ---- Where a server stops that isn't the destination, it is the source, and the destination rests.
+
+  abbrev IsSpared : Side → Kept → Type 0
+  IsSpared side kept = kept_if (same_side sides.Dest side) kept ≡ None
+
+  crashes : (side : Side) (kept : Kept) (before : RunWorld M) (parts : Parts) (after : RunWorld M) → IsSpared side kept → CrashesAt m side kept before parts after
+      → Did before parts after
+  crashes sides.Source kept before parts after spared d =
+      inr (record { same = ap (λ (w : RunWorld M). w.dest) d.after_is; part = ap (λ (p : Parts). p.dest) d.parts_are })
+  crashes sides.Dest kept before parts after spared d = absurd (none_kept kept spared)
+
+  source_stops : (act : SourceAct) (took : Option (List ℕ)) (kept : Kept) (before : RunWorld M) (parts : Parts) (after : RunWorld M)
+      → SourceStops m act took kept before parts after → Did before parts after
+  source_stops act took kept before parts after d =
+      inr (record { same = ap (λ (w : RunWorld M). w.dest) d.after_is; part = ap (λ (p : Parts). p.dest) d.parts_are })
+
+  stops_taking : (port : Option Port) (bytes : List ℕ) (kept : Kept) (before : RunWorld M) (parts : Parts) (after : RunWorld M) → IsSpared (side_at port) kept
+      → StopsTaking m port bytes kept before parts after → Did before parts after
+  stops_taking None bytes kept before parts after spared d = absurd d
+  stops_taking (Some (ports.Source conn)) bytes kept before parts after spared d =
+      source_stops (acts.SourceTakes conn bytes) (Some bytes) kept before parts after d
+  stops_taking (Some ports.Dest) bytes kept before parts after spared d = absurd (none_kept kept spared)
+  stops_taking (Some (ports.Worker worker)) bytes kept before parts after spared d = absurd (none_kept kept spared)
+  stops_taking (Some (ports.Client from)) bytes kept before parts after spared d = absurd d
+
+  stops_delivered : (number : ℕ) (o : Option Posted) (kept : Kept) (before : RunWorld M) (parts : Parts) (after : RunWorld M) → IsSpared (side_at (port_in o)) kept
+      → StopsDelivered m number o kept before parts after → Did before parts after
+  stops_delivered number None kept before parts after spared d = absurd d
+  stops_delivered number (Some r) kept before parts after spared d =
+      unmarked (marked number before.log) before parts after
+      (stops_taking r.port r.bytes kept (record before { log = marked number before.log }) parts after spared d)
+
+  cut_did : (event : Event) (kept : Kept) (before : RunWorld M) (parts : Parts) (after : RunWorld M) → IsSpared (stops_at event before.log) kept
+      → IsCut m event kept before parts after → Did before parts after
+  cut_did (events.Deliver number) kept before parts after spared d = stops_delivered number (posted_at number before.log) kept before parts after spared d
+  cut_did (events.Work worker) kept before parts after spared d = absurd (none_kept kept spared)
+  cut_did (events.Crash side pick) kept before parts after spared d = crashes side kept before parts after spared d
+  cut_did event kept before parts after spared d = absurd d
+
+  made_did : (choice : Choice) (event : Event) (before : RunWorld M) (parts : Parts) (after : RunWorld M) → cut_by sides.Dest (stops_at event before.log) choice ≡ None
+      → IsMade m choice event before parts after → Did before parts after
+  made_did Went event before parts after uncut d = small_did event before parts after d
+  made_did Failed event before parts after uncut d = small_did event before parts after d
+  made_did (Stopped kept) event before parts after uncut d = cut_did event kept before parts after uncut d
+
+  pub step_did : (before : RunWorld M) (s : RunStep M) → cut_of sides.Dest before s ≡ None → IsStep (machines words) before s → DestDid words before s.parts s.after
+  step_did before s uncut step = made_did s.choice s.event before s.parts s.after uncut step.small

@@ -5,9 +5,8 @@ use Rattle.wire_lines.specs.declared.letters.Speaker.TheVariants as speakers
 use Rattle.wire_machine.specs.Ends.{DestAct}
 use Rattle.wire_machine.specs.Ends as acts
 use Rattle.wire_machine.specs.World.{Parts, idle}
-use Rattle.wire_run.specs.Ends.{Words, dest_goes}
-use Rattle.wire_run.specs.Handling.{dest_took}
-use Rattle.wire_run.specs.Running.{RunWorld}
+use Rattle.run_ends.specs.Ends.{RunWorld, Words, dest_goes}
+use Rattle.run_ends.specs.Handling.{dest_took}
 
 -- who tells of an act: what comes from the source is a worker's
 abbrev pub speaker_of : DestAct → Speaker

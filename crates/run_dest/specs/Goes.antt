@@ -5,7 +5,7 @@ use Rattle.run_dest.specs.Ways.{GoesBy, Way, words_by}
 use Rattle.run_dest.specs.Ways as ways
 use Rattle.wire_lines.specs.declared.letters.Speaker.{Speaker}
 use Rattle.wire_model.specs.System.{System}
-use Rattle.wire_run.specs.Ends.{Words}
+use Rattle.run_ends.specs.Ends.{Words}
 
 -- it goes by its own mechanism, and what that starts and finishes for its principal
 abbrev pub words_in : {M : Type 0} → Words M ℕ → DestState M → ways.Words ℕ

@@ -20,9 +20,8 @@ use Rattle.wire_model.specs.Meaning.{Meaning}
 use Rattle.wire_model.specs.Spelling.{Spelling}
 use Rattle.wire_model.specs.System.{System}
 use Rattle.wire_model.specs.Wire.{Acts}
-use Rattle.wire_run.specs.Ends.{Words, machines}
-use Rattle.wire_run.specs.Running.{RunStep, RunWorld}
-use Rattle.wire_run.specs.Setting.{dest_name}
+use Rattle.run_ends.specs.Ends.{RunStep, RunWorld, Words, machines}
+use Rattle.run_ends.specs.Setting.{dest_name}
 use Rattle.wire_xdr.specs.Cursor.{IsBytes}
 
 -- what holds of it at each moment: it goes by its own contexts, principal and mechanism

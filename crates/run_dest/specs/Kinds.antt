@@ -9,8 +9,8 @@ use Rattle.session_server.specs.declared.host.TheConstants.{MOST_STEPS}
 use Rattle.wire_lines.specs.declared.letters.Speaker.{Speaker}
 use Rattle.wire_lines.specs.declared.letters.Speaker.TheVariants as speakers
 use Rattle.wire_model.specs.Wire.{Executed}
-use Rattle.wire_run.specs.Ends.{Words}
-use Rattle.wire_run.specs.Handling.{IsHandled}
+use Rattle.run_ends.specs.Ends.{Words}
+use Rattle.run_ends.specs.Handling.{IsHandled}
 
 -- from this state by that step, in which it took this, who tells of it, and what it executed
 module _ {M : Type 0} (words : Words M ℕ) (d : DestState M) (t : DestStep M) (took : Option (List ℕ)) (speaker : Speaker) (executed : Option Executed) where

@@ -1,9 +1,9 @@
 pub mod ActLaws
 pub mod Acts
+pub mod Begun
 pub mod Goes
 pub mod Kept
 pub mod Kinds
-pub mod Lawful
 pub mod Moments
 pub mod Mounts
 pub mod Ways

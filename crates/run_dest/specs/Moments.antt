@@ -9,7 +9,7 @@ use Rattle.wire_machine.specs.World.{Part, all_idle}
 use Rattle.wire_model.specs.Meaning.{Meaning}
 use Rattle.wire_model.specs.Spelling.{Spelling}
 use Rattle.wire_model.specs.System.{System}
-use Rattle.wire_run.specs.Running.{RunMachines, RunStep, RunWorld}
+use Rattle.run_ends.specs.Ends.{RunMachines, RunStep, RunWorld}
 use Rattle.run_system.specs.System.{telling}
 
 -- past the last step it rests

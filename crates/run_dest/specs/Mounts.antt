@@ -8,7 +8,7 @@ use Rattle.run_dest.specs.Moments.{host_at}
 use Rattle.session_server.specs.Host.{Codes}
 use Rattle.wire_model.specs.Meaning.{Meaning}
 use Rattle.wire_model.specs.Spelling.{Spelling}
-use Rattle.wire_run.specs.Running.{RunMachines, RunStep, RunWorld}
+use Rattle.run_ends.specs.Ends.{RunMachines, RunStep, RunWorld}
 
 module _ {M : Type 0} (m : RunMachines M) (codes : Codes) (spell : Spelling) (meaning : Meaning) (first : RunWorld M) (steps : List (RunStep M)) where
   -- what it awaits in slots is spelled

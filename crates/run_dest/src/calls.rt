@@ -4,14 +4,13 @@ ghost use Rattle.dest_calls.specs.Steps.{StartsOwn};
 ghost use Rattle.mount_fits.specs.Moving.{GivesBytes};
 ghost use Rattle.nfs_base.specs.declared.seal.End.{End};
 ghost use Rattle.nfs_base.specs.declared.seal.End.TheVariants.{Dest};
-ghost use Rattle.run_system.specs.System.{ClientView, system_of};
-ghost use Rattle.wire_machine.specs.Runs.{Numbered};
-ghost use Rattle.wire_machine.specs.Steps.{AreSteps};
+ghost use Rattle.nfs_base.specs.declared.side.Side.TheVariants as sides;
+ghost use Rattle.run_dest.specs.Begun.{IsBegun};
+ghost use Rattle.run_system.specs.System.{ClientView, opening_of};
+ghost use Rattle.wire_machine.specs.Steps.{AreSteps, NeverStops};
 ghost use Rattle.wire_meaning.specs.Meaning.{meaning};
-ghost use Rattle.wire_run.specs.Ends.{count_gives, run_machines, words_of};
-ghost use Rattle.wire_run.specs.Run.{IsFirst};
-ghost use Rattle.wire_run.specs.Running.{RunStep, RunWorld};
-ghost use Rattle.wire_run.specs.Setting.{dest_name};
+ghost use Rattle.run_ends.specs.Ends.{RunStep, RunWorld, count_gives, run_machines, words_of};
+ghost use Rattle.run_ends.specs.Setting.{dest_name};
 ghost use Rattle.wire_spelling.specs.Spelling.{spelling};
 ghost use Rattle.run_dest.specs.Kept.{GoesAsCaller, IsLawfulCaller, RunIsSeen, TokensAreBytes};
 
@@ -26,12 +25,12 @@ use gss_mech::Mechanism;
 use mount_fits::{counted_draws_are_nonces, mounts_stay_fit};
 use streams::CountDraws;
 
-/// In each step of a run the destination is seen as it should be: what it does at the source is a run of its mount's steps, and the
-/// rest is nothing to the source.
+/// In each step, where the destination never stops, it is seen as it should be: what it does at the source is a run of its mount's
+/// steps, and the rest is nothing to the source.
 pub fn runs_are_seen<M: Mechanism>()
     ensures { (mech : M) (first : RunWorld M) (steps : List (RunStep M)) (accepts : List ℕ → Option (List ℕ)) (whose : List ℕ → Option End)
         → StartsOwn (record { accepts = accepts; whose = whose; own = Dest }) (M.started mech dest_name) count_gives
-        → AreSteps (run_machines M.mic_of M.derived M.started M.accepted M.finished) first steps
+        → AreSteps (run_machines M.mic_of M.derived M.started M.accepted M.finished) first steps → NeverStops sides.Dest first steps
         → RunIsSeen (words_of M.mic_of M.derived M.started M.accepted M.finished count_gives) mech (spelling accepts whose) meaning first steps
         (record { accepts = accepts; whose = whose; own = Dest }) }
 {
@@ -46,11 +45,11 @@ pub fn runs_are_seen<M: Mechanism>()
     mechanisms_stay::<M, CountDraws>();
 }
 
-/// From its beginning the destination is as it should be at each moment of a run, and what it asks can be spelled. It rests on tokens
-/// that are its own and bytes, and on codes that are bytes.
+/// From its opening on the destination is as it should be at each moment, and what it asks can be spelled. It rests on tokens that
+/// are its own and bytes, and on codes that are bytes.
 pub fn destinations_go_as_callers<M: Mechanism>()
-    ensures { (mech : M) (events : List Numbered) (first : RunWorld M) (steps : List (RunStep M)) (accepts : List ℕ → Option (List ℕ)) (whose : List ℕ → Option End)
-        → IsFirst mech events first → AreSteps (run_machines M.mic_of M.derived M.started M.accepted M.finished) first steps
+    ensures { (mech : M) (first : RunWorld M) (steps : List (RunStep M)) (accepts : List ℕ → Option (List ℕ)) (whose : List ℕ → Option End)
+        → IsBegun mech first.dest → AreSteps (run_machines M.mic_of M.derived M.started M.accepted M.finished) first steps → NeverStops sides.Dest first steps
         → StartsOwn (record { accepts = accepts; whose = whose; own = Dest }) (M.started mech dest_name) count_gives
         → GivesBytes M.mic_of → TokensAreBytes (M.started mech dest_name)
         → GoesAsCaller (words_of M.mic_of M.derived M.started M.accepted M.finished count_gives) mech (spelling accepts whose) meaning first steps
@@ -64,15 +63,15 @@ pub fn destinations_go_as_callers<M: Mechanism>()
     counted_draws_are_nonces();
 }
 
-/// So in the run's system the destination has no context and awaits nothing at first, and obeys the laws of a caller of the source in
+/// So in the system of its opening it has no context and awaits nothing at first, and obeys the laws of a caller of the source in
 /// each step.
 pub fn destinations_are_lawful_callers<M: Mechanism>()
-    ensures { (mech : M) (events : List Numbered) (first : RunWorld M) (steps : List (RunStep M)) (accepts : List ℕ → Option (List ℕ)) (whose : List ℕ → Option End)
-        (view : ClientView M) (purposes : ℕ → Purposes) → IsFirst mech events first
+    ensures { (mech : M) (first : RunWorld M) (steps : List (RunStep M)) (accepts : List ℕ → Option (List ℕ)) (whose : List ℕ → Option End)
+        (view : ClientView M) (purposes : ℕ → Purposes) → IsBegun mech first.dest
         → GoesAsCaller (words_of M.mic_of M.derived M.started M.accepted M.finished count_gives) mech (spelling accepts whose) meaning first steps
         (record { accepts = accepts; whose = whose; own = Dest })
         → IsLawfulCaller (spelling accepts whose)
-        (system_of (run_machines M.mic_of M.derived M.started M.accepted M.finished) (record { mic = M.mic_of; derived = M.derived }) (spelling accepts whose) meaning view first steps purposes) }
+        (opening_of (run_machines M.mic_of M.derived M.started M.accepted M.finished) (record { mic = M.mic_of; derived = M.derived }) (spelling accepts whose) meaning view first steps purposes) }
 {
     mounts_begin_lawful();
     seen_steps_are_lawful::<M>();

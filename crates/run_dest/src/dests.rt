@@ -3,18 +3,17 @@ ghost use Rattle.client_laws.specs.WholeTurns.{Purposes};
 ghost use Rattle.dest_view.specs.Dues.{AreSafe};
 ghost use Rattle.nfs_base.specs.declared.seal.End.{End};
 ghost use Rattle.nfs_base.specs.declared.seal.End.TheVariants.{Dest};
+ghost use Rattle.nfs_base.specs.declared.side.Side.TheVariants as sides;
+ghost use Rattle.run_dest.specs.Begun.{IsBegun};
 ghost use Rattle.run_dest.specs.Mounts.{AreFewJobs, AreNotClients, AreSpelled};
-ghost use Rattle.run_system.specs.System.{ClientView, system_of};
-ghost use Rattle.wire_machine.specs.Runs.{Numbered};
-ghost use Rattle.wire_machine.specs.Steps.{AreSteps};
+ghost use Rattle.run_system.specs.System.{ClientView, opening_of};
+ghost use Rattle.wire_machine.specs.Steps.{AreSteps, NeverStops};
 ghost use Rattle.wire_meaning.specs.Meaning.{meaning};
 ghost use Rattle.wire_model.specs.CopyLaws.{VolumeLaws};
 ghost use Rattle.wire_model.specs.NameLaws.{NameLaws};
 ghost use Rattle.wire_model.specs.System.{dest_effect};
 ghost use Rattle.wire_model.specs.Told.{TakesSimple};
-ghost use Rattle.wire_run.specs.Ends.{run_machines};
-ghost use Rattle.wire_run.specs.Run.{IsFirst};
-ghost use Rattle.wire_run.specs.Running.{RunStep, RunWorld};
+ghost use Rattle.run_ends.specs.Ends.{RunStep, RunWorld, run_machines};
 ghost use Rattle.wire_spelling.specs.Spelling.{spelling};
 
 use dest_core::Destination;
@@ -22,18 +21,18 @@ use dest_jobs::Carried;
 use gss_mech::Mechanism;
 use streams::CountDraws;
 
-/// In each step of a run the volume of the destination goes on by one effect that is allowed, as the system shows it, where the
+/// In each step of an opening the volume of the destination goes on by one effect that is allowed, as the system shows it, where the
 /// destination takes only what calls a volume once at most.
 pub fn volumes_are_lawful<M: Mechanism>()
-    ensures { (mech : M) (events : List Numbered) (first : RunWorld M) (steps : List (RunStep M)) (accepts : List ℕ → Option (List ℕ)) (whose : List ℕ → Option End)
-        (seen : ClientView M) (purposes : ℕ → Purposes) → IsFirst mech events first
-        → AreSteps (run_machines M.mic_of M.derived M.started M.accepted M.finished) first steps
+    ensures { (mech : M) (first : RunWorld M) (steps : List (RunStep M)) (accepts : List ℕ → Option (List ℕ)) (whose : List ℕ → Option End)
+        (seen : ClientView M) (purposes : ℕ → Purposes) → IsBegun mech first.dest
+        → AreSteps (run_machines M.mic_of M.derived M.started M.accepted M.finished) first steps → NeverStops sides.Dest first steps
         → AreSpelled (run_machines M.mic_of M.derived M.started M.accepted M.finished) (record { mic = M.mic_of; derived = M.derived }) (spelling accepts whose) meaning first steps
         → (k : ℕ)
-        → TakesSimple (spelling accepts whose) Dest ((system_of (run_machines M.mic_of M.derived M.started M.accepted M.finished) (record { mic = M.mic_of; derived = M.derived }) (spelling accepts whose) meaning seen first steps purposes).acts Dest k)
-        → VolumeLaws ((system_of (run_machines M.mic_of M.derived M.started M.accepted M.finished) (record { mic = M.mic_of; derived = M.derived }) (spelling accepts whose) meaning seen first steps purposes).dest k)
-        ((system_of (run_machines M.mic_of M.derived M.started M.accepted M.finished) (record { mic = M.mic_of; derived = M.derived }) (spelling accepts whose) meaning seen first steps purposes).dest (suc k))
-        (dest_effect (system_of (run_machines M.mic_of M.derived M.started M.accepted M.finished) (record { mic = M.mic_of; derived = M.derived }) (spelling accepts whose) meaning seen first steps purposes) k) }
+        → TakesSimple (spelling accepts whose) Dest ((opening_of (run_machines M.mic_of M.derived M.started M.accepted M.finished) (record { mic = M.mic_of; derived = M.derived }) (spelling accepts whose) meaning seen first steps purposes).acts Dest k)
+        → VolumeLaws ((opening_of (run_machines M.mic_of M.derived M.started M.accepted M.finished) (record { mic = M.mic_of; derived = M.derived }) (spelling accepts whose) meaning seen first steps purposes).dest k)
+        ((opening_of (run_machines M.mic_of M.derived M.started M.accepted M.finished) (record { mic = M.mic_of; derived = M.derived }) (spelling accepts whose) meaning seen first steps purposes).dest (suc k))
+        (dest_effect (opening_of (run_machines M.mic_of M.derived M.started M.accepted M.finished) (record { mic = M.mic_of; derived = M.derived }) (spelling accepts whose) meaning seen first steps purposes) k) }
 {
     crate::copies::destinations_are_shown::<M>();
     server_laws::steps_are_lawful::<Destination<M>, Carried, CountDraws>();
@@ -45,12 +44,12 @@ pub fn volumes_are_lawful<M: Mechanism>()
     dest_lands::volumes_go_on::<M, CountDraws>();
 }
 
-/// Along a run the numbers of the destination's jobs have four bytes: a step gives out no more than a COMPOUND may have operations, and
+/// In an opening the numbers of the destination's jobs have four bytes: a step gives out no more than a COMPOUND may have operations, and
 /// few steps are made.
 pub fn jobs_are_few<M: Mechanism>()
-    ensures { (mech : M) (events : List Numbered) (first : RunWorld M) (steps : List (RunStep M)) (accepts : List ℕ → Option (List ℕ)) (whose : List ℕ → Option End)
-        → IsFirst mech events first
-        → AreSteps (run_machines M.mic_of M.derived M.started M.accepted M.finished) first steps
+    ensures { (mech : M) (first : RunWorld M) (steps : List (RunStep M)) (accepts : List ℕ → Option (List ℕ)) (whose : List ℕ → Option End)
+        → IsBegun mech first.dest
+        → AreSteps (run_machines M.mic_of M.derived M.started M.accepted M.finished) first steps → NeverStops sides.Dest first steps
         → AreFewJobs (run_machines M.mic_of M.derived M.started M.accepted M.finished) (record { mic = M.mic_of; derived = M.derived }) (spelling accepts whose) meaning first steps }
 {
     crate::copies::destinations_are_shown::<M>();
@@ -63,20 +62,21 @@ pub fn jobs_are_few<M: Mechanism>()
     dest_own::steps_give_one_entry::<M, CountDraws>();
 }
 
-/// In each step of a run the destination obeys the laws of names and reports, and at each moment what is reported as stable is safe.
+/// In each step of an opening the destination obeys the laws of names and reports, and at each moment what is reported as stable is
+/// safe.
 pub fn names_are_lawful<M: Mechanism>()
-    ensures laws { (mech : M) (events : List Numbered) (first : RunWorld M) (steps : List (RunStep M)) (accepts : List ℕ → Option (List ℕ)) (whose : List ℕ → Option End)
-        (seen : ClientView M) (purposes : ℕ → Purposes) → IsFirst mech events first
-        → AreSteps (run_machines M.mic_of M.derived M.started M.accepted M.finished) first steps
+    ensures laws { (mech : M) (first : RunWorld M) (steps : List (RunStep M)) (accepts : List ℕ → Option (List ℕ)) (whose : List ℕ → Option End)
+        (seen : ClientView M) (purposes : ℕ → Purposes) → IsBegun mech first.dest
+        → AreSteps (run_machines M.mic_of M.derived M.started M.accepted M.finished) first steps → NeverStops sides.Dest first steps
         → AreNotClients (run_machines M.mic_of M.derived M.started M.accepted M.finished) (record { mic = M.mic_of; derived = M.derived }) (spelling accepts whose) meaning first steps
         → (k : ℕ)
-        → NameLaws (spelling accepts whose) meaning (system_of (run_machines M.mic_of M.derived M.started M.accepted M.finished) (record { mic = M.mic_of; derived = M.derived }) (spelling accepts whose) meaning seen first steps purposes) k }
-    ensures safe { (mech : M) (events : List Numbered) (first : RunWorld M) (steps : List (RunStep M)) (accepts : List ℕ → Option (List ℕ)) (whose : List ℕ → Option End)
-        (seen : ClientView M) (purposes : ℕ → Purposes) → IsFirst mech events first
-        → AreSteps (run_machines M.mic_of M.derived M.started M.accepted M.finished) first steps
+        → NameLaws (spelling accepts whose) meaning (opening_of (run_machines M.mic_of M.derived M.started M.accepted M.finished) (record { mic = M.mic_of; derived = M.derived }) (spelling accepts whose) meaning seen first steps purposes) k }
+    ensures safe { (mech : M) (first : RunWorld M) (steps : List (RunStep M)) (accepts : List ℕ → Option (List ℕ)) (whose : List ℕ → Option End)
+        (seen : ClientView M) (purposes : ℕ → Purposes) → IsBegun mech first.dest
+        → AreSteps (run_machines M.mic_of M.derived M.started M.accepted M.finished) first steps → NeverStops sides.Dest first steps
         → AreNotClients (run_machines M.mic_of M.derived M.started M.accepted M.finished) (record { mic = M.mic_of; derived = M.derived }) (spelling accepts whose) meaning first steps
         → (k : ℕ)
-        → AreSafe (system_of (run_machines M.mic_of M.derived M.started M.accepted M.finished) (record { mic = M.mic_of; derived = M.derived }) (spelling accepts whose) meaning seen first steps purposes) k }
+        → AreSafe (opening_of (run_machines M.mic_of M.derived M.started M.accepted M.finished) (record { mic = M.mic_of; derived = M.derived }) (spelling accepts whose) meaning seen first steps purposes) k }
 {
     jobs_are_few::<M>();
     crate::copies::destinations_are_shown::<M>();

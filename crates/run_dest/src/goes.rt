@@ -4,30 +4,31 @@ ghost use Rattle.dest_core.specs.Stepping.{copier_in};
 ghost use Rattle.dest_lands.specs.Posted.{AreSpelled};
 ghost use Rattle.dest_view.specs.Dues.{AreSafe};
 ghost use Rattle.nfs_base.specs.declared.seal.End.{End};
+ghost use Rattle.nfs_base.specs.declared.side.Side.TheVariants as sides;
+ghost use Rattle.run_dest.specs.Begun.{IsBegun};
 ghost use Rattle.run_dest.specs.Moments.{host_at, part_at, step_at};
 ghost use Rattle.run_dest.specs.Goes.{GoesOn};
-ghost use Rattle.run_system.specs.System.{ClientView, system_of};
-ghost use Rattle.wire_machine.specs.Runs.{Numbered};
-ghost use Rattle.wire_machine.specs.Steps.{AreSteps};
+ghost use Rattle.run_system.specs.System.{ClientView, opening_of};
+ghost use Rattle.wire_machine.specs.Steps.{AreSteps, NeverStops};
 ghost use Rattle.wire_meaning.specs.Meaning.{meaning};
 ghost use Rattle.wire_model.specs.CopyLaws.{CopiesLaws};
 ghost use Rattle.wire_model.specs.Meaning.{Meaning};
 ghost use Rattle.wire_model.specs.Spelling.{Spelling};
-ghost use Rattle.wire_run.specs.Ends.{count_gives, run_machines, words_of};
-ghost use Rattle.wire_run.specs.Run.{IsFirst};
-ghost use Rattle.wire_run.specs.Running.{RunStep, RunWorld};
+ghost use Rattle.run_ends.specs.Ends.{RunStep, RunWorld, count_gives, run_machines, words_of};
 ghost use Rattle.wire_spelling.specs.Spelling.{spelling};
 
 use gss_mech::Mechanism;
 use streams::CountDraws;
 
-/// At each moment of a run the destination goes on in one of its ways, where what its mount awaits then in its slots has a spelling.
+/// At each moment of an opening the destination goes on in one of its ways, where what its mount awaits then in its slots has a
+/// spelling.
 pub fn destinations_go_on<M: Mechanism>()
-    ensures { (mech : M) (events : List Numbered) (first : RunWorld M) (steps : List (RunStep M)) (spell : Spelling) (meaning : Meaning) (seen : ClientView M)
-        (purposes : ℕ → Purposes) → IsFirst mech events first → AreSteps (run_machines M.mic_of M.derived M.started M.accepted M.finished) first steps → (k : ℕ)
+    ensures { (mech : M) (first : RunWorld M) (steps : List (RunStep M)) (spell : Spelling) (meaning : Meaning) (seen : ClientView M)
+        (purposes : ℕ → Purposes) → IsBegun mech first.dest → AreSteps (run_machines M.mic_of M.derived M.started M.accepted M.finished) first steps
+        → NeverStops sides.Dest first steps → (k : ℕ)
         → AreSpelled (copier_in (host_at (run_machines M.mic_of M.derived M.started M.accepted M.finished) (record { mic = M.mic_of; derived = M.derived }) spell meaning first steps k)).work.mount
         → GoesOn (words_of M.mic_of M.derived M.started M.accepted M.finished count_gives)
-        (system_of (run_machines M.mic_of M.derived M.started M.accepted M.finished) (record { mic = M.mic_of; derived = M.derived }) spell meaning seen first steps purposes) k
+        (opening_of (run_machines M.mic_of M.derived M.started M.accepted M.finished) (record { mic = M.mic_of; derived = M.derived }) spell meaning seen first steps purposes) k
         (part_at (run_machines M.mic_of M.derived M.started M.accepted M.finished) (record { mic = M.mic_of; derived = M.derived }) spell meaning first steps k).took
         (part_at (run_machines M.mic_of M.derived M.started M.accepted M.finished) (record { mic = M.mic_of; derived = M.derived }) spell meaning first steps k).speaker
         (host_at (run_machines M.mic_of M.derived M.started M.accepted M.finished) (record { mic = M.mic_of; derived = M.derived }) spell meaning first steps k)
@@ -36,14 +37,15 @@ pub fn destinations_go_on<M: Mechanism>()
     crate::copies::destinations_are_shown::<M>();
 }
 
-/// So the copies of a run obey their laws at every moment, where what is awaited at each has a spelling, and what is reported as
+/// So the copies of an opening obey their laws at every moment, where what is awaited at each has a spelling, and what is reported as
 /// stable is safe.
 pub fn copies_are_lawful<M: Mechanism>()
-    ensures { (mech : M) (events : List Numbered) (first : RunWorld M) (steps : List (RunStep M)) (accepts : List ℕ → Option (List ℕ)) (whose : List ℕ → Option End)
-        (seen : ClientView M) (purposes : ℕ → Purposes) → IsFirst mech events first → AreSteps (run_machines M.mic_of M.derived M.started M.accepted M.finished) first steps
+    ensures { (mech : M) (first : RunWorld M) (steps : List (RunStep M)) (accepts : List ℕ → Option (List ℕ)) (whose : List ℕ → Option End)
+        (seen : ClientView M) (purposes : ℕ → Purposes) → IsBegun mech first.dest → AreSteps (run_machines M.mic_of M.derived M.started M.accepted M.finished) first steps
+        → NeverStops sides.Dest first steps
         → ((k : ℕ) → AreSpelled (copier_in (host_at (run_machines M.mic_of M.derived M.started M.accepted M.finished) (record { mic = M.mic_of; derived = M.derived }) (spelling accepts whose) meaning first steps k)).work.mount)
-        → ((k : ℕ) → AreSafe (system_of (run_machines M.mic_of M.derived M.started M.accepted M.finished) (record { mic = M.mic_of; derived = M.derived }) (spelling accepts whose) meaning seen first steps purposes) (suc k))
-        → (k : ℕ) → CopiesLaws (spelling accepts whose) meaning (system_of (run_machines M.mic_of M.derived M.started M.accepted M.finished) (record { mic = M.mic_of; derived = M.derived }) (spelling accepts whose) meaning seen first steps purposes) k }
+        → ((k : ℕ) → AreSafe (opening_of (run_machines M.mic_of M.derived M.started M.accepted M.finished) (record { mic = M.mic_of; derived = M.derived }) (spelling accepts whose) meaning seen first steps purposes) (suc k))
+        → (k : ℕ) → CopiesLaws (spelling accepts whose) meaning (opening_of (run_machines M.mic_of M.derived M.started M.accepted M.finished) (record { mic = M.mic_of; derived = M.derived }) (spelling accepts whose) meaning seen first steps purposes) k }
 {
     destinations_go_on::<M>();
     dest_lands::workers_ask_by_plans::<M, CountDraws>();

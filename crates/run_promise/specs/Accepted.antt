@@ -6,8 +6,7 @@ use Rattle.nfs_base.specs.declared.side.Side.{Side}
 use Rattle.nfs_base.specs.declared.side.Side.TheVariants.{Dest, Source}
 use Rattle.run_client.specs.Accepted.{AreAccepted}
 use Rattle.wire_machine.specs.Runs.{Numbered}
-use Rattle.wire_run.specs.Fresh.{Shape}
-use Rattle.wire_run.specs.Run.{shape_by, shape_of, shape_or}
+use Rattle.run_ends.specs.First.{Shape, shape_by, shape_of, shape_or}
 use Rattle.wire_schedule.specs.Admission.{after, is_in_order, is_within}
 use Rattle.wire_schedule.specs.declared.context.Context.{Context}
 use Rattle.wire_schedule.specs.declared.event.Event.{Event}
@@ -33,6 +32,8 @@ shape_few Source kinds.Flow within = tt
 shape_few Source (kinds.Work worker) within = tt
 shape_few Source (kinds.Tick seconds) within = tt
 shape_few Source (kinds.Peek evside file off len) within = tt
+shape_few Source (kinds.Crash evside pick) within = tt
+shape_few Source (kinds.CrashAfter evside calls pick) within = tt
 shape_few Dest (kinds.Volume Source files blocks) within = tt
 shape_few Dest (kinds.Volume Dest files blocks) within = blocks_few files blocks within
 shape_few Dest (kinds.Write evside file off bytes) within = tt
@@ -46,6 +47,8 @@ shape_few Dest kinds.Flow within = tt
 shape_few Dest (kinds.Work worker) within = tt
 shape_few Dest (kinds.Tick seconds) within = tt
 shape_few Dest (kinds.Peek evside file off len) within = tt
+shape_few Dest (kinds.Crash evside pick) within = tt
+shape_few Dest (kinds.CrashAfter evside calls pick) within = tt
 
 either_few : (o : Option Shape) (other : Shape) → IfSome o (λ (shape : Shape). shape.blocks ≤ 16384) → other.blocks ≤ 16384 → (shape_or o other).blocks ≤ 16384
 either_few None other one more = more

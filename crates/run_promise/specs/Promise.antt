@@ -21,9 +21,8 @@ use Rattle.wire_meaning.specs.Meaning.{meaning}
 use Rattle.wire_model.specs.Spelling.{Spelling}
 use Rattle.wire_model.specs.System.{System}
 use Rattle.wire_model.specs.WordKept.{IsWordKept}
-use Rattle.wire_run.specs.Ends.{Words, machines}
-use Rattle.wire_run.specs.Running.{RunStep, RunWorld}
-use Rattle.wire_run.specs.Setting.{dest_name, user}
+use Rattle.run_ends.specs.Ends.{RunStep, RunWorld, Words, machines}
+use Rattle.run_ends.specs.Setting.{dest_name, user}
 use Rattle.wire_spelling.specs.Spelling.{spelling}
 
 -- the end that a principal is

@@ -12,8 +12,8 @@ use Rattle.nfs_base.specs.declared.seal.End.TheVariants.{Client, Dest}
 use Rattle.streams.specs.Draws.{counted_draw}
 use Rattle.streams.specs.declared.draws.Drawn.{Drawn}
 use Rattle.streams.specs.declared.draws.Drawn.TheVariants.{Got}
-use Rattle.wire_run.specs.Ends.{count_gives}
-use Rattle.wire_run.specs.Setting.{dest_name, dest_place, source_place, user}
+use Rattle.run_ends.specs.Ends.{count_gives}
+use Rattle.run_ends.specs.Setting.{dest_name, dest_place, source_place, user}
 use Rattle.wire_xdr.specs.Cursor.{IsBytes}
 use Rattle.run_promise.specs.Promise.{any_nonce, whose}
 

@@ -4,31 +4,28 @@ ghost use Rattle.run_promise.specs.Promise.{KeepsPromise, run_spelling};
 ghost use Rattle.wire_log.specs.Keeping.{reading};
 ghost use Rattle.wire_machine.specs.Runs.{End, Numbered, Runs};
 ghost use Rattle.wire_meaning.specs.Meaning.{meaning};
-ghost use Rattle.wire_run.specs.Ends.{count_gives, run_machines, words_of};
-ghost use Rattle.wire_run.specs.Run.{IsFirst};
-ghost use Rattle.wire_run.specs.Running.{RunStep, RunWorld};
+ghost use Rattle.run_ends.specs.Ends.{RunStep, RunWorld, count_gives, run_machines, words_of};
+ghost use Rattle.run_ends.specs.First.{IsFirst};
 ghost use Rattle.wire_schedule.specs.Admission.{at_start};
 
 use caller_laws::tokens_are_their_senders;
 use client_fits::clients_have_fit_ways;
-use dest_lands::what_is_awaited_is_spelled;
 use gss_mech::{Mechanism, tokens_agree};
 use mount_fits::counted_draws_are_nonces;
 use run_client::{
     clients_are_lawful, clients_go_by_turns, clients_may_go, lines_say_stable_once,
     lines_tell_what_is_told, runs_keep_the_word, what_is_told_is_the_word, wires_are_unmistaken,
 };
-use run_dest::{
-    destinations_are_lawful_callers, destinations_are_lawful_servers, destinations_go_as_callers,
-    sources_are_lawful, sources_call_nobody,
-};
+use run_servers::{destinations_are_lawful_servers, sources_are_lawful, sources_call_nobody};
 use run_system::systems_show_histories;
+use run_whole::runs_owe_all;
 use streams::CountDraws;
 use wire_model::lawful_systems;
 
 /// The run of an accepted schedule, from servers on volumes that were just formatted, keeps and stops its copies up to each of its
-/// steps, and its client keeps its word and tells no more than that, whatever is lost, repeated or reordered on the wire, whichever calls of a disk fail. A step in
-/// which a record is taken by mistake is none of its steps.
+/// steps, and its client keeps its word and tells no more than that: whatever is lost, repeated or reordered on the wire, whichever
+/// calls of a disk fail, and whichever server stops, between two steps or in one. A step in which a record is taken by mistake is none
+/// of its steps.
 pub fn runs_keep_the_promise<M: Mechanism>()
     ensures { (mech : M) (events : List Numbered) (first : RunWorld M) (steps : List (RunStep M)) (end : End) → AreAccepted at_start events → IsFirst mech events first
         → Runs (run_machines M.mic_of M.derived M.started M.accepted M.finished) reading first events steps end
@@ -46,14 +43,7 @@ pub fn runs_keep_the_promise<M: Mechanism>()
     sources_are_lawful::<M>();
     sources_call_nobody::<M>();
     destinations_are_lawful_servers::<M>();
-    destinations_go_as_callers::<M>();
-    destinations_are_lawful_callers::<M>();
-    run_dest::volumes_are_lawful::<M>();
-    run_dest::names_are_lawful::<M>();
-    what_is_awaited_is_spelled();
-    dest_names::names_are_lawful::<M, CountDraws>();
-    run_dest::destinations_are_shown::<M>();
-    run_dest::copies_are_lawful::<M>();
+    runs_owe_all::<M>();
     systems_show_histories::<M>();
     lines_tell_what_is_told::<M>();
     lines_say_stable_once::<M>();

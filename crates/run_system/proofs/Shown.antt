@@ -1,5 +1,5 @@
 -- The jobs that a history lists are those of the table, by number.
-use Rattle.std.proofs.Common.{◌≡◌, ◌+◌, ◌<◌, ◌≤◌, ◌∷◌, ◌∙◌, [], ℕ, Bool, List, ap, arith, refl, subst, sym, true, false, Option, Some, None, ◌==◌, cond, length, zero, suc}
+use Rattle.std.proofs.Common.{◌≡◌, ◌+◌, ◌<◌, ◌∷◌, ◌∙◌, [], ℕ, Bool, List, ap, arith, refl, subst, sym, true, false, Option, Some, None, ◌==◌, cond, length}
 use Rattle.std.specs.Prelude.{◌&&◌, ◌||◌, find, map, slice_index_or}
 use Rattle.std.proofs.lemmas.Bool.{both_ways, eq-eqb, eqb-true, false_from_ne_true}
 use Rattle.deed_laws.specs.Linked.{GoOn, IsSeenAs, looked_up as seen_as, name_at}
@@ -11,7 +11,7 @@ use Rattle.job_table.specs.declared.job.Job.{Job as TableJob}
 use Rattle.nfs_base.specs.declared.job.JobName.{JobName}
 use Rattle.run_system.proofs.Folds.{each_after, past_end}
 use Rattle.run_system.specs.Listing.{listed_in, listed_of}
-use Rattle.wire_machine.specs.History.{Listed, jobs_after, listed_at, looked_up, marked_stable, no_job, seen_next}
+use Rattle.wire_machine.specs.History.{Listed, jobs_after, listed_at, looked_up, marked_stable, no_job}
 use Rattle.wire_model.specs.Copies.{Job}
 
 turned : (n m : ℕ) (b : Bool) → (m == n) ≡ b → (n == m) ≡ b

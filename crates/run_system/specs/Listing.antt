@@ -1,5 +1,5 @@
 -- The jobs of a destination's table as a history of a run lists them. Own definitions.
-use Rattle.std.specs.Prelude.{ℕ, List, map}
+use Rattle.std.specs.Prelude.{List, map}
 use Rattle.dest_view.specs.View.{plan_seen}
 use Rattle.job_table.specs.Table.{JobTable}
 use Rattle.job_table.specs.declared.job.Job.{Job}

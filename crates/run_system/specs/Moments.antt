@@ -22,12 +22,12 @@ module _ {S T C W : Type 0} (m : Machines S T C W) (tell : Telling S T) (spell :
     pub step : IsStep m (world_at first steps k) s
     pub after : world_at first steps (suc k) ≡ s.after
 
-  next_same : (a b : At m tell spell meaning) (o : Option (Step S T C W)) → a.world ≡ b.world
+  pub next_same : (a b : At m tell spell meaning) (o : Option (Step S T C W)) → a.world ≡ b.world
       → (next m tell spell meaning a o).world ≡ (next m tell spell meaning b o).world
   next_same a b None same = same
   next_same a b (Some s) same = refl
 
-  later : (first : World S T C W) (s : Step S T C W) (steps : List (Step S T C W)) (k : ℕ) → world_at first (s ∷ steps) (suc k) ≡ world_at s.after steps k
+  pub later : (first : World S T C W) (s : Step S T C W) (steps : List (Step S T C W)) (k : ℕ) → world_at first (s ∷ steps) (suc k) ≡ world_at s.after steps k
   later first s steps zero = refl
   later first s steps (suc k) =
       next_same (at_moment m tell spell meaning first (s ∷ steps) (suc k)) (at_moment m tell spell meaning s.after steps k) (slice_get steps k) (later first s steps k)

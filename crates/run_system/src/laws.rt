@@ -5,8 +5,7 @@ ghost use Rattle.wire_machine.specs.Steps.{AreSteps};
 ghost use Rattle.wire_model.specs.Meaning.{Meaning};
 ghost use Rattle.wire_model.specs.Spelling.{Spelling};
 ghost use Rattle.wire_model.specs.System.{history};
-ghost use Rattle.wire_run.specs.Ends.{run_machines};
-ghost use Rattle.wire_run.specs.Running.{RunStep, RunWorld};
+ghost use Rattle.run_ends.specs.Ends.{RunStep, RunWorld, run_machines};
 ghost use Rattle.run_system.specs.Moments.{IsMade};
 ghost use Rattle.run_system.specs.System.{ClientView, system_of, telling};
 

@@ -9,11 +9,11 @@ use nfs_base::Side;
 use outbox::{Outbox, Outgoing};
 use outcome::Mem;
 use rpc_msg::{RECORD_LIMIT, mark};
+use run_ends::{dest_place, source_peers, source_place, user};
 use source_core::SourceCore;
 use std::alloc::Global;
 use streams::CountDraws;
 use two_ends::{Wrong, realm};
-use wire_run::{dest_place, source_peers, source_place, user};
 
 /// What the client writes into file 1, and commits.
 pub const WRITTEN: &[u8] = b"0123456789";
@@ -91,7 +91,7 @@ fn source(alloc: Global, disk: BlindDisk) -> Result<SourceCore<BlindDisk, Realm>
 }
 
 /// A client of it.
-#[tactic(auto, unfolding(nfs_base::specs::Forms::net_loc, wire_run::specs::Setting::user, wire_run::specs::Setting::source_place, wire_run::specs::Setting::dest_place, wire_run::specs::Setting::tcp))]
+#[tactic(auto, unfolding(nfs_base::specs::Forms::net_loc, run_ends::specs::Setting::user, run_ends::specs::Setting::source_place, run_ends::specs::Setting::dest_place, run_ends::specs::Setting::tcp))]
 fn client(alloc: Global) -> Mem<Client<Realm>> {
     let source = source_place(alloc)?;
     let dest = dest_place(alloc)?;

@@ -1,11 +1,12 @@
 //! The whole server.
 
-ghost use Rattle.std.specs.Prelude.{true, ◌≡◌, ◌↔◌, ◌≤◌, ◌<◌, ◌+◌, ℕ, [], length, None, IfOk, IsOk, IsTrue, OnErr, Ok, Err, MatchResult};
+ghost use Rattle.std.specs.Prelude.{true, false, ◌≡◌, ◌↔◌, ◌≤◌, ◌<◌, ◌+◌, ℕ, [], length, None, IfOk, IsOk, IsTrue, OnErr, Ok, Err, MatchResult};
 ghost use Rattle.block_file.specs.declared.faults.OpenFault.{OpenFault};
 ghost use Rattle.block_file.specs.declared.faults.ReadFault.{ReadFault};
-ghost use Rattle.block_file.specs.Opened.{homes_by, CanBeOpened, MayBeLeft, RefusedFor};
-ghost use Rattle.block_file.specs.Stored.{flaw_of, reopened, tag_of};
+ghost use Rattle.block_file.specs.Opened.{homes_by, CanBeOpened, MayBeLeft, RefusedFor, StandsFor};
+ghost use Rattle.block_file.specs.Stored.{flaw_of, home_of, reopened, tag_of};
 ghost use Rattle.copy_model.specs.Volume.{bytes_at, file_at};
+ghost use Rattle.disk_model.specs.declared.fuse.Fuse.TheVariants.{Unset};
 ghost use Rattle.disk_model.specs.Disk.{Image, MayLeave};
 ghost use Rattle.disk_model.specs.Elapsed.{contents, present, set_to, IsOut};
 ghost use Rattle.outcome.specs.Causes.{Rose};
@@ -79,9 +80,13 @@ impl<D: Disk + Drop, M: Mechanism> SourceCore<D, M> {
             (λ fault. RefusedFor (flaw_of (D.size disk) (contents (D.timeline disk))) fault.1)) }
         ensures volume { D.Told → IfOk result (λ answer. IfOk answer (λ core. core.server.files.volume.volume ≡ reopened (contents (D.timeline disk)))) }
         ensures tag { D.Told → IfOk result (λ answer. IfOk answer (λ core. core.server.files.volume.tag ≡ tag_of (contents (D.timeline disk)))) }
+        ensures homes { D.Told → IfOk result (λ answer. IfOk answer (λ core. (j : ℕ) → 1 ≤ j → j < length core.server.files.volume.volume.files
+            → homes_by core.server.files.volume.homes j ≡ home_of (contents (D.timeline disk)) j)) }
         ensures new { IfOk result (λ answer. IfOk answer (IsNew mech peers own)) }
         ensures cause { IfOk result (λ answer. MatchResult answer (λ _. Unit {0})
             (λ fault. fault.1 ≡ OpenFault.DiskFailed → Rose (D.faults disk) (D.faults fault.0))) }
+        ensures unset { D.fuse disk ≡ Unset
+            → IfOk result (λ answer. MatchResult answer (λ core. D.fuse core.server.files.volume.disk ≡ Unset) (λ fault. D.fuse fault.0 ≡ Unset)) }
         ensures size { IfOk result (λ answer. MatchResult answer (λ core. D.size core.server.files.volume.disk ≡ D.size disk) (λ fault. D.size fault.0 ≡ D.size disk)) }
         ensures faults { IfOk result (λ answer. MatchResult answer (λ core. D.faults disk ≤ D.faults core.server.files.volume.disk) (λ fault. D.faults disk ≤ D.faults fault.0)) }
     {
@@ -182,10 +187,14 @@ impl<D: Disk, M> SourceCore<D, M> {
         self.host.steps
     }
 
-    /// The number of the volume's opening.
+    /// The number of the volume's opening. At any time the disk holds the files so that a crash leaves of each what it may, and
+    /// no file's safe contents are in doubt but those of a broken volume.
     pub fn boot(&self) -> u32
-        ensures { result ≡ self.now.server.files.volume.volume.boot }
+        ensures value { result ≡ self.now.server.files.volume.volume.boot }
+        ensures stands { D.Told → StandsFor D.timeline D.size self.now.server.files.volume }
+        ensures certain { self.now.server.files.volume.volume.broken ≡ false → self.now.server.files.volume.volume.doubt ≡ None }
     {
+        let _broken = self.host.server.files.volume.is_broken();
         self.host.server.files.volume.boot()
     }
 
@@ -222,6 +231,7 @@ impl<D: Disk, M> SourceCore<D, M> {
         ensures bytes { D.Told → IsOk result → out.new ≡ bytes_at (file_at self.old.server.files.volume.volume file).now off (length out.old) }
         ensures still { D.Told → host_of D.size self.new ≡ host_of D.size self.old }
         ensures counted { self.new.steps ≡ self.old.steps }
+        ensures fuse { D.fuse self.new.server.files.volume.disk ≡ D.fuse self.old.server.files.volume.disk }
         ensures size { D.size self.new.server.files.volume.disk ≡ D.size self.old.server.files.volume.disk }
         ensures faults { D.faults self.old.server.files.volume.disk ≤ D.faults self.new.server.files.volume.disk }
         ensures cause { result ≡ Err ReadFault.DiskFailed → Rose (D.faults self.old.server.files.volume.disk) (D.faults self.new.server.files.volume.disk) }
@@ -243,6 +253,19 @@ impl<D: Disk, M> SourceCore<D, M> {
         let Files { volume, .. } = files;
         volume.hand_back()
     }
+
+    /// Closes it: the disk and the mechanism come back.
+    pub fn close(self) -> (D, M)
+        ensures disk { result.0 ≡ self.server.files.volume.disk }
+        ensures mech { result.1 ≡ self.server.files.extra.mech }
+    {
+        let SourceCore { host } = self;
+        let Host { server, .. } = host;
+        let Server { files, .. } = server;
+        let Files { volume, extra, .. } = files;
+        let Source { mech, .. } = extra;
+        (volume.hand_back(), mech)
+    }
 }
 
 impl<D: CrashDisk, M> SourceCore<D, M> {
@@ -250,6 +273,10 @@ impl<D: CrashDisk, M> SourceCore<D, M> {
     pub fn fuse(&mut self, calls: u64)
         ensures fuse { D.fuse self.new.server.files.volume.disk ≡ set_to (D.fuse self.old.server.files.volume.disk) calls }
         ensures still { D.Told → host_of D.size self.new ≡ host_of D.size self.old }
+        ensures counted { self.new.steps ≡ self.old.steps }
+        ensures boot { self.new.server.files.volume.volume.boot ≡ self.old.server.files.volume.volume.boot }
+        ensures size { D.size self.new.server.files.volume.disk ≡ D.size self.old.server.files.volume.disk }
+        ensures faults { D.faults self.new.server.files.volume.disk ≡ D.faults self.old.server.files.volume.disk }
     {
         self.host.server.files.volume.fuse(calls);
     }

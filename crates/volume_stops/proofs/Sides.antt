@@ -226,3 +226,8 @@ boot s t used kept stops =
 
 pub tag : (s t : Store) (used : List Used) (kept : Kept) → StopsIn s used kept t → t.tag ≡ s.tag
 tag s t used kept stops = opened (t.tag ≡ s.tag) s stops.calls t (λ u keeps of. of.tag_is ∙ keeps.tag_is) stops.left
+
+pub files : ((v : Volume) (e : Effect) → length (after v e).files ≡ length v.files) → (s t : Store) (used : List Used) (kept : Kept)
+    → StopsIn s used kept t → length t.volume.files ≡ length s.volume.files
+files lengths s t used kept stops =
+    opened (length t.volume.files ≡ length s.volume.files) s stops.calls t (λ u keeps of. count_same lengths u t of ∙ keeps.files) stops.left

@@ -45,6 +45,7 @@ pub fn failed_commits_are_pending()
 pub fn one_stop_is_one_crash()
     ensures boot { (s t : Store) (used : List Used) (kept : Kept) → StopsIn s used kept t → t.volume.boot ≡ s.volume.boot + 1 }
     ensures tag { (s t : Store) (used : List Used) (kept : Kept) → StopsIn s used kept t → t.tag ≡ s.tag }
+    ensures files { (s t : Store) (used : List Used) (kept : Kept) → StopsIn s used kept t → length t.volume.files ≡ length s.volume.files }
     ensures allowed { (s t : Store) (used : List Used) (kept : Kept) → StopsIn s used kept t → length used ≤ 1
         → IsAllowed s.volume (crash_effect kept used) }
     ensures crashes { (s t : Store) (used : List Used) (kept : Kept) → StopsIn s used kept t → length used ≤ 1 → IsFirm s.volume

@@ -14,10 +14,12 @@ use Rattle.outbox.specs.declared.note.Dropped.{Dropped}
 use Rattle.outbox.specs.declared.note.Dropped.TheVariants as dropped
 use Rattle.outbox.specs.declared.note.Note.{Note}
 use Rattle.outbox.specs.declared.note.Note.TheVariants as notes
+use Rattle.volume_stops.specs.declared.kept.Kept.{Kept}
+use Rattle.volume_stops.specs.declared.kept.Kept.TheVariants.{Old, New, Nothing}
 use Rattle.wire_lines.specs.declared.letters.Speaker.{Speaker}
 use Rattle.wire_lines.specs.declared.letters.Speaker.TheVariants as speakers
 use Rattle.wire_lines.specs.declared.line.Line.{Line}
-use Rattle.wire_lines.specs.declared.line.Line.TheVariants.{Sent, NoRecord, Note as Noted, Bytes, Mistaken, End as Ends}
+use Rattle.wire_lines.specs.declared.line.Line.TheVariants.{Sent, NoRecord, Note as Noted, Bytes, Crash, Mistaken, End as Ends}
 use Rattle.wire_schedule.specs.Numerals.{hex_text}
 
 -- ---- the letters of ends, and of who tells a note
@@ -104,6 +106,13 @@ abbrev pub sealed_text : Option Seal → List ℕ
 sealed_text None = codes "none"
 sealed_text (Some seal) = seal_text seal
 
+-- ---- what a crash kept of a commit
+
+abbrev pub kept_text : Kept → List ℕ
+kept_text Old = codes "old"
+kept_text New = codes "new"
+kept_text Nothing = codes "none"
+
 -- ---- lines
 
 -- a line without its newline
@@ -113,6 +122,7 @@ shown_text (NoRecord number) = codes "none " ++ decimal number
 shown_text (Noted by note) = noted_text by note
 shown_text (Bytes side file off bytes) =
     codes "bytes " ++ side_text side ++ codes " " ++ decimal file ++ codes " " ++ decimal off ++ codes " " ++ hex_text bytes
+shown_text (Crash side boot kept) = codes "crash " ++ side_text side ++ codes " " ++ decimal boot ++ codes " " ++ kept_text kept
 shown_text (Mistaken accepted sealed) = codes "mistaken " ++ seal_text accepted ++ codes " " ++ sealed_text sealed
 shown_text (Ends records) = codes "end " ++ decimal records
 

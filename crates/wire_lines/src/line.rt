@@ -1,7 +1,7 @@
 //! A line of a transcript.
 
 ghost use Rattle.std.specs.Prelude.{◌≡◌, ◌<◌, Some};
-ghost use Rattle.wire_lines.specs.LineText.{seal_text, sealed_text};
+ghost use Rattle.wire_lines.specs.LineText.{kept_text, seal_text, sealed_text};
 ghost use Rattle.wire_schedule.specs.Numerals.{hex_digit, hex_text};
 
 use crate::label::Called;
@@ -11,6 +11,7 @@ use nfs_base::{End, Seal, Side};
 use outbox::{Label, Note};
 use outcome::Mem;
 use std::fmt;
+use volume_stops::Kept;
 use wire_xdr::Octets;
 
 /// One line of a transcript. Records go by number, counted from 1; offsets are bytes.
@@ -41,6 +42,13 @@ pub enum Line {
         file: u32,
         off: u64,
         bytes: Octets,
+    },
+
+    /// A server stopped, its disk crashed and it was opened anew: the number of this opening, and what the crash kept of a commit.
+    Crash {
+        side: Side,
+        boot: u32,
+        kept: Kept,
     },
 
     /// A record was accepted under a seal that isn't its own, or as the answer to another call: the seal under which it was
@@ -94,6 +102,10 @@ impl fmt::Display for Line {
                 };
                 write!(f, "bytes {side} {file} {off} {hex}")
             }
+            Line::Crash { side, boot, kept } => {
+                let kept = kept_word(*kept);
+                write!(f, "crash {side} {boot} {kept}")
+            }
             Line::Mistaken { accepted, sealed } => {
                 let accepted = Sealed {
                     seal: Some(*accepted),
@@ -144,6 +156,17 @@ impl fmt::Display for Sealed {
                 write!(f, "{owner}.{boot}.{number} {seq}")
             }
         }
+    }
+}
+
+/// What a crash kept of a commit, as a word.
+fn kept_word(kept: Kept) -> &'static str
+    ensures { result.now ≡ kept_text kept }
+{
+    match kept {
+        Kept::Old => "old",
+        Kept::New => "new",
+        Kept::Nothing => "none",
     }
 }
 

@@ -9,6 +9,7 @@ use Rattle.nfs_base.specs.declared.side.Side.TheVariants as sides
 use Rattle.outbox.specs.declared.outgoing.Outbox.{Outbox}
 use Rattle.outbox.specs.declared.outgoing.To.{To}
 use Rattle.outbox.specs.declared.outgoing.To.TheVariants as to
+use Rattle.volume_stops.specs.declared.kept.Kept.{Kept}
 use Rattle.wire_machine.specs.declared.port.Port.{Port}
 use Rattle.wire_machine.specs.declared.port.Port.TheVariants as ports
 
@@ -38,11 +39,17 @@ pub data ClientAct : Type 0 where
   ClientTicks : ClientAct
 
 -- Three machines with their states, and draws. Each machine says of an act in a second, from a state and with these draws,
--- which state and draws it may leave and what it gives. The volume and the opening of a server are read off its state.
+-- which state and draws it may leave and what it gives. Each server says so too of an act in which its machine stops, so that it is
+-- opened anew, and of a stop between two acts, with what the crash kept of a commit. The volume and the opening of a server are read
+-- off its state.
 pub record Machines (S T C W : Type 0) : Type 1 where
   pub source : SourceAct → (now : ℕ) → S → W → S → W → Outbox → Type 0
   pub dest : DestAct → (now : ℕ) → T → W → T → W → Outbox → Type 0
   pub client : ClientAct → (now : ℕ) → C → W → C → W → Outbox → Type 0
+  pub source_stops : SourceAct → (now : ℕ) → S → W → S → W → Outbox → Kept → Type 0
+  pub dest_stops : DestAct → (now : ℕ) → T → W → T → W → Outbox → Kept → Type 0
+  pub source_crashes : S → S → Kept → Type 0
+  pub dest_crashes : T → T → Kept → Type 0
   pub source_volume : S → Volume
   pub dest_volume : T → Volume
 

@@ -1,6 +1,6 @@
 -- What a run shows of its copies: a history as the promise speaks of it, computed from what the small steps did, so that no
 -- mark says what no step did. Own definitions.
-use Rattle.std.specs.Prelude.{ℕ, zero, suc, ◌+◌, ◌-◌, ◌==◌, ◌&&◌, ◌||◌, Bool, true, false, List, [], ◌∷◌, ◌++◌, length, map, slice_get, slice_index_or, Option, Some, None, option_and_then, if◌then◌else◌}
+use Rattle.std.specs.Prelude.{ℕ, zero, suc, ◌+◌, ◌-◌, ◌==◌, ◌&&◌, ◌||◌, Bool, true, false, List, [], ◌∷◌, ◌++◌, length, map, slice_get, Option, Some, None, option_and_then, if◌then◌else◌}
 use Rattle.std.specs.List.{list_any}
 use Rattle.copy_model.specs.Effect.{Effect, Rests, Writes, Commits, WriteFails, CommitFails, after}
 use Rattle.copy_model.specs.Job.{Plan, Entry}
@@ -10,15 +10,20 @@ use Rattle.nfs_base.specs.declared.job.JobName.{JobName}
 use Rattle.nfs_base.specs.declared.seal.End.{End}
 use Rattle.nfs_base.specs.declared.seal.End.TheVariants as ends
 use Rattle.nfs_base.specs.declared.seal.Seal.{Seal}
+use Rattle.nfs_base.specs.declared.side.Side.TheVariants as sides
+use Rattle.opening_laws.specs.Behind.{deed_behind}
 use Rattle.outbox.specs.declared.note.Note.{Note}
 use Rattle.outbox.specs.declared.note.Note.TheVariants as notes
 use Rattle.outbox.specs.declared.outgoing.Outbox.{Outbox}
 use Rattle.outbox.specs.declared.outgoing.Outgoing.{Outgoing}
+use Rattle.past_copies.specs.Past.{Past, all_copies, copy_at, past_after}
 use Rattle.server_volume.specs.declared.used.CallAnswer.{CallAnswer}
 use Rattle.server_volume.specs.declared.used.CallAnswer.TheVariants as answers
 use Rattle.server_volume.specs.declared.used.Used.{Used}
 use Rattle.server_volume.specs.declared.used.VolumeCall.{VolumeCall}
 use Rattle.server_volume.specs.declared.used.VolumeCall.TheVariants as calls
+use Rattle.volume_stops.specs.Stops.{crash_effect}
+use Rattle.volume_stops.specs.declared.kept.Kept.{Kept}
 use Rattle.wire_lines.specs.declared.letters.Speaker.{Speaker}
 use Rattle.wire_lines.specs.declared.letters.Speaker.TheVariants as speakers
 use Rattle.wire_model.specs.Copies.{Deed, Job, Plain, Lands, LandFails, bare_effect, copy_of, did_of}
@@ -27,7 +32,7 @@ use Rattle.wire_model.specs.Spelling.{Spelling}
 use Rattle.wire_model.specs.Wire.{Acts, Executed, Sent}
 use Rattle.wire_machine.specs.Check.{same_end}
 use Rattle.wire_machine.specs.Ends.{Machines}
-use Rattle.wire_machine.specs.Steps.{Step}
+use Rattle.wire_machine.specs.Steps.{Step, cut_of}
 use Rattle.wire_machine.specs.World.{Part, Parts, World, all_idle}
 
 -- ---- what the servers tell of themselves besides
@@ -108,6 +113,11 @@ called_with false took = None
 abbrev pub told_by : (List ℕ → Option Executed) → Option (List ℕ) → Option Executed
 told_by told took = option_and_then told took
 
+-- a server that stopped in the step told nothing
+abbrev pub told_unless : Option Kept → Acts → Acts
+told_unless None acts = acts
+told_unless (Some kept) acts = record acts { executed = None }
+
 module _ {S T C W : Type 0} (tell : Telling S T) where
   abbrev pub acts_in : World S T C W → Parts → World S T C W → End → Acts
   acts_in before parts now ends.Source =
@@ -116,6 +126,11 @@ module _ {S T C W : Type 0} (tell : Telling S T) where
       part_acts parts.dest
       (told_by (λ bytes. tell.dest_told bytes before.clock before.dest now.dest parts.dest.out) (called_with (is_call parts.dest) parts.dest.took))
   acts_in before parts now ends.Client = part_acts parts.client None
+
+  abbrev pub step_acts : World S T C W → Step S T C W → End → Acts
+  step_acts before s ends.Source = told_unless (cut_of sides.Source before s) (acts_in before s.parts s.after ends.Source)
+  step_acts before s ends.Dest = told_unless (cut_of sides.Dest before s) (acts_in before s.parts s.after ends.Dest)
+  step_acts before s ends.Client = acts_in before s.parts s.after ends.Client
 
 -- ---- which copies a step reports as stable: a CB_OFFLOAD under a context of the client's says so, or an OFFLOAD_STATUS was
 -- answered that it is complete
@@ -177,26 +192,41 @@ module _ (listed : List Listed) (stable : JobName → Bool) (boot : ℕ) where
   abbrev pub jobs_after : (made : ℕ) → List Job → List Job
   jobs_after made jobs = seen_again 1 jobs ++ newly (made - length jobs) (length jobs + 1)
 
--- ---- what was seen up to a moment: the copies, the destination's volume had no chunk landed, and what the last step did
+-- ---- what was seen up to a moment: the copies of the destination's openings before, those of its present one, its volume had no
+-- chunk landed, and what the last step did
 
 pub record Seen : Type 0 where
+  pub past : List Past
   pub jobs : List Job
   pub bare : Volume
   pub deed : Deed
 
 abbrev pub job_at : Seen → ℕ → Job
-job_at seen place = slice_index_or seen.jobs place no_job
+job_at seen place = copy_at no_job seen.past seen.jobs place
 
 abbrev pub seen_first : Volume → Seen
-seen_first v = record { jobs = []; bare = v; deed = Plain Rests }
+seen_first v = record { past = []; jobs = []; bare = v; deed = Plain Rests }
+
+-- where the destination stopped, its opening of this number has ended, and all copies are lost
+abbrev pub lost_if : Option Kept → (boot : ℕ) → Seen → Seen
+lost_if None boot seen = seen
+lost_if (Some kept) boot seen = record seen { past = past_after boot seen.past seen.jobs; jobs = [] }
+
+-- what the step did to its volume: a crash, or a deed among the copies of its opening, which stand behind so many
+abbrev pub dest_deed : Option Kept → (base : ℕ) → Volume → Part → Deed
+dest_deed None base v part = deed_behind base (deed_of v part)
+dest_deed (Some kept) base v part = Plain (crash_effect kept part.out.used)
 
 module _ {S T C W : Type 0} (m : Machines S T C W) (tell : Telling S T) (spell : Spelling) (meaning : Meaning) where
   abbrev pub sees : World S T C W → Step S T C W → Seen → Seen
   sees before s seen =
-      let deed = deed_of (m.dest_volume s.after.dest) s.parts.dest in
+      let cut = cut_of sides.Dest before s in
+      let was = lost_if cut (m.dest_volume before.dest).boot seen in
+      let deed = dest_deed cut (length seen.past) (m.dest_volume s.after.dest) s.parts.dest in
       record {
+        past = was.past;
         jobs = jobs_after (tell.jobs s.after.dest) (is_reported spell meaning (acts_in tell before s.parts s.after ends.Dest)) (m.dest_volume s.after.dest).boot
-            (tell.made s.after.dest) seen.jobs;
+            (tell.made s.after.dest) was.jobs;
         bare = after seen.bare (bare_effect deed);
         deed = deed;
       }
@@ -228,14 +258,14 @@ module _ {S T C W : Type 0} (m : Machines S T C W) (tell : Telling S T) (spell :
         source = seen_source (m.source_volume at.world.source);
         dest = seen_dest (m.dest_volume at.world.dest);
         bare = seen_dest at.seen.bare;
-        made = length at.seen.jobs;
+        made = length (all_copies at.seen.past at.seen.jobs);
         copy = λ j. copy_of (job_at at.seen j);
         did = did_of at.seen.deed;
       }
 
   abbrev pub acts_of : World S T C W → Option (Step S T C W) → End → Acts
   acts_of before None e = acts_in tell before all_idle before e
-  acts_of before (Some s) e = acts_in tell before s.parts s.after e
+  acts_of before (Some s) e = step_acts tell before s e
 
   abbrev pub acts_at : World S T C W → List (Step S T C W) → End → ℕ → Acts
   acts_at first steps e k = acts_of (at_moment first steps k).world (slice_get steps k) e

@@ -4,5 +4,6 @@ pub mod History
 pub mod Lines
 pub mod RunLaws
 pub mod Runs
+pub mod StepLaws
 pub mod Steps
 pub mod World

@@ -1,4 +1,5 @@
--- The lines of a small step: first the notes of each end, then a line for each record that it sends. Own definitions.
+-- The lines of a small step: first the notes of each end, then a line for each record that it sends; of one in which a server stops,
+-- the line that says so. Own definitions.
 use Rattle.std.specs.Prelude.{ℕ, ◌+◌, Bool, false, List, [], ◌∷◌, ◌++◌, length, map, Option, Some, None}
 use Rattle.copy_model.specs.Volume.{Volume, bytes_at, file_at}
 use Rattle.nfs_base.specs.declared.seal.End.{End}
@@ -11,10 +12,10 @@ use Rattle.wire_lines.specs.declared.line.Line.TheVariants as lines
 use Rattle.wire_schedule.specs.declared.event.Event.{Event}
 use Rattle.wire_schedule.specs.declared.event.Event.TheVariants as events
 use Rattle.wire_machine.specs.declared.choice.Choice.{Choice}
-use Rattle.wire_machine.specs.declared.choice.Choice.TheVariants.{Went}
+use Rattle.wire_machine.specs.declared.choice.Choice.TheVariants.{Went, Failed, Stopped}
 use Rattle.wire_machine.specs.declared.port.Port.{Port}
 use Rattle.wire_machine.specs.Ends.{Machines, end_at, port_of}
-use Rattle.wire_machine.specs.Steps.{Step}
+use Rattle.wire_machine.specs.Steps.{Step, stops_at}
 use Rattle.wire_machine.specs.World.{Part, Parts, Posted, World, posted_at}
 
 -- ---- notes
@@ -66,8 +67,16 @@ module _ {S T C W : Type 0} (m : Machines S T C W) where
   own_lines w (events.Peek side file off len) choice = shown (volume_at side w) choice side file off len (volume_at side w).broken
   own_lines w event choice = []
 
+  -- where a server stopped, the number of its next opening and what was kept
+  abbrev pub told_by : Choice → World S T C W → Step S T C W → List Line
+  told_by Went w s = own_lines w s.event s.choice
+  told_by Failed w s = own_lines w s.event s.choice
+  told_by (Stopped kept) w s =
+      let side = stops_at s.event w.log in
+      lines.Crash side (volume_at side s.after).boot kept ∷ []
+
   abbrev pub step_lines : World S T C W → Step S T C W → List Line
-  step_lines w s = own_lines w s.event s.choice ++ (notes_of s.parts ++ records_of (length w.log) s.parts)
+  step_lines w s = told_by s.choice w s ++ (notes_of s.parts ++ records_of (length w.log) s.parts)
 
   -- of small steps one after the other
   abbrev pub lines_of : World S T C W → List (Step S T C W) → List Line

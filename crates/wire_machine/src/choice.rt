@@ -1,3 +1,5 @@
+use volume_stops::Kept;
+
 /// What the disks did in a small step of a run. No small step makes more than one call on a volume.
 #[derive(Clone, Copy, Debug, PartialEq, Eq)]
 pub enum Choice {
@@ -6,4 +8,7 @@ pub enum Choice {
 
     /// The call failed.
     Failed,
+
+    /// A server stopped in it, or was stopped in it between two steps: what the crash of its disk kept of a commit.
+    Stopped { kept: Kept },
 }

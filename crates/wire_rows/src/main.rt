@@ -3,12 +3,14 @@
 //!
 //! A case is a line `case NAME STATUS LENGTH LENGTH`, a schedule of the first length in bytes, a transcript of the second, and
 //! a newline. Other lines between cases are passed over. Behind the cases one copy is made again and again, with each record
-//! lost, each repeated, and the last ones in each order, and what stands in the end is compared with the promise (`promise.rt`); and one
-//! of sixteen chunks by 1 to 8 workers, in orders that are drawn (`landings.rt`).
+//! lost, each repeated, and the last ones in each order, and what stands in the end is compared with the promise (`promise.rt`); one
+//! of sixteen chunks by 1 to 8 workers, in orders that are drawn (`landings.rt`); and one of two chunks with a server stopped before each
+//! call of its disk (`stops.rt`).
 #![tactic(auto)]
 
 mod landings;
 mod promise;
+mod stops;
 
 use disk_model::MemoryDisk;
 use gss_mech::Realm;
@@ -139,6 +141,7 @@ fn run(alloc: Global, text: &[u8]) -> Mem<String> {
     lines.push_str(last.as_str())?;
     promise::judge_all(alloc, &realm, &mut lines)?;
     landings::judge_landings(alloc, &realm, &mut lines)?;
+    stops::judge_stops(alloc, &realm, &mut lines)?;
     Ok(lines)
 }
 

@@ -6,7 +6,7 @@ use Rattle.copy_model.specs.Volume.{Volume, bytes_at, file_at}
 use Rattle.dest_core.specs.Stepping.{DestState}
 use Rattle.block_file.specs.declared.faults.ReadFault.{ReadFault}
 use Rattle.block_file.specs.declared.faults.ReadFault.TheVariants as read_faults
-use Rattle.wire_run.specs.Ends.{Words, hears, is_worker, machines}
+use Rattle.run_ends.specs.Ends.{RunMachines, Words, hears, is_worker, machines}
 use Rattle.wire_run.specs.declared.system.Peeked.{Peeked}
 use Rattle.wire_run.specs.declared.system.Peeked.TheVariants as peeks
 use Rattle.block_file.specs.Opened.{Opened}
@@ -30,8 +30,8 @@ use Rattle.volume_laws.specs.Keeping.{KeepsFiles}
 use Rattle.wire_machine.specs.Ends.{DestAct, SourceAct}
 use Rattle.wire_machine.specs.Ends as acts
 use Rattle.wire_machine.specs.Steps as steps
-use Rattle.wire_run.specs.Handling.{AreBytes, IsHandled}
-use Rattle.wire_run.specs.Running.{Later, RunMachines}
+use Rattle.run_ends.specs.Handling.{AreBytes, IsHandled}
+use Rattle.wire_run.specs.Running.{Later}
 use Rattle.wire_run.specs.Stage.{DestActs, DestHost, DestPeeks, PeekIs, SourceActs, SourceHost, SourcePeeks, VolumeStays, bit, dest_steps, has_failed, peeked_of, source_steps}
 use Rattle.wire_run.specs.declared.ends.DestEnd.{DestEnd}
 use Rattle.wire_run.specs.declared.ends.DestEnd.TheVariants as dest_end

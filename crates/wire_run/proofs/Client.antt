@@ -12,9 +12,9 @@ use Rattle.outbox.specs.declared.outgoing.Outbox.{Outbox}
 use Rattle.streams.specs.declared.draws.Drawn.{Drawn}
 use Rattle.wire_machine.specs.Ends.{ClientAct}
 use Rattle.wire_machine.specs.Ends as acts
-use Rattle.wire_run.specs.Ends.{Words, client_does, machines, ways}
+use Rattle.run_ends.specs.Ends.{Words, client_does, machines, ways}
 use Rattle.wire_machine.specs.Steps.{command_of}
-use Rattle.wire_run.specs.Handling.{IsHandled, client_took}
+use Rattle.run_ends.specs.Handling.{IsHandled, client_took}
 use Rattle.wire_run.specs.Stage.{ClientActs, begun_by}
 use Rattle.wire_schedule.specs.declared.event.Event.{Event}
 use Rattle.wire_schedule.specs.declared.event.Event.TheVariants as kinds
@@ -75,6 +75,8 @@ commands_take_none kinds.Flow = tt
 commands_take_none (kinds.Work worker) = tt
 commands_take_none (kinds.Tick seconds) = tt
 commands_take_none (kinds.Peek side file off len) = tt
+commands_take_none (kinds.Crash side pick) = tt
+commands_take_none (kinds.CrashAfter side calls pick) = tt
 
 module _ {M : Type 0} (words : Words M ℕ) (laws : ClientLaws M words.gives) where
   pub acts_once : (act : ClientAct) (now : ℕ) (c d : ClientState M) (v w : ℕ) (out : Outbox) → IsHandled c.steps MOST_STEPS (client_took act) out

@@ -26,18 +26,19 @@ use Rattle.wire_machine.specs.declared.choice.Choice.{Choice}
 use Rattle.wire_machine.specs.declared.choice.Choice.TheVariants.{Failed, Went}
 use Rattle.wire_machine.specs.declared.mistake.Mistake.{Mistake}
 use Rattle.wire_machine.specs.declared.port.Port.{Port}
-use Rattle.wire_run.specs.Ends.{SourceState, Words, machines}
-use Rattle.wire_run.specs.Running.{Later, RunWorld}
+use Rattle.run_ends.specs.Ends.{RunWorld, SourceState, Words, machines}
+use Rattle.wire_run.specs.Running.{Later}
 use Rattle.wire_run.specs.Stage.{AllLook, ClientActs, Comes, DestActs, DestHost, HandsOver, IsDone, IsReady, LooksOnly, SettleKeeps, Settles, SettlesAll, SmallDone, SourceActs, SourceHost, choice_by, dest_boot, later_clock, source_boot, ticked_parts, world_at}
 use Rattle.wire_run.specs.declared.ends.DestEnd.{DestEnd}
 use Rattle.wire_run.specs.declared.ends.SourceEnd.{SourceEnd}
 use Rattle.wire_run.specs.declared.stage.Acted.{Acted}
 use Rattle.wire_run.specs.declared.stage.Stage.{Stage}
+use Rattle.wire_run.specs.declared.stage.Stops.{Stops}
 use Rattle.wire_run.specs.declared.stage.Ticked.{Ticked}
 use Rattle.wire_schedule.specs.declared.event.Event.TheVariants as kinds
-use Rattle.wire_run.proofs.Keeping.{dest_there, source_there}
 use Rattle.wire_run.proofs.Later.{blamed_none_failed}
 use Rattle.wire_run.proofs.Logs.{mistake_in_none}
+use Rattle.wire_run.proofs.Outcomes.{dest_there, source_there}
 use Rattle.wire_run.proofs.Lone.{choice_left, choice_right, client_lines, dest_lines, dest_log, dest_mistake, rest_log, source_lines, source_log, source_mistake}
 
 -- ---- a disk that is as it was
@@ -83,14 +84,14 @@ abbrev pub client_acted : (number : ℕ) → Outbox → Acted
 client_acted number out = record { end = ends.Client; opening = 0; speaker = speakers.Client; took = number; out = out }
 
 -- the fault of a step that is one end's, by the mistake and the records
-fault_same : (a b : Option Mistake) (xs ys : List Posted) (fault : Option runs.Fault) → a ≡ b → xs ≡ ys → fault_by b (bytes_of ys) ≡ fault → fault_by a (bytes_of xs) ≡ fault
+pub fault_same : (a b : Option Mistake) (xs ys : List Posted) (fault : Option runs.Fault) → a ≡ b → xs ≡ ys → fault_by b (bytes_of ys) ≡ fault → fault_by a (bytes_of xs) ≡ fault
 fault_same a b xs ys fault p q e = ap (λ o. fault_by o (bytes_of xs)) p ∙ (ap (λ (l : List Posted). fault_by b (bytes_of l)) q ∙ e)
 
 -- lines that are put are those of the step
-lines_same : (text_old text_new : List ℕ) (put step : List Line) → step ≡ put → text_new ≡ text_old ++ lines_text put → text_new ≡ text_old ++ lines_text step
+pub lines_same : (text_old text_new : List ℕ) (put step : List Line) → step ≡ put → text_new ≡ text_old ++ lines_text put → text_new ≡ text_old ++ lines_text step
 lines_same text_old text_new put step same e = e ∙ ap (λ (ls : List Line). text_old ++ lines_text ls) (sym same)
 
-choices_same : (old new : List Choice) (a b : Choice) → a ≡ b → new ≡ old ++ a ∷ [] → new ≡ old ++ b ∷ []
+pub choices_same : (old new : List Choice) (a b : Choice) → a ≡ b → new ≡ old ++ a ∷ [] → new ≡ old ++ b ∷ []
 choices_same old new a b same e = e ∙ ap (λ (c : Choice). old ++ c ∷ []) same
 
 choice_is : (b : Bool) → choice_by b ≡ (if b then Failed else Went)
@@ -132,12 +133,12 @@ the_record number log there = some_there (posted_at number log) there
 module _ {D M : Type 0} (told : Type 0) (words : Words M ℕ) (read : Reading) (faults size : D → ℕ) where
   -- ---- the source
 
-  pub by_source : (act : SourceAct) (number opening : ℕ) (old new : Stage D M) (source : SourceEnd D M) (draws : ℕ) (out : Outbox) (text_old text_new : List ℕ)
+  pub by_source : (act : SourceAct) (number opening : ℕ) (old new : Stage D M) (source : SourceEnd D M) (draws : ℕ) (stops : Stops) (out : Outbox) (text_old text_new : List ℕ)
       (fault : Option runs.Fault) → IsReady old → SourceActs told (machines words) faults size act old.clock old.source old.draws source draws out
-      → opening ≡ source_boot source → SettleKeeps (record old { source = source; draws = draws }) new
-      → Settles read (source_acted opening number out) (record old { source = source; draws = draws }) new text_old text_new fault
+      → opening ≡ source_boot source → SettleKeeps (record old { source = source; draws = draws; stops = stops }) new
+      → Settles read (source_acted opening number out) (record old { source = source; draws = draws; stops = stops }) new text_old text_new fault
       → Comes told (machines words) read faults size (SourceDoes (machines words) act (bytes_at old.log number)) old new text_old text_new fault
-  by_source act number opening old new source draws out text_old text_new None ready acts is k put =
+  by_source act number opening old new source draws stops out text_old text_new None ready acts is k put =
       let d = dest_there old.dest ready.dest in
       let boot : opening ≡ acts.next.server.files.volume.volume.boot = is ∙ ap source_boot acts.next_is in
       let took : Option (List ℕ) = bytes_at old.log number in
@@ -170,7 +171,7 @@ module _ {D M : Type 0} (told : Type 0) (words : Words M ℕ) (read : Reading) (
         source_later = acts.later;
         dest_later = later_none faults size _;
       }
-  by_source act number opening old new source draws out text_old text_new (Some fault) ready acts is k put =
+  by_source act number opening old new source draws stops out text_old text_new (Some fault) ready acts is k put =
       let d = dest_there old.dest ready.dest in
       let boot : opening ≡ acts.next.server.files.volume.volume.boot = is ∙ ap source_boot acts.next_is in
       let took : Option (List ℕ) = bytes_at old.log number in
@@ -201,12 +202,12 @@ module _ {D M : Type 0} (told : Type 0) (words : Words M ℕ) (read : Reading) (
 
   -- ---- the destination
 
-  pub by_dest : (act : DestAct) (speaker : Speaker) (number opening : ℕ) (old new : Stage D M) (dest : DestEnd D M) (draws : ℕ) (out : Outbox) (text_old text_new : List ℕ)
+  pub by_dest : (act : DestAct) (speaker : Speaker) (number opening : ℕ) (old new : Stage D M) (dest : DestEnd D M) (draws : ℕ) (stops : Stops) (out : Outbox) (text_old text_new : List ℕ)
       (fault : Option runs.Fault) → IsReady old → DestActs told (machines words) faults size act old.clock old.dest old.draws dest draws out
-      → opening ≡ dest_boot dest → SettleKeeps (record old { dest = dest; draws = draws }) new
-      → Settles read (dest_acted speaker opening number out) (record old { dest = dest; draws = draws }) new text_old text_new fault
+      → opening ≡ dest_boot dest → SettleKeeps (record old { dest = dest; draws = draws; stops = stops }) new
+      → Settles read (dest_acted speaker opening number out) (record old { dest = dest; draws = draws; stops = stops }) new text_old text_new fault
       → Comes told (machines words) read faults size (DestDoes (machines words) act speaker (bytes_at old.log number)) old new text_old text_new fault
-  by_dest act speaker number opening old new dest draws out text_old text_new None ready acts is k put =
+  by_dest act speaker number opening old new dest draws stops out text_old text_new None ready acts is k put =
       let s = source_there old.source ready.source in
       let boot : opening ≡ acts.next.server.files.volume.volume.boot = is ∙ ap dest_boot acts.next_is in
       let took : Option (List ℕ) = bytes_at old.log number in
@@ -239,7 +240,7 @@ module _ {D M : Type 0} (told : Type 0) (words : Words M ℕ) (read : Reading) (
         source_later = later_none faults size _;
         dest_later = acts.later;
       }
-  by_dest act speaker number opening old new dest draws out text_old text_new (Some fault) ready acts is k put =
+  by_dest act speaker number opening old new dest draws stops out text_old text_new (Some fault) ready acts is k put =
       let s = source_there old.source ready.source in
       let boot : opening ≡ acts.next.server.files.volume.volume.boot = is ∙ ap dest_boot acts.next_is in
       let took : Option (List ℕ) = bytes_at old.log number in
@@ -387,6 +388,7 @@ module _ {D M : Type 0} (told : Type 0) (words : Words M ℕ) (read : Reading) (
         lines = λ t. line ∙ ap (λ (bytes : List ℕ). text_old ++ bytes) (sym (append-nil (line_text (lines.NoRecord number))))
             ∙ ap (λ (ls : List Line). text_old ++ lines_text (ls ++ [])) (sym (ap (unsent number) is));
         choices = choices;
+        asked = λ side none. refl;
         blamed = blamed_none_failed (record { event = kinds.Deliver number; choice = Went; parts = all_idle; after = world_at size s.core d.core new }) refl;
         source_later = later_none faults size _;
         dest_later = later_none faults size _;

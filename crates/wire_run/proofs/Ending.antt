@@ -15,10 +15,10 @@ use Rattle.wire_machine.specs.Lines.{lines_of}
 use Rattle.wire_machine.specs.Runs.{End, Numbered, Runs, Whole, last_line}
 use Rattle.wire_machine.specs.Steps.{after_steps}
 use Rattle.wire_machine.specs.World.{Posted}
-use Rattle.wire_run.specs.Ends.{SourceState}
-use Rattle.wire_run.specs.Fresh.{IsFreshDest, IsFreshSource}
-use Rattle.wire_run.specs.Run.{Did, IsFirst, RanIs, RanOut, RunsFront, ScheduleRuns, asks_for, shape_of, volume_in, volumes_of}
-use Rattle.wire_run.specs.Running.{RunMachines, RunStep, RunWorld, Running, failed_calls, mech_of, world_by}
+use Rattle.run_ends.specs.Ends.{RunMachines, RunStep, RunWorld, SourceState}
+use Rattle.run_ends.specs.First.{IsFirst, IsFreshDest, IsFreshSource, shape_of}
+use Rattle.wire_run.specs.Run.{Did, IsBefore, RanIs, RanOut, RunsFront, ScheduleRuns, asks_for, volume_in, volumes_of}
+use Rattle.wire_run.specs.Running.{Running, failed_calls, mech_of, world_by}
 use Rattle.wire_run.specs.System.{shown_at}
 use Rattle.wire_run.specs.declared.run.Ran.TheVariants as ran
 use Rattle.wire_run.proofs.Middle.{EndWaits, InRun, Moves, Waits}
@@ -81,6 +81,20 @@ module _ {M : Type 0} (m : RunMachines M) (read : Reading) where
     runs = subst (λ (events : List Numbered). ScheduleRuns m read mech events (did_of steps) end (lines_text (lines_of m first steps)) (length (after_steps first steps).log) (volumes_of m (after_steps first steps)))
         (sym (take_front done rest)) (schedule_of mech done first steps end is_first runs);
     puts = front;
+  }
+
+  -- all of it
+  pub before_of : (mech : M) (done rest : List Numbered) (first : RunWorld M) (steps : List (RunStep M)) (lines : List ℕ) → IsFirst mech done first
+      → Runs m read first done steps Whole → lines ≡ lines_text (lines_of m first steps) → IsBefore m read mech (done ++ rest) lines
+  before_of mech done rest first steps lines is_first runs lines_are = record {
+    done = length done;
+    did = did_of steps;
+    records = length (after_steps first steps).log;
+    last = volumes_of m (after_steps first steps);
+    runs = subst (λ (events : List Numbered). ScheduleRuns m read mech events (did_of steps) Whole lines (length (after_steps first steps).log) (volumes_of m (after_steps first steps)))
+        (sym (take_front done rest))
+        (subst (λ (b : List ℕ). ScheduleRuns m read mech done (did_of steps) Whole b (length (after_steps first steps).log) (volumes_of m (after_steps first steps)))
+        (sym lines_are) (schedule_of mech done first steps Whole is_first runs));
   }
 
   -- ---- what is shown of the servers of a world
@@ -187,6 +201,7 @@ module _ {D M : Type 0} (told : Type 0) (m : RunMachines M) (read : Reading) (fa
     last = volumes_of m (idle_world (mech_of start) done);
     holds = λ t whole. absurd (cc);
     choices = was.choices;
+    asked = was.asked;
     blamed = was.blamed;
     source = was.source;
     dest = was.dest;
@@ -206,6 +221,7 @@ module _ {D M : Type 0} (told : Type 0) (m : RunMachines M) (read : Reading) (fa
         last = volumes_of m first;
         holds = λ t whole side asks. shown t side asks;
         choices = was.choices;
+        asked = was.asked;
         blamed = was.blamed;
         source = was.source;
         dest = was.dest;
@@ -245,6 +261,7 @@ module _ {D M : Type 0} (told : Type 0) (m : RunMachines M) (read : Reading) (fa
         last = volumes_of m (after_steps first was.steps);
         holds = λ t whole side asks. shown_of m read reads now.source_state now.dest_state now (after_steps first was.steps) moves.world side;
         choices = was.choices;
+        asked = was.asked;
         blamed = was.blamed;
         source = was.source;
         dest = was.dest;

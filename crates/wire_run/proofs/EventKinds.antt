@@ -4,7 +4,8 @@ use Rattle.std.proofs.lemmas.Bool.{and_parts}
 use Rattle.nfs_base.specs.declared.side.Side.{Side}
 use Rattle.wire_machine.specs.Check.{Reading}
 use Rattle.wire_run.specs.Fresh.{event_small}
-use Rattle.wire_run.specs.Running.{IsCarriedOut, RunMachines, RunWorld, Running, StepIs, VolumeIs, world_in}
+use Rattle.wire_run.specs.Running.{Became, Running, StepIs, VolumeIs, world_in}
+use Rattle.run_ends.specs.Ends.{RunMachines, RunWorld}
 use Rattle.wire_run.specs.declared.system.Stepped.{Stepped}
 use Rattle.wire_schedule.specs.Admission.{admits, after, files_of, is_in_order, is_ready, is_within, most_events}
 use Rattle.wire_schedule.specs.declared.context.Context.{Context}
@@ -30,13 +31,13 @@ module _ {D M : Type 0} (told : Type 0) (m : RunMachines M) (read : Reading) (fa
   -- servers that are there go on
   pub record Acts (context : Context) (old new : Running D M) (event : Event) (became : Stepped) : Type 0 where
     pub ready : is_ready context ≡ true
-    pub is : (before : RunWorld M) → world_in old ≡ Some before → IsCarriedOut told m read faults size old new before event became
+    pub is : (before : RunWorld M) → world_in old ≡ Some before → Became told m read faults size old new before event became
     pub source : (after context event).source ≡ context.source
     pub dest : (after context event).dest ≡ context.dest
     pub small : (a b : ℕ) → event_small a b event ≡ None
 
   acts : (context : Context) (old new : Running D M) (event : Event) (became : Stepped) (rest : Bool) → (is_ready context && rest) ≡ true
-      → ((before : RunWorld M) → world_in old ≡ Some before → IsCarriedOut told m read faults size old new before event became)
+      → ((before : RunWorld M) → world_in old ≡ Some before → Became told m read faults size old new before event became)
       → (after context event).source ≡ context.source → (after context event).dest ≡ context.dest → ((a b : ℕ) → event_small a b event ≡ None)
       → Acts context old new event became
   acts context old new event became rest order is source dest small =
@@ -63,3 +64,7 @@ module _ {D M : Type 0} (told : Type 0) (m : RunMachines M) (read : Reading) (fa
       inr (record { ready = order; is = is; source = refl; dest = refl; small = λ a b. refl })
   kind_of mech context old new (kinds.Peek side file off len) became order is =
       inr (acts context old new (kinds.Peek side file off len) became _ order is refl refl (λ a b. refl))
+  kind_of mech context old new (kinds.Crash side pick) became order is =
+      inr (record { ready = order; is = is; source = refl; dest = refl; small = λ a b. refl })
+  kind_of mech context old new (kinds.CrashAfter side calls pick) became order is =
+      inr (record { ready = order; is = is; source = refl; dest = refl; small = λ a b. refl })

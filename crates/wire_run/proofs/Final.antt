@@ -7,7 +7,7 @@ use Rattle.std.specs.Prelude.{if◌then◌else◌}
 use Rattle.block_file.specs.Layout.{blocks_of}
 use Rattle.nfs_base.specs.declared.side.Side.{Side}
 use Rattle.nfs_base.specs.declared.side.Side.TheVariants.{Source, Dest}
-use Rattle.outcome.specs.Causes.{Rose}
+use Rattle.outcome.specs.Causes.{Rose, RoseBy}
 use Rattle.streams.specs.FrontLaws.{front_more, front_wider}
 use Rattle.streams.specs.Sink.{AppendsFront}
 use Rattle.streams.specs.Stream.{Taking}
@@ -17,9 +17,11 @@ use Rattle.wire_machine.specs.Lines.{lines_of}
 use Rattle.wire_machine.specs.Runs.{End, EventGoes, Fault, Mistaken, Numbered, Runs, TooLarge, Whole, end_by, last_line}
 use Rattle.wire_machine.specs.Steps.{after_steps}
 use Rattle.wire_machine.specs.declared.mistake.Mistake.{Mistake}
-use Rattle.wire_run.specs.Fresh.{IsFreshDest, IsFreshSource, Shape, Small, event_small, small_for}
-use Rattle.wire_run.specs.Run.{RanHasCause, RanIs, RanPuts, RunsFront, ScheduleRuns, first_small, volumes_of}
-use Rattle.wire_run.specs.Running.{IsCarriedOut, Later, RunMachines, RunStep, RunWorld, Running, UnmadeFor, disk_of, fault_in, faults_in, mech_of, size_in, text_in}
+use Rattle.run_ends.specs.First.{IsFirst, IsFreshDest, IsFreshSource, Shape}
+use Rattle.wire_run.specs.Fresh.{Small, event_small, small_for}
+use Rattle.wire_run.specs.Run.{CanLose, RanHasCause, RanIs, RanPuts, RunsFront, ScheduleRuns, first_small, volumes_of}
+use Rattle.wire_run.specs.Running.{Became, IsCarriedOut, IsLost, Later, LostFor, MakesNone, Running, UnmadeFor, disk_of, fault_in, faults_in, mech_of, size_in, text_in}
+use Rattle.run_ends.specs.Ends.{RunMachines, RunStep, RunWorld}
 use Rattle.wire_run.specs.Trace.{Happens, PutsLines, ended_by}
 use Rattle.wire_run.specs.declared.fresh.Unmade.{Unmade}
 use Rattle.wire_run.specs.declared.fresh.Unmade.TheVariants as unmade
@@ -27,12 +29,13 @@ use Rattle.wire_run.specs.declared.run.Ran.{Ran}
 use Rattle.wire_run.specs.declared.run.Ran.TheVariants as ran
 use Rattle.wire_run.specs.declared.system.Stepped.{Stepped}
 use Rattle.wire_run.specs.declared.system.Stepped.TheVariants as stepped
-use Rattle.wire_run.proofs.Ending.{did_of, none_front, schedule_of, some_front}
+use Rattle.wire_run.proofs.Ending.{before_of, did_of, none_front, schedule_of, some_front}
 use Rattle.wire_run.proofs.Going.{IsWent, kept_rest, lines_more, more_choices, not_early, small_as, there_at, volume_keeps, volume_later, volume_text, went}
 use Rattle.wire_run.proofs.Joining.{one_ends, one_runs, runs_join}
 use Rattle.wire_run.proofs.EventKinds.{Acts, Makes, in_order, kind_of}
 use Rattle.wire_run.proofs.Later.{blamed_join, blamed_none, later_join, later_more, rose_behind}
 use Rattle.wire_run.proofs.Middle.{InRun, Moves, Waits, not_both, waits_none}
+use Rattle.wire_run.proofs.RunStops.{asked_by, none_more}
 use Rattle.wire_run.proofs.Shapes.{idle_world, small_behind}
 use Rattle.wire_schedule.specs.Admission.{admits, files_of}
 use Rattle.wire_schedule.specs.declared.event.Event.{Event}
@@ -67,6 +70,9 @@ some_is a b is = ap (λ (o : Option Ran). end_or a o) is
 
 pub rose_later : (begun before later : ℕ) → begun ≤ before → Rose before later → Rose begun later
 rose_later begun before later le rose = omega (arith, le, rose)
+
+rose_late : (n a b c : ℕ) → RoseBy n a b → Rose b c → Rose a c
+rose_late n a b c first later = omega (arith, first, later)
 
 module _ {D M : Type 0} (told : Type 0) (m : RunMachines M) (read : Reading) (faults size : D → ℕ) where
   -- how a run ended, and why
@@ -135,6 +141,7 @@ module _ {D M : Type 0} (told : Type 0) (m : RunMachines M) (read : Reading) (fa
           last = volumes_of m (idle_world (mech_of start) done);
           holds = λ t whole. absurd (cc);
           choices = made.3 ∙ rests.choices;
+          asked = λ none. refl;
           blamed = blamed_none M;
           source = later_join faults size 0 0 start.source old.source new.source waits.source_later made.1;
           dest = later_join faults size 0 0 start.dest old.dest new.dest waits.dest_later made.2;
@@ -169,6 +176,7 @@ module _ {D M : Type 0} (told : Type 0) (m : RunMachines M) (read : Reading) (fa
     last = volumes_of m (after_steps moves.first (was.steps ++ carried.steps));
     holds = λ t whole. absurd (not_whole whole);
     choices = more_choices old new was.steps carried.steps was.choices carried.choices;
+    asked = none_more done e rest old (after_steps moves.first was.steps) was.steps carried.steps was.armed was.asked carried.asked;
     blamed = blamed_join was.steps carried.steps was.blamed carried.blamed;
     source = later_more faults size Source was.steps carried.steps start.source old.source new.source was.source carried.source_later;
     dest = later_more faults size Dest was.steps carried.steps start.dest old.dest new.dest was.dest carried.dest_later;
@@ -267,6 +275,52 @@ module _ {D M : Type 0} (told : Type 0) (m : RunMachines M) (read : Reading) (fa
       subst (λ (r : Ran). Ended (done ++ e ∷ rest) start new taken now.taken begun now.faults r) (sym (some_is end (ran.Mistaken mistake) all.1))
       (mistake_ends done start old new taken begun before now e rest (stepped.Mistaken text mistake) mistake was moves carried refl all.0)
   acts_ended done start old new taken begun before now e rest end was moves le (stepped.Unmade cause) carried (inl all) = absurd carried.made
+  acts_ended done start old new taken begun before now e rest end was moves le (stepped.Lost side cause) carried (inl all) = absurd carried.made
+
+  -- ---- a server is lost
+
+  can_lose : (a b : Option D) (cause : Unmade) → LostFor told faults a b cause → CanLose told cause
+  can_lose a b unmade.DiskFailed why = tt
+  can_lose a b (unmade.TooSmall need have) why = why
+  can_lose a b (unmade.NotVolume block at) why = why
+
+  cause_lost : (n k : ℕ) (start old new : Running D M) (begun later : ℕ) → Later faults size n start.source old.source → Later faults size k start.dest old.dest
+      → (side : Side) (cause : Unmade) → LostFor told faults (disk_of old side) (disk_of new side) cause → RanHasCause faults start new begun later (ran.Lost cause)
+  cause_lost n k start old new begun later source dest Source unmade.DiskFailed why =
+      inl (rose_late n (faults_in faults start.source) (faults_in faults old.source) (faults_in faults new.source) source.rose why)
+  cause_lost n k start old new begun later source dest Dest unmade.DiskFailed why =
+      inr (rose_late k (faults_in faults start.dest) (faults_in faults old.dest) (faults_in faults new.dest) dest.rose why)
+  cause_lost n k start old new begun later source dest side (unmade.TooSmall need have) why = tt
+  cause_lost n k start old new begun later source dest side (unmade.NotVolume block at) why = tt
+
+  lost_ends : (done : List Numbered) (start old new : Running D M) (taken : Option (List ℕ)) (begun later : ℕ) (now : Option (List ℕ)) (e : Numbered) (rest : List Numbered) (side : Side)
+      (cause : Unmade) → (was : InRun told m read faults size done start old taken now) → (moves : Moves told m read faults size done was.steps start old taken now)
+      → IsLost told m read faults size old new (after_steps moves.first was.steps) e.event side cause
+      → Ended (done ++ e ∷ rest) start new taken now begun later (ran.Lost cause)
+  lost_ends done start old new taken begun later now e rest side cause was moves lost =
+      let first = moves.first in
+      record {
+        is = record {
+          did = did_of (was.steps ++ lost.steps);
+          last = volumes_of m (after_steps moves.first was.steps);
+          holds = λ t whole. absurd (cc);
+          choices = more_choices old new was.steps lost.steps was.choices lost.choices;
+          asked = none_more done e rest old (after_steps moves.first was.steps) was.steps lost.steps was.armed was.asked lost.never;
+          blamed = blamed_join was.steps lost.steps was.blamed lost.blamed;
+          source = later_more faults size Source was.steps lost.steps start.source old.source new.source was.source lost.source_later;
+          dest = later_more faults size Dest was.steps lost.steps start.dest old.dest new.dest was.dest lost.dest_later;
+          puts = (
+            can_lose (disk_of old side) (disk_of new side) cause lost.why,
+            asked_by done old was.armed e rest side lost.asked,
+            moves.lines,
+            moves.appended,
+            λ t.
+                before_of m read (mech_of start) done (e ∷ rest) first was.steps moves.lines
+                (subst (λ (events : List Numbered). IsFirst (mech_of start) events first) (append-nil done) (moves.is_first t [])) (moves.runs t) (moves.lines_are t),
+          );
+        };
+        cause = cause_lost _ _ start old new begun later was.source was.dest side cause lost.why;
+      }
 
   -- the sink fails behind a server that was made: there was nothing to put
   made_ended : (done : List Numbered) (start old new : Running D M) (taken : Option (List ℕ)) (begun : ℕ) (before now : Taking) (e : Numbered) (rest : List Numbered) (became : Stepped)
@@ -288,6 +342,7 @@ module _ {D M : Type 0} (told : Type 0) (m : RunMachines M) (read : Reading) (fa
           last = volumes_of m (idle_world (mech_of start) done);
           holds = λ t whole. absurd (cc);
           choices = kept.choices;
+          asked = λ none. refl;
           blamed = blamed_none M;
           source = later_join faults size 0 0 start.source old.source new.source waits.source_later laters.0;
           dest = later_join faults size 0 0 start.dest old.dest new.dest waits.dest_later laters.1;
@@ -301,15 +356,33 @@ module _ {D M : Type 0} (told : Type 0) (m : RunMachines M) (read : Reading) (fa
   abbrev Kind : (old new : Running D M) → Numbered → Stepped → Type 0
   Kind old new e became = Makes told m read faults size (mech_of old) old.context old new e.event became ⊎ Acts told m read faults size old.context old new e.event became
 
+  carried_by : (old new : Running D M) (w : RunWorld M) (event : Event) (became : Stepped) → MakesNone became → Became told m read faults size old new w event became
+      → IsCarriedOut told m read faults size old new w event became
+  carried_by old new w event (stepped.Went text) made is = is
+  carried_by old new w event (stepped.OverLimit text) made is = is
+  carried_by old new w event (stepped.Mistaken text mistake) made is = is
+  carried_by old new w event (stepped.Unmade cause) made is = absurd made
+  carried_by old new w event (stepped.Lost side cause) made is = absurd made
+
   -- servers that are there: the run moves
   ended_acts : (done : List Numbered) (start old new : Running D M) (taken : Option (List ℕ)) (begun : ℕ) (before now : Taking) (e : Numbered) (rest : List Numbered) (end : Ran)
-      → begun ≤ before.faults → (became : Stepped) → Acts told m read faults size old.context old new e.event became
+      → begun ≤ before.faults → (became : Stepped) → MakesNone became → Acts told m read faults size old.context old new e.event became
       → (was : InRun told m read faults size done start old taken before.taken)
       → Waits told m read faults size done was.steps start old taken before.taken ⊎ Moves told m read faults size done was.steps start old taken before.taken
       → EndPut before now became (ended_by e.line became) end → Ended (done ++ e ∷ rest) start new taken now.taken begun now.faults end
-  ended_acts done start old new taken begun before now e rest end le became kind was (inl waits) puts = absurd (not_early old.context waits.early kind.ready)
-  ended_acts done start old new taken begun before now e rest end le became kind was (inr moves) puts =
-      acts_ended done start old new taken begun before now e rest end was moves le became (kind.is (after_steps moves.first was.steps) moves.world) puts
+  ended_acts done start old new taken begun before now e rest end le became made kind was (inl waits) puts = absurd (not_early old.context waits.early kind.ready)
+  ended_acts done start old new taken begun before now e rest end le became made kind was (inr moves) puts =
+      acts_ended done start old new taken begun before now e rest end was moves le became
+      (carried_by old new (after_steps moves.first was.steps) e.event became made (kind.is (after_steps moves.first was.steps) moves.world)) puts
+
+  ended_lost : (done : List Numbered) (start old new : Running D M) (taken : Option (List ℕ)) (begun later : ℕ) (now : Option (List ℕ)) (e : Numbered) (rest : List Numbered) (side : Side)
+      (cause : Unmade) → Acts told m read faults size old.context old new e.event (stepped.Lost side cause)
+      → (was : InRun told m read faults size done start old taken now)
+      → Waits told m read faults size done was.steps start old taken now ⊎ Moves told m read faults size done was.steps start old taken now
+      → Ended (done ++ e ∷ rest) start new taken now begun later (ran.Lost cause)
+  ended_lost done start old new taken begun later now e rest side cause kind was (inl waits) = absurd (not_early old.context waits.early kind.ready)
+  ended_lost done start old new taken begun later now e rest side cause kind was (inr moves) =
+      lost_ends done start old new taken begun later now e rest side cause was moves (kind.is (after_steps moves.first was.steps) moves.world)
 
   ended_by_kind : (done : List Numbered) (start old new : Running D M) (taken : Option (List ℕ)) (begun : ℕ) (before now : Taking) (e : Numbered) (rest : List Numbered) (end : Ran)
       → begun ≤ before.faults → InRun told m read faults size done start old taken before.taken → (became : Stepped) → Kind old new e became
@@ -327,17 +400,22 @@ module _ {D M : Type 0} (told : Type 0) (m : RunMachines M) (read : Reading) (fa
       subst (λ (r : Ran). Ended (done ++ e ∷ rest) start new taken now.taken begun now.faults r) (sym (some_is end (ran.Unmade cause) puts.1))
       (subst (λ (k : Taking). Ended (done ++ e ∷ rest) start new taken k.taken begun now.faults (ran.Unmade cause)) (sym puts.0)
       (ended_unmade done start old new taken before.taken begun now.faults e rest cause kind was was.stands))
+  ended_by_kind done start old new taken begun before now e rest end le was (stepped.Lost side cause) (inl kind) puts = absurd kind.made
   ended_by_kind done start old new taken begun before now e rest end le was (stepped.Went text) (inr kind) puts =
-      ended_acts done start old new taken begun before now e rest end le (stepped.Went text) kind was was.stands puts.put
+      ended_acts done start old new taken begun before now e rest end le (stepped.Went text) tt kind was was.stands puts.put
   ended_by_kind done start old new taken begun before now e rest end le was (stepped.OverLimit text) (inr kind) puts =
-      ended_acts done start old new taken begun before now e rest end le (stepped.OverLimit text) kind was was.stands puts.put
+      ended_acts done start old new taken begun before now e rest end le (stepped.OverLimit text) tt kind was was.stands puts.put
   ended_by_kind done start old new taken begun before now e rest end le was (stepped.Mistaken text mistake) (inr kind) puts =
-      ended_acts done start old new taken begun before now e rest end le (stepped.Mistaken text mistake) kind was was.stands puts.put
+      ended_acts done start old new taken begun before now e rest end le (stepped.Mistaken text mistake) tt kind was was.stands puts.put
   ended_by_kind done start old new taken begun before now e rest end le was (stepped.Unmade cause) (inr kind) puts = absurd (unmade_acts was.stands)
     where
       unmade_acts : Waits told m read faults size done was.steps start old taken before.taken ⊎ Moves told m read faults size done was.steps start old taken before.taken → ⊥
       unmade_acts (inl waits) = not_early old.context waits.early kind.ready
       unmade_acts (inr moves) = let carried = kind.is (after_steps moves.first was.steps) moves.world in carried.made
+  ended_by_kind done start old new taken begun before now e rest end le was (stepped.Lost side cause) (inr kind) puts =
+      subst (λ (r : Ran). Ended (done ++ e ∷ rest) start new taken now.taken begun now.faults r) (sym (some_is end (ran.Lost cause) puts.1))
+      (subst (λ (k : Taking). Ended (done ++ e ∷ rest) start new taken k.taken begun now.faults (ran.Lost cause)) (sym puts.0)
+      (ended_lost done start old new taken begun now.faults before.taken e rest side cause kind was was.stands))
 
   pub ended : (done : List Numbered) (start old new : Running D M) (taken : Option (List ℕ)) (begun : ℕ) (before now : Taking) (e : Numbered) (rest : List Numbered) (end : Ran)
       → begun ≤ before.faults → InRun told m read faults size done start old taken before.taken → IsTrue (admits old.context e.event)

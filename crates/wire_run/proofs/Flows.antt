@@ -1,7 +1,7 @@
 -- Small steps one after the other: one event, or a flow.
 use Rattle.std.proofs.Common.{◌≡◌, ℕ, zero, suc, ◌+◌, ◌<◌, ◌≤◌, Bool, true, false, List, [], ◌∷◌, ◌++◌, length, Option, Some, None, refl, sym, ap, ◌∙◌, subst, arith, append_assoc, add-zero}
 use Rattle.std.proofs.Math.Numerals.{add-one, one-add}
-use Rattle.std.specs.Prelude.{◌-◌, IfOk, Result, Ok, Err, if◌then◌else◌, map, not, slice_get}
+use Rattle.std.specs.Prelude.{◌-◌, ◌||◌, IfOk, Result, Ok, Err, if◌then◌else◌, map, not, slice_get}
 use Rattle.std.specs.Option.{option_map_or}
 use Rattle.std.proofs.lemmas.Grind.{flat_map-append}
 use Rattle.std.proofs.lemmas.List.{append-nil, map-append}
@@ -11,24 +11,26 @@ use Rattle.wire_machine.specs.Check.{Reading}
 use Rattle.wire_machine.specs.Lines.{lines_of, step_lines}
 use Rattle.wire_machine.specs.Runs as runs
 use Rattle.wire_machine.specs.Runs.{Goes, GoesBy, fault_of}
-use Rattle.wire_machine.specs.Steps.{IsStep, after_steps}
+use Rattle.wire_machine.specs.Steps.{IsStep, NeverStops, after_steps, cut_of}
 use Rattle.wire_machine.specs.World.{Posted, marked, posted_at, waiting, waiting_from}
 use Rattle.wire_machine.specs.declared.choice.Choice.{Choice}
 use Rattle.nfs_base.specs.declared.side.Side.{Side}
 use Rattle.nfs_base.specs.declared.side.Side.TheVariants.{Source, Dest}
-use Rattle.wire_run.specs.Running.{AreBlamed, Later, RunMachines, RunStep, RunWorld, failed_calls, has_failed_at}
+use Rattle.wire_run.specs.Cutting.{FlowsEnd, SmallEnds}
+use Rattle.wire_run.specs.Running.{AreBlamed, Later, failed_calls, has_failed_at}
+use Rattle.run_ends.specs.Ends.{RunMachines, RunStep, RunWorld}
 use Rattle.wire_run.specs.Stage.{AllDelivered, BeginsNone, DestHost, FlowKeeps, FlowsBy, FlowsOne, FlowsTo, IsBelow, IsFair, IsFlowing, SmallKeeps, faults_named, is_waiting, most_records, Grows, IsReady, SmallIs, SourceHost, StageGoes, bit, next_flowed, world_at}
+use Rattle.wire_run.specs.Watching.{crashes_in, is_armed}
 use Rattle.wire_run.specs.declared.ends.DestEnd.{DestEnd}
 use Rattle.wire_run.specs.declared.ends.DestEnd.TheVariants as dest_end
 use Rattle.wire_run.specs.declared.ends.SourceEnd.{SourceEnd}
 use Rattle.wire_run.specs.declared.ends.SourceEnd.TheVariants as source_end
 use Rattle.wire_run.specs.declared.stage.Fault.{Fault}
 use Rattle.wire_run.specs.declared.stage.Fault.TheVariants as faults_of
+use Rattle.wire_run.specs.declared.stage.Lost.{Lost}
 use Rattle.wire_run.specs.declared.stage.Stage.{Stage}
-use Rattle.wire_run.proofs.Joining.{after_join, lines_join}
-use Rattle.client_core.specs.State.{ClientState}
-use Rattle.wire_run.proofs.Keeping.{dest_open, dest_still, dest_there, source_open, source_still, source_there, stage_keeps_on}
-use Rattle.wire_run.proofs.Logs.{delivered_append, delivered_next, delivered_past, keeps_none, length_marked}
+use Rattle.wire_run.proofs.Joining.{after_join, goes_join, lines_join, never_join}
+use Rattle.wire_run.proofs.Keeping.{dest_there, source_there}
 use Rattle.wire_run.proofs.Later.{blamed_join, blamed_none, failed_one, later_join, later_more, later_same}
 use Rattle.wire_schedule.specs.declared.event.Event.{Event}
 use Rattle.wire_schedule.specs.declared.event.Event.TheVariants as kinds
@@ -75,6 +77,10 @@ behind k (suc n) c (r ∷ log) = behind (k + 1) n c log
 
 abbrev rest_from : (flowed last : ℕ) → List Posted → List ℕ
 rest_from flowed last log = behind 1 flowed (last - flowed) log
+
+-- of a flow up to a record
+abbrev pub rest_of : {D M : Type 0} → (last : ℕ) → Stage D M → List ℕ
+rest_of last s = rest_from s.flowed last s.log
 
 chosen : (b : Bool) (x y u v : List ℕ) → x ≡ u → y ≡ v → (if b then x else y) ≡ (if b then u else v)
 chosen true x y u v e f = e
@@ -146,6 +152,25 @@ rest_marked flowed last log new within all g =
 rest_over : (flowed last : ℕ) (log : List Posted) → last ≤ flowed → rest_from flowed last log ≡ []
 rest_over flowed last log over = ap (λ (c : ℕ). behind 1 flowed c log) (omega arith) ∙ behind_nothing 1 flowed log
 
+-- ---- nobody stops who isn't asked to
+
+asked_one : (a b : Bool) → (a || (b || false)) ≡ false → (a || b) ≡ false
+asked_one true b none = none
+asked_one false true none = none
+asked_one false false none = refl
+
+pub asked_first : (a b : Bool) → (a || b) ≡ false → a ≡ false
+asked_first true b none = none
+asked_first false b none = refl
+
+pub asked_alone : (a : Bool) → (a || false) ≡ true → a ≡ true
+asked_alone true is = refl
+asked_alone false is = is
+
+not_armed : (a b : Bool) → (a ≡ true → b ≡ true) → b ≡ false → (a || false) ≡ false
+not_armed true b was none = sym (was refl) ∙ none
+not_armed false b was none = refl
+
 module _ {D M : Type 0} (told : Type 0) (m : RunMachines M) (read : Reading) (faults size : D → ℕ) where
   later_one : (side : Side) (s : RunStep M) (d e : D) → Later faults size (bit (has_failed_at side s)) (Some d) (Some e) → Later faults size (failed_calls side (s ∷ [])) (Some d) (Some e)
   later_one side s d e l = subst (λ (n : ℕ). Later faults size n (Some d) (Some e)) (failed_one side s) l
@@ -171,6 +196,7 @@ module _ {D M : Type 0} (told : Type 0) (m : RunMachines M) (read : Reading) (fa
     world = λ none. sym c.after_is;
     lines = λ t. c.lines t ∙ ap lines_text (sym (append-nil (step_lines m (world_at size c.source c.dest old) c.step)));
     choices = c.choices;
+    asked = λ side none. (c.asked side (asked_one (is_armed side old) (crashes_in event side) none), tt);
     blamed = c.blamed;
     source_later = later_one Source c.step _ _ c.source_later;
     dest_later = later_one Dest c.step _ _ c.dest_later;
@@ -189,6 +215,7 @@ module _ {D M : Type 0} (told : Type 0) (m : RunMachines M) (read : Reading) (fa
     world = λ none. absurd (some_none fault none);
     lines = λ t. c.text;
     choices = c.choices ∙ sym (append-nil old.choices.items);
+    asked = λ side none. tt;
     blamed = blamed_none M;
     source_later = c.source_later;
     dest_later = c.dest_later;
@@ -196,7 +223,7 @@ module _ {D M : Type 0} (told : Type 0) (m : RunMachines M) (read : Reading) (fa
 
   -- ---- a flow
 
-  -- so far: from what is flowed now on, the rest goes as the whole does from the beginning
+  -- so far: these numbers were delivered, and the rest is to be
   pub record HasFlowed (last : ℕ) (old new : Stage D M) (text : List ℕ) : Type 0 where
     pub source : SourceHost D M
     pub dest : DestHost D M
@@ -207,12 +234,13 @@ module _ {D M : Type 0} (told : Type 0) (m : RunMachines M) (read : Reading) (fa
     pub source_next_is : new.source ≡ source_end.Open source_next
     pub dest_next_is : new.dest ≡ dest_end.Open dest_next
     pub steps : List (RunStep M)
-    pub goes : told → (more : List (RunStep M)) (end : Option runs.Fault)
-        → Goes m read (world_at size source_next dest_next new) (map kinds.Deliver (rest_from new.flowed last new.log)) more end
-        → Goes m read (world_at size source dest old) (map kinds.Deliver (waiting old.log)) (steps ++ more) end
+    pub done : List ℕ
+    pub are : waiting old.log ≡ done ++ rest_from new.flowed last new.log
+    pub goes : told → Goes m read (world_at size source dest old) (map kinds.Deliver done) steps None
     pub world : world_at size source_next dest_next new ≡ after_steps (world_at size source dest old) steps
     pub lines : told → text ≡ lines_text (lines_of m (world_at size source dest old) steps)
     pub choices : new.choices.items ≡ old.choices.items ++ map (λ (s : RunStep M). s.choice) steps
+    pub asked : (side : Side) → is_armed side old ≡ false → NeverStops side (world_at size source dest old) steps
     pub blamed : AreBlamed steps
     pub source_later : Later faults size (failed_calls Source steps) (Some source.server.files.volume.disk) (Some source_next.server.files.volume.disk)
     pub dest_later : Later faults size (failed_calls Dest steps) (Some dest.server.files.volume.disk) (Some dest_next.server.files.volume.disk)
@@ -232,10 +260,13 @@ module _ {D M : Type 0} (told : Type 0) (m : RunMachines M) (read : Reading) (fa
         source_next_is = s.is;
         dest_next_is = e.is;
         steps = [];
-        goes = λ t more end rest. subst (λ (ns : List ℕ). Goes m read (world_at size s.core e.core old) (map kinds.Deliver ns) more end) (rest_first old.flowed old.log within d) rest;
+        done = [];
+        are = sym (rest_first old.flowed old.log within d);
+        goes = λ t. (refl, refl);
         world = refl;
         lines = λ t. refl;
         choices = sym (append-nil old.choices.items);
+        asked = λ side none. tt;
         blamed = blamed_none M;
         source_later = later_same faults size _;
         dest_later = later_same faults size _;
@@ -247,6 +278,22 @@ module _ {D M : Type 0} (told : Type 0) (m : RunMachines M) (read : Reading) (fa
 
   same_dest : (end : DestEnd D M) (a b : DestHost D M) → end ≡ dest_end.Open a → end ≡ dest_end.Open b → a ≡ b
   same_dest end a b p q = opened_dest a b (sym p ∙ q)
+
+  -- the whole goes as the rest does
+  flowed_goes : (last : ℕ) (old now : Stage D M) (text : List ℕ) (h : HasFlowed last old now text) (more : List (RunStep M)) (end : Option runs.Fault) (rest : List ℕ)
+      → rest_from now.flowed last now.log ≡ rest → {steps : List (RunStep M)} → h.steps ++ more ≡ steps → told
+      → Goes m read (world_at size h.source_next h.dest_next now) (map kinds.Deliver rest) more end
+      → Goes m read (world_at size h.source h.dest old) (map kinds.Deliver (waiting old.log)) steps end
+  flowed_goes last old now text h more end rest rest_is {steps} steps_are t later =
+      subst (λ (ss : List (RunStep M)). Goes m read (world_at size h.source h.dest old) (map kinds.Deliver (waiting old.log)) ss end) steps_are
+      (subst (λ (es : List Event). Goes m read (world_at size h.source h.dest old) es (h.steps ++ more) end)
+      (sym (ap (λ (ns : List ℕ). map kinds.Deliver ns) (h.are ∙ ap (λ (ns : List ℕ). h.done ++ ns) rest_is) ∙ map-append kinds.Deliver h.done rest))
+      (goes_join m read (map kinds.Deliver h.done) (map kinds.Deliver rest) (world_at size h.source h.dest old) h.steps more end (h.goes t)
+      (subst (λ (w : RunWorld M). Goes m read w (map kinds.Deliver rest) more end) h.world later)))
+
+  -- no fuse was set since
+  abbrev pub Unset : Stage D M → Stage D M → Type 0
+  Unset old now = (side : Side) → is_armed side now ≡ true → is_armed side old ≡ true
 
   -- a record is passed over that was delivered
   pub flow_past : (last : ℕ) (old now : Stage D M) (text : List ℕ) (r : Posted) → HasFlowed last old now text → now.flowed < last
@@ -261,12 +308,14 @@ module _ {D M : Type 0} (told : Type 0) (m : RunMachines M) (read : Reading) (fa
     source_next_is = h.source_next_is;
     dest_next_is = h.dest_next_is;
     steps = h.steps;
-    goes = λ t more end rest. h.goes t more end
-        (subst (λ (ns : List ℕ). Goes m read (world_at size h.source_next h.dest_next now) (map kinds.Deliver ns) more end)
-        (sym (rest_next now.flowed last now.log r within is ∙ ap (λ (b : Bool). if b then rest_from (now.flowed + 1) last now.log else (now.flowed + 1) ∷ rest_from (now.flowed + 1) last now.log) was)) rest);
+    done = h.done;
+    are = h.are ∙ ap (λ (ns : List ℕ). h.done ++ ns) (rest_next now.flowed last now.log r within is
+        ∙ ap (λ (b : Bool). if b then rest_from (now.flowed + 1) last now.log else (now.flowed + 1) ∷ rest_from (now.flowed + 1) last now.log) was);
+    goes = h.goes;
     world = h.world;
     lines = h.lines;
     choices = h.choices;
+    asked = h.asked;
     blamed = h.blamed;
     source_later = h.source_later;
     dest_later = h.dest_later;
@@ -283,10 +332,10 @@ module _ {D M : Type 0} (told : Type 0) (m : RunMachines M) (read : Reading) (fa
       ∙ ap (λ (n : ℕ). (now.flowed + 1) ∷ rest_from n last new.log) (sym flowed)))
 
   -- one is delivered
-  pub flow_more : (last : ℕ) (old now new : Stage D M) (text_now text_new : List ℕ) (r : Posted) → HasFlowed last old now text_now → now.flowed < last → last ≤ length now.log
+  pub flow_more : (last : ℕ) (old now new : Stage D M) (text_now text_new : List ℕ) (r : Posted) → HasFlowed last old now text_now → Unset old now → now.flowed < last → last ≤ length now.log
       → slice_get now.log now.flowed ≡ Some r → r.delivered ≡ false → FlowsTo told m read faults size now new text_now text_new None → new.flowed ≡ now.flowed + 1
       → HasFlowed last old new text_new
-  flow_more last old now new text_now text_new r h within all is was f flowed =
+  flow_more last old now new text_now text_new r h unset within all is was f flowed =
       let c = f.small in
       let source : c.source ≡ h.source_next = same_source now.source c.source h.source_next c.source_is h.source_next_is in
       let dest : c.dest ≡ h.dest_next = same_dest now.dest c.dest h.dest_next c.dest_is h.dest_next_is in
@@ -302,14 +351,14 @@ module _ {D M : Type 0} (told : Type 0) (m : RunMachines M) (read : Reading) (fa
         source_next_is = c.source_next_is;
         dest_next_is = c.dest_next_is;
         steps = h.steps ++ c.step ∷ [];
-        goes = λ t more end rest.
-            subst (λ (ss : List (RunStep M)). Goes m read (world_at size h.source h.dest old) (map kinds.Deliver (waiting old.log)) ss end) (sym (append_assoc h.steps (c.step ∷ []) more))
-            (h.goes t (c.step ∷ more) end
-            (subst (λ (ns : List ℕ). Goes m read (world_at size h.source_next h.dest_next now) (map kinds.Deliver ns) (c.step ∷ more) end)
-            (sym (rest_delivered last now new r within all is was f.grows flowed))
-            (subst (λ (w : RunWorld M). Goes m read w (kinds.Deliver (now.flowed + 1) ∷ map kinds.Deliver (rest_from new.flowed last new.log)) (c.step ∷ more) end) worlds
-            (goes_on m read (world_at size c.source c.dest now) (kinds.Deliver (now.flowed + 1)) (map kinds.Deliver (rest_from new.flowed last new.log)) c.step more end c.event_is (c.is t) (c.right t)
-            (subst (λ (w : RunWorld M). Goes m read w (map kinds.Deliver (rest_from new.flowed last new.log)) more end) (sym c.after_is) rest)))));
+        done = h.done ++ (now.flowed + 1) ∷ [];
+        are = h.are ∙ (ap (λ (ns : List ℕ). h.done ++ ns) (rest_delivered last now new r within all is was f.grows flowed)
+            ∙ sym (append_assoc h.done ((now.flowed + 1) ∷ []) (rest_from new.flowed last new.log)));
+        goes = λ t.
+            subst (λ (es : List Event). Goes m read (world_at size h.source h.dest old) es (h.steps ++ c.step ∷ []) None) (sym (map-append kinds.Deliver h.done ((now.flowed + 1) ∷ [])))
+            (goes_join m read (map kinds.Deliver h.done) (kinds.Deliver (now.flowed + 1) ∷ []) (world_at size h.source h.dest old) h.steps (c.step ∷ []) None (h.goes t)
+            (subst (λ (w : RunWorld M). Goes m read w (kinds.Deliver (now.flowed + 1) ∷ []) (c.step ∷ []) None) (worlds ∙ h.world)
+            (goes_on m read (world_at size c.source c.dest now) (kinds.Deliver (now.flowed + 1)) [] c.step [] None c.event_is (c.is t) (c.right t) (refl, refl))));
         world = sym (after_join (world_at size h.source h.dest old) h.steps (c.step ∷ []) ∙ c.after_is);
         lines = λ t. c.lines t
             ∙ (ap (λ (bytes : List ℕ). bytes ++ lines_text (step_lines m (world_at size c.source c.dest now) c.step)) (h.lines t)
@@ -320,6 +369,11 @@ module _ {D M : Type 0} (told : Type 0) (m : RunMachines M) (read : Reading) (fa
         choices = c.choices ∙ (ap (λ (cs : List Choice). cs ++ c.step.choice ∷ []) h.choices
             ∙ (append_assoc old.choices.items (map (λ (s : RunStep M). s.choice) h.steps) (c.step.choice ∷ [])
             ∙ ap (λ (cs : List Choice). old.choices.items ++ cs) (sym (map-append (λ (s : RunStep M). s.choice) h.steps (c.step ∷ [])))));
+        asked = λ side none.
+            let stays : cut_of side (world_at size c.source c.dest now) c.step ≡ None =
+            c.asked side (not_armed (is_armed side now) (is_armed side old) (unset side) none) in
+            never_join side (world_at size h.source h.dest old) h.steps (c.step ∷ []) (h.asked side none)
+            (subst (λ (w : RunWorld M). NeverStops side w (c.step ∷ [])) (worlds ∙ h.world) (stays, tt));
         blamed = blamed_join h.steps (c.step ∷ []) h.blamed c.blamed;
         source_later = later_more faults size Source h.steps (c.step ∷ []) _ _ _ h.source_later
             (subst (λ (a : SourceHost D M). Later faults size (failed_calls Source (c.step ∷ [])) (Some a.server.files.volume.disk) (Some c.source_next.server.files.volume.disk)) source
@@ -350,16 +404,16 @@ module _ {D M : Type 0} (told : Type 0) (m : RunMachines M) (read : Reading) (fa
         dest_next_is = c.dest_next_is;
         steps = h.steps;
         goes = λ t.
-            subst (λ (ss : List (RunStep M)). Goes m read (world_at size h.source h.dest old) (map kinds.Deliver (waiting old.log)) ss (Some fault)) (append-nil h.steps)
-            (h.goes t [] (Some fault)
-            (subst (λ (ns : List ℕ). Goes m read (world_at size h.source_next h.dest_next now) (map kinds.Deliver ns) [] (Some fault))
-            (sym (rest_next now.flowed last now.log r within is
-            ∙ ap (λ (b : Bool). if b then rest_from (now.flowed + 1) last now.log else (now.flowed + 1) ∷ rest_from (now.flowed + 1) last now.log) was))
+            flowed_goes last old now text_now h [] (Some fault) ((now.flowed + 1) ∷ rest_from (now.flowed + 1) last now.log)
+            (rest_next now.flowed last now.log r within is
+            ∙ ap (λ (b : Bool). if b then rest_from (now.flowed + 1) last now.log else (now.flowed + 1) ∷ rest_from (now.flowed + 1) last now.log) was)
+            (append-nil h.steps) t
             (subst (λ (w : RunWorld M). Goes m read w (kinds.Deliver (now.flowed + 1) ∷ map kinds.Deliver (rest_from (now.flowed + 1) last now.log)) [] (Some fault)) worlds
-            (goes_not m read (world_at size c.source c.dest now) (kinds.Deliver (now.flowed + 1)) (map kinds.Deliver (rest_from (now.flowed + 1) last now.log)) c.step fault c.event_is (c.is t) (c.fault_is t)))));
+            (goes_not m read (world_at size c.source c.dest now) (kinds.Deliver (now.flowed + 1)) (map kinds.Deliver (rest_from (now.flowed + 1) last now.log)) c.step fault c.event_is (c.is t) (c.fault_is t)));
         world = λ none. absurd (some_none fault none);
         lines = λ t. c.text ∙ h.lines t;
         choices = c.choices ∙ h.choices;
+        asked = λ side none. h.asked side (asked_first (is_armed side old) _ none);
         blamed = h.blamed;
         source_later = later_and_none (failed_calls Source h.steps) _ _
             (later_join faults size (failed_calls Source h.steps) 0 _ _ _ h.source_later
@@ -382,50 +436,19 @@ module _ {D M : Type 0} (told : Type 0) (m : RunMachines M) (read : Reading) (fa
     source_next_is = h.source_next_is;
     dest_next_is = h.dest_next_is;
     steps = h.steps;
-    goes = λ t.
-        subst (λ (ss : List (RunStep M)). Goes m read (world_at size h.source h.dest old) (map kinds.Deliver (waiting old.log)) ss None) (append-nil h.steps)
-        (h.goes t [] None
-        (subst (λ (ns : List ℕ). Goes m read (world_at size h.source_next h.dest_next now) (map kinds.Deliver ns) [] None) (sym (rest_over now.flowed last now.log over)) (refl, refl)));
+    goes = λ t. flowed_goes last old now text h [] None [] (rest_over now.flowed last now.log over) (append-nil h.steps) t (refl, refl);
     world = λ none. h.world;
     lines = h.lines;
     choices = h.choices;
+    asked = λ side none. h.asked side (asked_first (is_armed side old) _ none);
     blamed = h.blamed;
     source_later = h.source_later;
     dest_later = h.dest_later;
   }
 
--- ---- one delivery of a flow, whatever comes of it
-
--- what a flow keeps before its first delivery
-pub flow_keeps_none : {D M : Type 0} (told : Type 0) (s : Stage D M) → IsFlowing s → FlowKeeps told s s
-flow_keeps_none told s f = record {
-  keeps = record {
-    source = source_still told s.source s.source f.ready.source refl;
-    dest = dest_still told s.dest s.dest f.ready.dest refl;
-    setting = refl;
-    log = keeps_none s.log;
-    bytes = f.bytes;
-  };
-  below = λ e b. b;
-  clock = refl;
-  flowing = f;
-}
-
--- and after one more
-pub flow_keeps_on : {D M : Type 0} (told : Type 0) (a b c : Stage D M) → FlowKeeps told a b → FlowKeeps told b c → FlowKeeps told a c
-flow_keeps_on told a b c p q = record {
-  keeps = stage_keeps_on told a b c p.keeps q.keeps;
-  below = λ e x. q.below e (p.below e x);
-  clock = q.clock ∙ p.clock;
-  flowing = q.flowing;
-}
-
-pub begins_on : {M : Type 0} (a b c : ClientState M) → BeginsNone a b → BeginsNone b c → BeginsNone a c
-begins_on a b c p q = λ j none. q j (p j none)
-
 -- ---- a record, and whether it waits
 
-waits : (n : ℕ) (log : List Posted) → n < length log → (r : Posted) × (slice_get log n ≡ Some r)
+pub waits : (n : ℕ) (log : List Posted) → n < length log → (r : Posted) × (slice_get log n ≡ Some r)
 waits n [] within = absurd (omega arith)
 waits zero (r ∷ log) within = (r, refl)
 waits (suc n) (r ∷ log) within = waits n log (omega arith)
@@ -433,10 +456,10 @@ waits (suc n) (r ∷ log) within = waits n log (omega arith)
 posted_next : (n : ℕ) (log : List Posted) → posted_at (n + 1) log ≡ slice_get log n
 posted_next n log = rw add-one refl
 
-waiting_is : (n : ℕ) (log : List Posted) (r : Posted) → slice_get log n ≡ Some r → is_waiting (n + 1) log ≡ not r.delivered
+pub waiting_is : (n : ℕ) (log : List Posted) (r : Posted) → slice_get log n ≡ Some r → is_waiting (n + 1) log ≡ not r.delivered
 waiting_is n log r is = ap (λ (o : Option Posted). option_map_or (λ (x : Posted). not x.delivered) o false) (posted_next n log ∙ is)
 
-not_false : (b : Bool) → not b ≡ false → b ≡ true
+pub not_false : (b : Bool) → not b ≡ false → b ≡ true
 not_false true e = refl
 not_false false e = absurd cc
 
@@ -444,79 +467,14 @@ not_true : (b : Bool) → not b ≡ true → b ≡ false
 not_true false e = refl
 not_true true e = absurd cc
 
--- ---- what one delivery of a flow keeps
-
-below_at : {D M : Type 0} (n k : ℕ) (s : Stage D M) → n ≤ k → IsBelow n s → IsBelow k s
-below_at n k s le b = record { source = omega (arith, b.source); dest = omega (arith, b.dest); client = omega (arith, b.client); choices = omega (arith, b.choices) }
-
-still_below : {D M : Type 0} (n : ℕ) (s : Stage D M) → IsBelow n s → IsBelow n (next_flowed s)
-still_below n s b = record { source = b.source; dest = b.dest; client = b.client; choices = b.choices }
-
-delivered_one : (n : ℕ) (log : List Posted) → AllDelivered (suc n) log → AllDelivered (n + 1) log
-delivered_one n log d = rw add-one d
-
-pub flow_fair : {D M : Type 0} (s : Stage D M) → IsFlowing s → s.flowed < most_records → IsFair (next_flowed s)
-flow_fair s f few = record {
-  ready = record { source = f.ready.source; dest = f.ready.dest };
-  below = still_below 67108862 s (below_at (1000000 + s.flowed) 67108862 s (omega (arith, few)) f.below);
-  bytes = f.bytes;
-  clock = f.clock;
-}
-
-pub delivered_keeps : {D M : Type 0} (told : Type 0) (old new : Stage D M) → IsFlowing old → old.flowed < length old.log → old.flowed < most_records
-    → SmallKeeps told (next_flowed old) new → Grows (marked (old.flowed + 1) old.log) new.log → new.clock ≡ old.clock → FlowKeeps told old new
-delivered_keeps told old new f more few k g clock =
-    let below : (e : ℕ) → IsBelow (e + old.flowed) old → IsBelow (e + new.flowed) new = λ e b.
-    below_at (e + old.flowed + 1) (e + new.flowed) new (omega (arith, k.flowed)) (k.below (e + old.flowed) (still_below (e + old.flowed) old b)) in
-    record {
-      keeps = record { source = k.keeps.source; dest = k.keeps.dest; setting = k.keeps.setting; log = k.keeps.log; bytes = k.keeps.bytes };
-      below = below;
-      clock = clock;
-      flowing = record {
-        ready = record { source = source_open new.source k.keeps.source.next k.keeps.source.next_is; dest = dest_open new.dest k.keeps.dest.next k.keeps.dest.next_is };
-        below = below 1000000 f.below;
-        bytes = k.keeps.bytes;
-        clock = omega (arith, clock, f.clock);
-        within = omega (arith, k.flowed, more, k.keeps.log.longer);
-        few = omega (arith, k.flowed, few);
-        delivered = subst (λ (n : ℕ). AllDelivered n new.log) (sym k.flowed) (subst (λ (l : List Posted). AllDelivered (old.flowed + 1) l) (sym g.1)
-            (delivered_append (old.flowed + 1) (marked (old.flowed + 1) old.log) g.0 (omega (arith, length_marked (old.flowed + 1) old.log, more))
-            (rw add-one (delivered_next old.flowed old.log f.delivered))));
-      };
-    }
-
-pub passed_keeps : {D M : Type 0} (told : Type 0) (old : Stage D M) → IsFlowing old → old.flowed < length old.log → old.flowed < most_records → is_waiting (old.flowed + 1) old.log ≡ false
-    → FlowKeeps told old (next_flowed old)
-passed_keeps told old f more few waiting =
-    let r = waits old.flowed old.log more in
-    record {
-      keeps = record {
-        source = source_still told old.source old.source f.ready.source refl;
-        dest = dest_still told old.dest old.dest f.ready.dest refl;
-        setting = refl;
-        log = keeps_none old.log;
-        bytes = f.bytes;
-      };
-      below = λ e b. still_below (e + (old.flowed + 1)) old (below_at (e + old.flowed) (e + (old.flowed + 1)) old (omega arith) b);
-      clock = refl;
-      flowing = record {
-        ready = record { source = f.ready.source; dest = f.ready.dest };
-        below = still_below (1000000 + (old.flowed + 1)) old (below_at (1000000 + old.flowed) (1000000 + (old.flowed + 1)) old (omega arith) f.below);
-        bytes = f.bytes;
-        clock = f.clock;
-        within = omega (arith, more);
-        few = omega (arith, few);
-        delivered = delivered_one old.flowed old.log (delivered_past old.flowed old.log r.0 r.1 (not_false r.0.delivered (sym (waiting_is old.flowed old.log r.0 r.1) ∙ waiting)) f.delivered);
-      };
-    }
-
 module _ {D M : Type 0} (told : Type 0) (m : RunMachines M) (read : Reading) (faults size : D → ℕ) where
-  pub flows_to : {E : Type 0} (old new : Stage D M) (text_old text_new : List ℕ) (r : Result (Option Fault) E) → is_waiting (old.flowed + 1) old.log ≡ true
-      → IfOk r (λ fault. SmallIs told m read faults size (kinds.Deliver (old.flowed + 1)) (next_flowed old) new text_old text_new (faults_named fault))
+  pub flows_to : {E : Type 0} (old new : Stage D M) (text_old text_new : List ℕ) (r : Result (Result (Option Fault) (Lost D)) E) → is_waiting (old.flowed + 1) old.log ≡ true
+      → IfOk r (SmallEnds told m read faults size (kinds.Deliver (old.flowed + 1)) (next_flowed old) new text_old text_new)
       → Grows (marked (old.flowed + 1) old.log) new.log
-      → IfOk r (λ fault. FlowsOne told m read faults size old new text_old text_new (faults_named fault))
-  flows_to old new text_old text_new (Ok fault) waiting small grows =
+      → IfOk r (FlowsEnd told m read faults size old new text_old text_new)
+  flows_to old new text_old text_new (Ok (Ok fault)) waiting small grows =
       subst (λ (b : Bool). FlowsBy b told m read faults size old new text_old text_new (faults_named fault)) (sym waiting) (record { small = small; grows = grows })
+  flows_to old new text_old text_new (Ok (Err lost)) waiting small grows = (asked_alone (is_armed lost.side old) small.0, small.1)
   flows_to old new text_old text_new (Err e) waiting small grows = tt
 
   pub flows_past : (old : Stage D M) (text : List ℕ) → is_waiting (old.flowed + 1) old.log ≡ false → FlowsOne told m read faults size old (next_flowed old) text text None
@@ -524,15 +482,15 @@ module _ {D M : Type 0} (told : Type 0) (m : RunMachines M) (read : Reading) (fa
       subst (λ (b : Bool). FlowsBy b told m read faults size old (next_flowed old) text text None) (sym waiting) (record { none = refl; text = refl; stage = refl })
 
   -- a flow goes on with it, or ends
-  pub flow_goes_on : (last : ℕ) (old now new : Stage D M) (text_now text_new : List ℕ) → HasFlowed told m read faults size last old now text_now → now.flowed < last → last ≤ length now.log
+  pub flow_goes_on : (last : ℕ) (old now new : Stage D M) (text_now text_new : List ℕ) → HasFlowed told m read faults size last old now text_now → Unset told m read faults size old now → now.flowed < last → last ≤ length now.log
       → FlowsOne told m read faults size now new text_now text_new None → new.flowed ≡ now.flowed + 1 → HasFlowed told m read faults size last old new text_new
-  flow_goes_on last old now new text_now text_new h within all one flowed = by_wait (is_waiting (now.flowed + 1) now.log) refl one
+  flow_goes_on last old now new text_now text_new h unset within all one flowed = by_wait (is_waiting (now.flowed + 1) now.log) refl one
     where
       r : (x : Posted) × (slice_get now.log now.flowed ≡ Some x)
       r = waits now.flowed now.log (omega (arith, within, all))
 
       by_wait : (b : Bool) → is_waiting (now.flowed + 1) now.log ≡ b → FlowsBy b told m read faults size now new text_now text_new None → HasFlowed told m read faults size last old new text_new
-      by_wait true is f = flow_more told m read faults size last old now new text_now text_new r.0 h within all r.1 (not_true r.0.delivered (sym (waiting_is now.flowed now.log r.0 r.1) ∙ is)) f flowed
+      by_wait true is f = flow_more told m read faults size last old now new text_now text_new r.0 h unset within all r.1 (not_true r.0.delivered (sym (waiting_is now.flowed now.log r.0 r.1) ∙ is)) f flowed
       by_wait false is f =
           subst (λ (s : Stage D M). HasFlowed told m read faults size last old s text_new) (sym f.stage)
           (subst (λ (t : List ℕ). HasFlowed told m read faults size last old (next_flowed now) t) (sym f.text)
@@ -557,20 +515,27 @@ module _ {D M : Type 0} (told : Type 0) (m : RunMachines M) (read : Reading) (fa
       subst (λ (t : List ℕ). StageGoes told m read faults size smalls old new t fault') (sym p) (subst (λ (f : Option runs.Fault). StageGoes told m read faults size smalls old new text f) (sym q) g)
 
   -- by what a delivery answered
-  pub flow_next : (last : ℕ) (old now new : Stage D M) (text_now text_new : List ℕ) (answer : Option Fault) → HasFlowed told m read faults size last old now text_now → now.flowed < last → last ≤ length now.log
-      → answer ≡ None → FlowsOne told m read faults size now new text_now text_new (faults_named answer) → new.flowed ≡ now.flowed + 1 → HasFlowed told m read faults size last old new text_new
-  flow_next last old now new text_now text_new answer h within all is one flowed =
-      flow_goes_on last old now new text_now text_new h within all
-      (subst (λ (o : Option Fault). FlowsOne told m read faults size now new text_now text_new (faults_named o)) is one) flowed
+  pub flow_next : (last : ℕ) (old now new : Stage D M) (text_now text_new : List ℕ) (answer : Result (Option Fault) (Lost D)) → HasFlowed told m read faults size last old now text_now
+      → Unset told m read faults size old now → now.flowed < last → last ≤ length now.log
+      → answer ≡ Ok None → FlowsEnd told m read faults size now new text_now text_new answer → new.flowed ≡ now.flowed + 1 → HasFlowed told m read faults size last old new text_new
+  flow_next last old now new text_now text_new answer h unset within all is one flowed =
+      flow_goes_on last old now new text_now text_new h unset within all
+      (subst (λ (o : Result (Option Fault) (Lost D)). FlowsEnd told m read faults size now new text_now text_new o) is one) flowed
 
-  pub flow_stops : (last : ℕ) (old now new : Stage D M) (text_now text_new given : List ℕ) (answer : Option Fault) (fault : Fault) (named : Option runs.Fault) → HasFlowed told m read faults size last old now text_now
-      → now.flowed < last → last ≤ length now.log → answer ≡ Some fault → FlowsOne told m read faults size now new text_now text_new (faults_named answer) → given ≡ text_new → named ≡ faults_named (Some fault)
-      → StageGoes told m read faults size (map kinds.Deliver (waiting old.log)) old new given named
-  flow_stops last old now new text_now text_new given answer (faults_of.Mistaken mistake) named h within all is one text_is fault_is =
+  flow_faults : (last : ℕ) (old now new : Stage D M) (text_now text_new given : List ℕ) (fault : Fault) (named : Option runs.Fault) → HasFlowed told m read faults size last old now text_now
+      → now.flowed < last → last ≤ length now.log → FlowsOne told m read faults size now new text_now text_new (faults_named (Some fault)) → given ≡ text_new
+      → named ≡ faults_named (Some fault) → StageGoes told m read faults size (map kinds.Deliver (waiting old.log)) old new given named
+  flow_faults last old now new text_now text_new given (faults_of.Mistaken mistake) named h within all one text_is fault_is =
       goes_as (map kinds.Deliver (waiting old.log)) old new text_new given (Some (runs.Mistaken mistake)) named text_is fault_is
-      (flow_ends last old now new text_now text_new (runs.Mistaken mistake) h within all
-      (subst (λ (o : Option Fault). FlowsOne told m read faults size now new text_now text_new (faults_named o)) is one))
-  flow_stops last old now new text_now text_new given answer faults_of.TooLarge named h within all is one text_is fault_is =
+      (flow_ends last old now new text_now text_new (runs.Mistaken mistake) h within all one)
+  flow_faults last old now new text_now text_new given faults_of.TooLarge named h within all one text_is fault_is =
       goes_as (map kinds.Deliver (waiting old.log)) old new text_new given (Some runs.TooLarge) named text_is fault_is
-      (flow_ends last old now new text_now text_new runs.TooLarge h within all
-      (subst (λ (o : Option Fault). FlowsOne told m read faults size now new text_now text_new (faults_named o)) is one))
+      (flow_ends last old now new text_now text_new runs.TooLarge h within all one)
+
+  pub flow_stops : (last : ℕ) (old now new : Stage D M) (text_now text_new given : List ℕ) (answer : Result (Option Fault) (Lost D)) (fault : Fault) (named : Option runs.Fault)
+      → HasFlowed told m read faults size last old now text_now → now.flowed < last → last ≤ length now.log → answer ≡ Ok (Some fault)
+      → FlowsEnd told m read faults size now new text_now text_new answer → given ≡ text_new → named ≡ faults_named (Some fault)
+      → StageGoes told m read faults size (map kinds.Deliver (waiting old.log)) old new given named
+  flow_stops last old now new text_now text_new given answer fault named h within all is one text_is fault_is =
+      flow_faults last old now new text_now text_new given fault named h within all
+      (subst (λ (o : Result (Option Fault) (Lost D)). FlowsEnd told m read faults size now new text_now text_new o) is one) text_is fault_is

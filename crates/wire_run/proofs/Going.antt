@@ -19,10 +19,11 @@ use Rattle.wire_machine.specs.Lines.{lines_of}
 use Rattle.wire_machine.specs.Runs.{EventGoes, Fault, Numbered, Runs, Whole}
 use Rattle.wire_machine.specs.Steps.{after_steps}
 use Rattle.wire_machine.specs.declared.choice.Choice.{Choice}
-use Rattle.wire_run.specs.Ends.{SourceState}
-use Rattle.wire_run.specs.Fresh.{IsFreshDest, IsFreshSource, Shape, Small, event_small}
-use Rattle.wire_run.specs.Run.{IsFirst, first_small, shape_by}
-use Rattle.wire_run.specs.Running.{IsCarriedOut, KeepsAt, Later, RunMachines, RunStep, RunWorld, Running, StepIs, VolumeIs, context_after, failed_calls, fault_in, mech_of, size_in, text_in}
+use Rattle.run_ends.specs.Ends.{RunMachines, RunStep, RunWorld, SourceState}
+use Rattle.run_ends.specs.First.{IsFirst, IsFreshDest, IsFreshSource, Shape, shape_by}
+use Rattle.wire_run.specs.Fresh.{Small, event_small}
+use Rattle.wire_run.specs.Run.{first_small}
+use Rattle.wire_run.specs.Running.{ArmsRight, Became, IsCarriedOut, KeepsAt, Later, Running, StepIs, VolumeIs, context_after, failed_calls, fault_in, mech_of, size_in, text_in}
 use Rattle.wire_run.specs.Trace.{Happens, Puts, PutsLines}
 use Rattle.wire_run.specs.declared.run.Ran.{Ran}
 use Rattle.wire_run.specs.declared.run.Ran.TheVariants as ran
@@ -32,6 +33,7 @@ use Rattle.wire_run.proofs.Joining.{after_join, lines_join, one_runs, runs_join}
 use Rattle.wire_run.proofs.EventKinds.{Acts, Makes, in_order, kind_of}
 use Rattle.wire_run.proofs.Later.{blamed_join, blamed_none, later_join, later_more}
 use Rattle.wire_run.proofs.Middle.{AtRest, InRun, Moves, Waits, not_both, standing, waits_made, waits_none, waits_other, waits_same}
+use Rattle.wire_run.proofs.RunStops.{armed_more, none_more}
 use Rattle.wire_run.proofs.Shapes.{small_behind}
 use Rattle.wire_schedule.specs.Admission.{admits, after, files_of, is_in_order, is_ready}
 use Rattle.wire_schedule.specs.declared.context.Context.{Context}
@@ -82,6 +84,7 @@ went_faultless (stepped.Went text) went = refl
 went_faultless (stepped.OverLimit text) went = absurd went
 went_faultless (stepped.Mistaken text mistake) went = absurd went
 went_faultless (stepped.Unmade cause) went = absurd went
+went_faultless (stepped.Lost side cause) went = absurd went
 
 -- what was put where the run goes on
 all_put : (bytes : List ℕ) (next : Option Ran) (before now : Taking) → Puts bytes next before now None → Appends before.taken now.taken bytes
@@ -109,6 +112,7 @@ module _ {D M : Type 0} (told : Type 0) (faults size : D → ℕ) where
   volume_later mech side shape old new event (stepped.OverLimit text) made = absurd made
   volume_later mech side shape old new event (stepped.Mistaken text mistake) made = absurd made
   volume_later mech side shape old new event (stepped.Unmade cause) made = (made.1, made.2)
+  volume_later mech side shape old new event (stepped.Lost at cause) made = absurd made
 
   volume_fits : (mech : M) (side : Side) (shape : Shape) (old new : Running D M) (event : Event) (became : Stepped) → IsWent became
       → VolumeIs told faults size mech side shape old new event became → event_small (size_in size old.source) (size_in size old.dest) event ≡ None
@@ -116,6 +120,7 @@ module _ {D M : Type 0} (told : Type 0) (faults size : D → ℕ) where
   volume_fits mech side shape old new event (stepped.OverLimit text) went made = absurd went
   volume_fits mech side shape old new event (stepped.Mistaken text mistake) went made = absurd went
   volume_fits mech side shape old new event (stepped.Unmade cause) went made = absurd went
+  volume_fits mech side shape old new event (stepped.Lost at cause) went made = absurd went
 
   pub volume_keeps : (mech : M) (side : Side) (shape : Shape) (old new : Running D M) (event : Event) (became : Stepped) → IsWent became
       → VolumeIs told faults size mech side shape old new event became → KeepsAt side old new
@@ -123,6 +128,7 @@ module _ {D M : Type 0} (told : Type 0) (faults size : D → ℕ) where
   volume_keeps mech side shape old new event (stepped.OverLimit text) went made = absurd went
   volume_keeps mech side shape old new event (stepped.Mistaken text mistake) went made = absurd went
   volume_keeps mech side shape old new event (stepped.Unmade cause) went made = absurd went
+  volume_keeps mech side shape old new event (stepped.Lost at cause) went made = absurd went
 
   pub volume_text : (mech : M) (side : Side) (shape : Shape) (old new : Running D M) (event : Event) (became : Stepped) → IsWent became
       → VolumeIs told faults size mech side shape old new event became → text_in became ≡ []
@@ -130,6 +136,7 @@ module _ {D M : Type 0} (told : Type 0) (faults size : D → ℕ) where
   volume_text mech side shape old new event (stepped.OverLimit text) went made = absurd went
   volume_text mech side shape old new event (stepped.Mistaken text mistake) went made = absurd went
   volume_text mech side shape old new event (stepped.Unmade cause) went made = absurd went
+  volume_text mech side shape old new event (stepped.Lost at cause) went made = absurd went
 
 -- ---- what a context says of servers that are there
 
@@ -231,6 +238,7 @@ module _ {D M : Type 0} (told : Type 0) (m : RunMachines M) (read : Reading) (fa
   next_made done steps start old new taken now out e side files blocks (stepped.OverLimit text) went e_is absent made was context_is put source_later dest_later = absurd went
   next_made done steps start old new taken now out e side files blocks (stepped.Mistaken text mistake) went e_is absent made was context_is put source_later dest_later = absurd went
   next_made done steps start old new taken now out e side files blocks (stepped.Unmade cause) went e_is absent made was context_is put source_later dest_later = absurd went
+  next_made done steps start old new taken now out e side files blocks (stepped.Lost at cause) went e_is absent made was context_is put source_later dest_later = absurd went
 
   -- ---- the run moves on
 
@@ -267,13 +275,27 @@ module _ {D M : Type 0} (told : Type 0) (m : RunMachines M) (read : Reading) (fa
         source_there = ap (λ (files : Option ℕ). is_some files) source_is ∙ was.source_there;
         dest_there = ap (λ (files : Option ℕ). is_some files) dest_is ∙ was.dest_there;
         puts = λ t.
-            let lines : text_in became ≡ lines_text (lines_of m (after_steps first steps) more) =
-            carried.lines t ∙ ap (λ (xs : List (RunStep M)). lines_text (lines_of m (after_steps first steps) xs)) more_is in
-            subst (λ (b : List ℕ). Appends taken out b) (lines_more first steps more (text_in became) lines)
+            subst (λ (b : List ℕ). Appends taken out b) (lines_more first steps more (text_in became) (lines_are t))
             (Appends-trans taken now out (lines_text (lines_of m first steps)) (text_in became) (was.puts t) put);
+        lines = was.lines ++ text_in became;
+        appended = Appends-trans taken now out was.lines (text_in became) was.appended put;
+        lines_are = λ t.
+            ap (λ (b : List ℕ). b ++ text_in became) (was.lines_are t) ∙ lines_more first steps more (text_in became) (lines_are t);
       }
+    where
+      lines_are : told → text_in became ≡ lines_text (lines_of m (after_steps was.first steps) more)
+      lines_are t = carried.lines t ∙ ap (λ (xs : List (RunStep M)). lines_text (lines_of m (after_steps was.first steps) xs)) more_is
 
   -- ---- one event more
+
+  -- one that went through was carried out
+  carried_of : (old new : Running D M) (before : RunWorld M) (event : Event) (became : Stepped) → IsWent became → Became told m read faults size old new before event became
+      → IsCarriedOut told m read faults size old new before event became
+  carried_of old new before event (stepped.Went text) went is = is
+  carried_of old new before event (stepped.OverLimit text) went is = absurd went
+  carried_of old new before event (stepped.Mistaken text mistake) went is = absurd went
+  carried_of old new before event (stepped.Unmade cause) went is = absurd went
+  carried_of old new before event (stepped.Lost side cause) went is = absurd went
 
   -- none of a disk's calls failed before it was opened
   waits_later : (steps : List (RunStep M)) (side : Side) (d d' : Option D) → steps ≡ [] → Later faults size 0 d d' → Later faults size (failed_calls side steps) d d'
@@ -281,15 +303,15 @@ module _ {D M : Type 0} (told : Type 0) (m : RunMachines M) (read : Reading) (fa
 
   abbrev Next : List Numbered → (start old new : Running D M) → (taken now out : Option (List ℕ)) → Numbered → Stepped → Type 0
   Next done start old new taken now out e became =
-      InRun told m read faults size done start old taken now → IsWent became → new.context ≡ after old.context e.event → Appends now out (text_in became)
+      InRun told m read faults size done start old taken now → IsWent became → new.context ≡ after old.context e.event → ArmsRight old new e.event → Appends now out (text_in became)
       → InRun told m read faults size (done ++ e ∷ []) start new taken out
 
   -- a server is made
   by_made : (done : List Numbered) (start old new : Running D M) (taken now out : Option (List ℕ)) (e : Numbered) (became : Stepped)
       → Makes told m read faults size (mech_of old) old.context old new e.event became → (was : InRun told m read faults size done start old taken now)
-      → WaitsOn done was.steps start old taken now → IsWent became → new.context ≡ after old.context e.event → Appends now out (text_in became)
+      → WaitsOn done was.steps start old taken now → IsWent became → new.context ≡ after old.context e.event → ArmsRight old new e.event → Appends now out (text_in became)
       → InRun told m read faults size (done ++ e ∷ []) start new taken out
-  by_made done start old new taken now out e became kind was (inl waits) went context_is put =
+  by_made done start old new taken now out e became kind was (inl waits) went context_is arms put =
       let laters = volume_later told faults size (mech_of old) kind.side (record { files = kind.files; blocks = kind.blocks }) old new (kinds.Volume kind.side kind.files kind.blocks) became kind.made in
       let source_later = later_join faults size 0 0 start.source old.source new.source waits.source_later laters.0 in
       let dest_later = later_join faults size 0 0 start.dest old.dest new.dest waits.dest_later laters.1 in
@@ -302,6 +324,8 @@ module _ {D M : Type 0} (told : Type 0) (m : RunMachines M) (read : Reading) (fa
       record {
         steps = [];
         choices = kept.choices;
+        armed = armed_more done old was.armed e new arms;
+        asked = λ none. refl;
         blamed = blamed_none M;
         source = source_later;
         dest = dest_later;
@@ -310,49 +334,52 @@ module _ {D M : Type 0} (told : Type 0) (m : RunMachines M) (read : Reading) (fa
             ∙ (ap (λ (event : Event). event_small (size_in size old.source) (size_in size old.dest) event) kind.is ∙ fits));
         stands = next_made done was.steps start old new taken now out e kind.side kind.files kind.blocks became went kind.is kind.absent kind.made waits context_is put source_later dest_later;
       }
-  by_made done start old new taken now out e became kind was (inr moves) went context_is put =
+  by_made done start old new taken now out e became kind was (inr moves) went context_is arms put =
       absurd (not_both (files_of old.context kind.side) kind.absent (there_at kind.side old.context moves.source_there moves.dest_there))
 
   -- servers that are there go on
   by_acts : (done : List Numbered) (start old new : Running D M) (taken now out : Option (List ℕ)) (e : Numbered) (became : Stepped)
       → Acts told m read faults size old.context old new e.event became → (was : InRun told m read faults size done start old taken now)
-      → WaitsOn done was.steps start old taken now → fault_in became ≡ None → new.context ≡ after old.context e.event → Appends now out (text_in became)
+      → WaitsOn done was.steps start old taken now → IsWent became → new.context ≡ after old.context e.event → ArmsRight old new e.event → Appends now out (text_in became)
       → InRun told m read faults size (done ++ e ∷ []) start new taken out
-  by_acts done start old new taken now out e became kind was (inl waits) no_fault context_is put = absurd (not_early old.context waits.early kind.ready)
-  by_acts done start old new taken now out e became kind was (inr moves) no_fault context_is put =
-      let carried = kind.is (after_steps moves.first was.steps) moves.world in
+  by_acts done start old new taken now out e became kind was (inl waits) went context_is arms put = absurd (not_early old.context waits.early kind.ready)
+  by_acts done start old new taken now out e became kind was (inr moves) went context_is arms put =
+      let carried = carried_of old new (after_steps moves.first was.steps) e.event became went (kind.is (after_steps moves.first was.steps) moves.world) in
       record {
         steps = was.steps ++ carried.steps;
         choices = more_choices old new was.steps carried.steps was.choices carried.choices;
+        armed = armed_more done old was.armed e new arms;
+        asked = none_more done e [] old (after_steps moves.first was.steps) was.steps carried.steps was.armed was.asked carried.asked;
         blamed = blamed_join was.steps carried.steps was.blamed carried.blamed;
         source = later_more faults size Source was.steps carried.steps start.source old.source new.source was.source carried.source_later;
         dest = later_more faults size Dest was.steps carried.steps start.dest old.dest new.dest was.dest carried.dest_later;
         room = small_more (size_in size start.source) (size_in size start.dest) done e was.room (kind.small (size_in size start.source) (size_in size start.dest));
-        stands = inr (next_moves done was.steps carried.steps start old new taken now out e became no_fault moves carried refl
+        stands = inr (next_moves done was.steps carried.steps start old new taken now out e became (went_faultless became went) moves carried refl
             (ap (λ (c : Context). c.source) context_is ∙ kind.source) (ap (λ (c : Context). c.dest) context_is ∙ kind.dest) put);
       }
 
   by_kind : (done : List Numbered) (start old new : Running D M) (taken now out : Option (List ℕ)) (e : Numbered) (became : Stepped)
       → Makes told m read faults size (mech_of old) old.context old new e.event became ⊎ Acts told m read faults size old.context old new e.event became
       → Next done start old new taken now out e became
-  by_kind done start old new taken now out e became (inl kind) = λ was went context_is put. by_made done start old new taken now out e became kind was was.stands went context_is put
-  by_kind done start old new taken now out e became (inr kind) = λ was went context_is put.
-      by_acts done start old new taken now out e became kind was was.stands (went_faultless became went) context_is put
+  by_kind done start old new taken now out e became (inl kind) = λ was went context_is arms put. by_made done start old new taken now out e became kind was was.stands went context_is arms put
+  by_kind done start old new taken now out e became (inr kind) = λ was went context_is arms put.
+      by_acts done start old new taken now out e became kind was was.stands went context_is arms put
 
   by_became : (done : List Numbered) (start old new : Running D M) (taken : Option (List ℕ)) (before now : Taking) (e : Numbered) (became : Stepped)
       → InRun told m read faults size done start old taken before.taken → is_in_order old.context e.event ≡ true
       → StepIs told m read faults size (mech_of old) old new e.event became → new.context ≡ context_after old.context e.event became
-      → PutsLines e.line became before now None → InRun told m read faults size (done ++ e ∷ []) start new taken now.taken
-  by_became done start old new taken before now e (stepped.Went text) was order is context_is puts =
+      → ArmsRight old new e.event → PutsLines e.line became before now None → InRun told m read faults size (done ++ e ∷ []) start new taken now.taken
+  by_became done start old new taken before now e (stepped.Went text) was order is context_is arms puts =
       by_kind done start old new taken before.taken now.taken e (stepped.Went text)
-      (kind_of told m read faults size (mech_of old) old.context old new e.event (stepped.Went text) order is) was tt context_is
+      (kind_of told m read faults size (mech_of old) old.context old new e.event (stepped.Went text) order is) was tt context_is arms
       (all_put (string_bytes text) None before now puts)
-  by_became done start old new taken before now e (stepped.OverLimit text) was order is context_is puts = absurd (goes_on _ _ before now puts)
-  by_became done start old new taken before now e (stepped.Mistaken text mistake) was order is context_is puts = absurd (goes_on _ _ before now puts)
-  by_became done start old new taken before now e (stepped.Unmade cause) was order is context_is puts = let ends = puts.1 in absurd (cc)
+  by_became done start old new taken before now e (stepped.OverLimit text) was order is context_is arms puts = absurd (goes_on _ _ before now puts)
+  by_became done start old new taken before now e (stepped.Mistaken text mistake) was order is context_is arms puts = absurd (goes_on _ _ before now puts)
+  by_became done start old new taken before now e (stepped.Unmade cause) was order is context_is arms puts = let ends = puts.1 in absurd (cc)
+  by_became done start old new taken before now e (stepped.Lost side cause) was order is context_is arms puts = let ends = puts.1 in absurd (cc)
 
   pub went : (done : List Numbered) (start old new : Running D M) (taken : Option (List ℕ)) (before now : Taking) (e : Numbered)
       → InRun told m read faults size done start old taken before.taken → IsTrue (admits old.context e.event)
       → Happens told m read faults size e old new before now None → InRun told m read faults size (done ++ e ∷ []) start new taken now.taken
   went done start old new taken before now e was admitted happens =
-      by_became done start old new taken before now e happens.became was (in_order old.context e.event admitted) happens.is happens.context happens.puts
+      by_became done start old new taken before now e happens.became was (in_order old.context e.event admitted) happens.is happens.context happens.arms happens.puts

@@ -1,12 +1,14 @@
 -- Small steps and events, one after the other.
 use Rattle.std.proofs.Common.{◌≡◌, ℕ, List, [], ◌∷◌, ◌++◌, Option, None, Some, refl, sym, ap, subst, ◌∙◌, append_assoc, append-nil}
+use Rattle.nfs_base.specs.declared.side.Side.{Side}
 use Rattle.wire_lines.specs.declared.line.Line.{Line}
 use Rattle.wire_machine.specs.Check.{Reading}
 use Rattle.wire_machine.specs.Ends.{Machines}
 use Rattle.wire_machine.specs.Lines.{lines_of, step_lines}
-use Rattle.wire_machine.specs.Runs.{End, EventGoes, Fault, Mistaken, Numbered, Runs, RunsBy, TooLarge, Whole, end_by}
-use Rattle.wire_machine.specs.Steps.{Step, after_steps}
+use Rattle.wire_machine.specs.Runs.{End, EventGoes, Fault, Goes, GoesBy, Mistaken, Numbered, Runs, RunsBy, TooLarge, Whole, end_by, fault_of}
+use Rattle.wire_machine.specs.Steps.{NeverStops, Step, after_steps}
 use Rattle.wire_machine.specs.World.{World}
+use Rattle.wire_schedule.specs.declared.event.Event.{Event}
 
 module _ {S T C W : Type 0} where
   pub after_join : (w : World S T C W) (steps more : List (Step S T C W)) → after_steps w (steps ++ more) ≡ after_steps (after_steps w steps) more
@@ -19,6 +21,44 @@ module _ {S T C W : Type 0} where
   lines_join m w (s ∷ steps) more =
       ap (λ (later : List Line). step_lines m w s ++ later) (lines_join m s.after steps more)
       ∙ sym (append_assoc (step_lines m w s) (lines_of m s.after steps) (lines_of m (after_steps s.after steps) more))
+
+  pub never_join : (side : Side) (w : World S T C W) (steps more : List (Step S T C W)) → NeverStops side w steps → NeverStops side (after_steps w steps) more
+      → NeverStops side w (steps ++ more)
+  never_join side w [] more first later = later
+  never_join side w (s ∷ steps) more first later = (first.0, never_join side s.after steps more first.1 later)
+
+-- ---- small steps
+
+no_fault : (fault : Fault) → ◌≡◌ {A = Option Fault} None (Some fault) → ⊥
+no_fault fault is = cc
+
+module _ {S T C W : Type 0} (m : Machines S T C W) (read : Reading) where
+  abbrev GoesOn : List Event → List Event → Type 0
+  GoesOn done rest =
+      (w : World S T C W) (steps more : List (Step S T C W)) (end : Option Fault) → Goes m read w done steps None
+      → Goes m read (after_steps w steps) rest more end → Goes m read w (done ++ rest) (steps ++ more) end
+
+  goes_by : (w : World S T C W) (done rest : List Event) (steps more : List (Step S T C W)) (end : Option Fault) → GoesOn done rest
+      → (s : Step S T C W) (fault : Option Fault) → GoesBy m read fault s (λ (r : List (Step S T C W)). Goes m read s.after done r None) steps None
+      → Goes m read (after_steps w steps) rest more end
+      → GoesBy m read fault s (λ (r : List (Step S T C W)). Goes m read s.after (done ++ rest) r end) (steps ++ more) end
+  goes_by w done rest steps more end next s None by later =
+      let tail = by.0 in
+      let are : steps ≡ s ∷ tail = by.1 in (
+        tail ++ more,
+        ap (λ (xs : List (Step S T C W)). xs ++ more) are,
+        next s.after tail more end by.2 (subst (λ (xs : List (Step S T C W)). Goes m read (after_steps w xs) rest more end) are later),
+      )
+  goes_by w done rest steps more end next s (Some fault) by later = absurd (no_fault fault by.1)
+
+  pub goes_join : (done rest : List Event) → GoesOn done rest
+  goes_join [] rest = λ w steps more end was later.
+      subst (λ (xs : List (Step S T C W)). Goes m read w rest (xs ++ more) end) (sym was.0)
+      (subst (λ (xs : List (Step S T C W)). Goes m read (after_steps w xs) rest more end) was.0 later)
+  goes_join (small ∷ done) rest = λ w steps more end was later.
+      (was.0, was.1, was.2, goes_by w done rest steps more end (goes_join done rest) was.0 (fault_of m read w was.0) was.3 later)
+
+-- ---- events
 
 -- an event that a fault ends is the last
 not_whole : (fault : Fault) (line : ℕ) → Whole ≡ end_by fault line → ⊥

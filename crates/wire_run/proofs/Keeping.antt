@@ -8,8 +8,8 @@ use Rattle.wire_machine.specs.World.{bytes_of}
 use Rattle.outbox.specs.declared.outgoing.Outbox.{Outbox}
 use Rattle.wire_machine.specs.declared.choice.Choice.{Choice}
 use Rattle.wire_machine.specs.Ends.{DestAct, SourceAct, ClientAct}
-use Rattle.wire_run.specs.Running.{RunMachines}
-use Rattle.wire_run.specs.Stage.{BeginsNone, ClientActs, LooksOnly, later_clock, DestActs, DestHost, DestKeeps, Grows, IsBelow, IsDestOpen, IsReady, IsSourceOpen, SettleKeeps, SmallKeeps, SourceActs, SourceHost, SourceKeeps, StageKeeps, VolumeStays, dest_steps, source_steps}
+use Rattle.run_ends.specs.Ends.{RunMachines}
+use Rattle.wire_run.specs.Stage.{BeginsNone, ClientActs, LooksOnly, later_clock, DestActs, DestHost, DestKeeps, Grows, IsBelow, IsDestOpen, IsReady, IsSourceOpen, SettleKeeps, SmallKeeps, SourceActs, SourceHost, SourceKeeps, SourceLeaves, StageKeeps, DestLeaves, VolumeKeeps, VolumeStays, dest_steps, source_steps}
 use Rattle.wire_run.specs.declared.ends.DestEnd.{DestEnd}
 use Rattle.wire_run.specs.declared.ends.DestEnd.TheVariants as dest_end
 use Rattle.wire_run.specs.declared.ends.SourceEnd.{SourceEnd}
@@ -43,20 +43,50 @@ source_open end core is = subst (λ (e : SourceEnd _ _). IsSourceOpen e) (sym is
 pub dest_open : {D M : Type 0} (end : DestEnd D M) (core : DestHost D M) → end ≡ dest_end.Open core → IsDestOpen end
 dest_open end core is = subst (λ (e : DestEnd _ _). IsDestOpen e) (sym is) tt
 
-pub stays_still : {D : Type 0} (v : Opened D) → VolumeStays v v
-stays_still v = record { files = refl; tag = refl; boot = refl }
+pub keeps_still : {D : Type 0} (v : Opened D) → VolumeKeeps v v
+keeps_still v = record { files = refl; tag = refl }
+
+pub keeps_of : {D : Type 0} (old new : Opened D) → VolumeStays old new → VolumeKeeps old new
+keeps_of old new stays = record { files = stays.files; tag = stays.tag }
+
+-- a server that is there afterwards
+pub source_left : {D M : Type 0} (told : Type 0) (was next : SourceHost D M) (new : SourceEnd D M) → new ≡ source_end.Open next
+    → (told → VolumeKeeps was.server.files.volume next.server.files.volume) → SourceLeaves told was new
+source_left {D} {M} told was next new is keeps = subst (λ (e : SourceEnd D M). SourceLeaves told was e) (sym is) keeps
+
+pub dest_left : {D M : Type 0} (told : Type 0) (was next : DestHost D M) (new : DestEnd D M) → new ≡ dest_end.Open next
+    → (told → VolumeKeeps was.server.files.volume next.server.files.volume) → DestLeaves told was new
+dest_left {D} {M} told was next new is keeps = subst (λ (e : DestEnd D M). DestLeaves told was e) (sym is) keeps
+
+-- one whose volume stays
+pub source_stays : {D M : Type 0} (told : Type 0) (old new : SourceEnd D M) (was next : SourceHost D M) → old ≡ source_end.Open was → new ≡ source_end.Open next
+    → (told → VolumeStays was.server.files.volume next.server.files.volume) → SourceKeeps told old new
+source_stays told old new was next was_is next_is stays =
+    record { was = was; was_is = was_is; leaves = source_left told was next new next_is (λ t. keeps_of _ _ (stays t)) }
+
+pub dest_stays : {D M : Type 0} (told : Type 0) (old new : DestEnd D M) (was next : DestHost D M) → old ≡ dest_end.Open was → new ≡ dest_end.Open next
+    → (told → VolumeStays was.server.files.volume next.server.files.volume) → DestKeeps told old new
+dest_stays told old new was next was_is next_is stays =
+    record { was = was; was_is = was_is; leaves = dest_left told was next new next_is (λ t. keeps_of _ _ (stays t)) }
+
+-- an end that is another's
+pub source_as : {D M : Type 0} (told : Type 0) (old mid new : SourceEnd D M) → SourceKeeps told old mid → new ≡ mid → SourceKeeps told old new
+source_as {D} {M} told old mid new k same = subst (λ (e : SourceEnd D M). SourceKeeps told old e) (sym same) k
+
+pub dest_as : {D M : Type 0} (told : Type 0) (old mid new : DestEnd D M) → DestKeeps told old mid → new ≡ mid → DestKeeps told old new
+dest_as {D} {M} told old mid new k same = subst (λ (e : DestEnd D M). DestKeeps told old e) (sym same) k
 
 -- ---- a server that does nothing
 
 pub source_still : {D M : Type 0} (told : Type 0) (old new : SourceEnd D M) → IsSourceOpen old → new ≡ old → SourceKeeps told old new
 source_still told old new opened same =
     let c = source_there old opened in
-    record { was = c.core; next = c.core; was_is = c.is; next_is = same ∙ c.is; stays = λ t. stays_still _ }
+    record { was = c.core; was_is = c.is; leaves = source_left told c.core c.core new (same ∙ c.is) (λ t. keeps_still _) }
 
 pub dest_still : {D M : Type 0} (told : Type 0) (old new : DestEnd D M) → IsDestOpen old → new ≡ old → DestKeeps told old new
 dest_still told old new opened same =
     let c = dest_there old opened in
-    record { was = c.core; next = c.core; was_is = c.is; next_is = same ∙ c.is; stays = λ t. stays_still _ }
+    record { was = c.core; was_is = c.is; leaves = dest_left told c.core c.core new (same ∙ c.is) (λ t. keeps_still _) }
 
 -- ---- no copy is begun where the client is as it was
 
@@ -120,7 +150,7 @@ pub source_kept : {D M : Type 0} (told : Type 0) (m : RunMachines M) (faults siz
     → SmallKeeps told old new
 source_kept told m faults size act now old new source draws out ready acts k =
     small_keeps told old new
-    (record { was = acts.was; next = acts.next; was_is = acts.was_is; next_is = k.source ∙ acts.next_is; stays = acts.stays })
+    (source_stays told old.source new.source acts.was acts.next acts.was_is (k.source ∙ acts.next_is) acts.stays)
     (dest_still told old.dest new.dest ready.dest k.dest) (ap (λ (c : ClientState _). c.setting) k.client) k.log k.bytes
     (one_source old.source new.source acts.was acts.next acts.was_is (k.source ∙ acts.next_is) acts.counted) (same_dest old.dest new.dest k.dest)
     (omega (arith, ap (λ (c : ClientState _). c.steps) k.client)) k.choices k.flowed
@@ -131,7 +161,7 @@ pub dest_kept : {D M : Type 0} (told : Type 0) (m : RunMachines M) (faults size 
     → SmallKeeps told old new
 dest_kept told m faults size act now old new dest draws out ready acts k =
     small_keeps told old new (source_still told old.source new.source ready.source k.source)
-    (record { was = acts.was; next = acts.next; was_is = acts.was_is; next_is = k.dest ∙ acts.next_is; stays = acts.stays })
+    (dest_stays told old.dest new.dest acts.was acts.next acts.was_is (k.dest ∙ acts.next_is) acts.stays)
     (ap (λ (c : ClientState _). c.setting) k.client) k.log k.bytes
     (same_source old.source new.source k.source) (one_dest old.dest new.dest acts.was acts.next acts.was_is (k.dest ∙ acts.next_is) acts.counted)
     (omega (arith, ap (λ (c : ClientState _). c.steps) k.client)) k.choices k.flowed
@@ -158,11 +188,11 @@ rest_kept told old new ready k =
 
 pub source_keeps_by : {D M : Type 0} (told : Type 0) (m : RunMachines M) (faults size : D → ℕ) (act : SourceAct) (now : ℕ) (old new : SourceEnd D M) (before after : ℕ) (out : Outbox)
     → SourceActs told m faults size act now old before new after out → SourceKeeps told old new
-source_keeps_by told m faults size act now old new before after out a = record { was = a.was; next = a.next; was_is = a.was_is; next_is = a.next_is; stays = a.stays }
+source_keeps_by told m faults size act now old new before after out a = source_stays told old new a.was a.next a.was_is a.next_is a.stays
 
 pub dest_keeps_by : {D M : Type 0} (told : Type 0) (m : RunMachines M) (faults size : D → ℕ) (act : DestAct) (now : ℕ) (old new : DestEnd D M) (before after : ℕ) (out : Outbox)
     → DestActs told m faults size act now old before new after out → DestKeeps told old new
-dest_keeps_by told m faults size act now old new before after out a = record { was = a.was; next = a.next; was_is = a.was_is; next_is = a.next_is; stays = a.stays }
+dest_keeps_by told m faults size act now old new before after out a = dest_stays told old new a.was a.next a.was_is a.next_is a.stays
 
 pub looked_keeps : {D M : Type 0} (told : Type 0) (old : Stage D M) (source : SourceEnd D M) (dest : DestEnd D M) (client : ClientState M) → bytes_of old.log ≤ most_bytes
     → SourceKeeps told old.source source → DestKeeps told old.dest dest → client.setting ≡ old.client.setting
@@ -175,8 +205,8 @@ pub tick_kept : {D M : Type 0} (told : Type 0) (seconds : ℕ) (old looked new :
     → SettleKeeps looked new → SmallKeeps told old new
 tick_kept {D} {M} told seconds old looked new k only settled = record {
   keeps = record {
-    source = record { was = k.keeps.source.was; next = k.keeps.source.next; was_is = k.keeps.source.was_is; next_is = settled.source ∙ k.keeps.source.next_is; stays = k.keeps.source.stays };
-    dest = record { was = k.keeps.dest.was; next = k.keeps.dest.next; was_is = k.keeps.dest.was_is; next_is = settled.dest ∙ k.keeps.dest.next_is; stays = k.keeps.dest.stays };
+    source = source_as told old.source looked.source new.source k.keeps.source settled.source;
+    dest = dest_as told old.dest looked.dest new.dest k.keeps.dest settled.dest;
     setting = ap (λ (c : ClientState M). c.setting) settled.client ∙ k.keeps.setting;
     log = keeps_all old.log looked.log new.log k.keeps.log (grows_keeps looked.log new.log settled.log);
     bytes = settled.bytes;
@@ -195,38 +225,36 @@ tick_kept {D} {M} told seconds old looked new k only settled = record {
 
 -- ---- one stage after the other
 
-opened_source : {D M : Type 0} (a b : SourceHost D M) → ◌≡◌ {A = SourceEnd D M} (source_end.Open a) (source_end.Open b) → a ≡ b
-opened_source a b e = cc
+keeps_on : {D : Type 0} (a b c : Opened D) → VolumeKeeps a b → VolumeKeeps b c → VolumeKeeps a c
+keeps_on a b c p q = record { files = q.files ∙ p.files; tag = q.tag ∙ p.tag }
 
-opened_dest : {D M : Type 0} (a b : DestHost D M) → ◌≡◌ {A = DestEnd D M} (dest_end.Open a) (dest_end.Open b) → a ≡ b
-opened_dest a b e = cc
+source_further : {D M : Type 0} (told : Type 0) (a b : SourceHost D M) (c : SourceEnd D M) → (told → VolumeKeeps a.server.files.volume b.server.files.volume)
+    → SourceLeaves told b c → SourceLeaves told a c
+source_further told a b (source_end.Open next) first later =
+    λ t. keeps_on a.server.files.volume b.server.files.volume next.server.files.volume (first t) (later t)
+source_further told a b source_end.Away first later = tt
+source_further told a b (source_end.Disk disk) first later = absurd later
 
-stays_on : {D : Type 0} (a b c : Opened D) → VolumeStays a b → VolumeStays b c → VolumeStays a c
-stays_on a b c p q = record { files = q.files ∙ p.files; tag = q.tag ∙ p.tag; boot = q.boot ∙ p.boot }
+dest_further : {D M : Type 0} (told : Type 0) (a b : DestHost D M) (c : DestEnd D M) → (told → VolumeKeeps a.server.files.volume b.server.files.volume)
+    → DestLeaves told b c → DestLeaves told a c
+dest_further told a b (dest_end.Open next) first later =
+    λ t. keeps_on a.server.files.volume b.server.files.volume next.server.files.volume (first t) (later t)
+dest_further told a b dest_end.Away first later = tt
+dest_further told a b (dest_end.Disk disk) first later = absurd later
 
 source_on : {D M : Type 0} (told : Type 0) (a b c : SourceEnd D M) → SourceKeeps told a b → SourceKeeps told b c → SourceKeeps told a c
-source_on {D} {M} told a b c p q =
-    let same : q.was ≡ p.next = opened_source q.was p.next (sym q.was_is ∙ p.next_is) in
-    record {
-      was = p.was;
-      next = q.next;
-      was_is = p.was_is;
-      next_is = q.next_is;
-      stays = λ t. stays_on p.was.server.files.volume p.next.server.files.volume q.next.server.files.volume (p.stays t)
-          (subst (λ (h : SourceHost D M). VolumeStays h.server.files.volume q.next.server.files.volume) same (q.stays t));
-    }
+source_on {D} {M} told a b c p q = record {
+  was = p.was;
+  was_is = p.was_is;
+  leaves = source_further told p.was q.was c (subst (λ (e : SourceEnd D M). SourceLeaves told p.was e) q.was_is p.leaves) q.leaves;
+}
 
 dest_on : {D M : Type 0} (told : Type 0) (a b c : DestEnd D M) → DestKeeps told a b → DestKeeps told b c → DestKeeps told a c
-dest_on {D} {M} told a b c p q =
-    let same : q.was ≡ p.next = opened_dest q.was p.next (sym q.was_is ∙ p.next_is) in
-    record {
-      was = p.was;
-      next = q.next;
-      was_is = p.was_is;
-      next_is = q.next_is;
-      stays = λ t. stays_on p.was.server.files.volume p.next.server.files.volume q.next.server.files.volume (p.stays t)
-          (subst (λ (h : DestHost D M). VolumeStays h.server.files.volume q.next.server.files.volume) same (q.stays t));
-    }
+dest_on {D} {M} told a b c p q = record {
+  was = p.was;
+  was_is = p.was_is;
+  leaves = dest_further told p.was q.was c (subst (λ (e : DestEnd D M). DestLeaves told p.was e) q.was_is p.leaves) q.leaves;
+}
 
 pub stage_keeps_on : {D M : Type 0} (told : Type 0) (a b c : Stage D M) → StageKeeps told a b → StageKeeps told b c → StageKeeps told a c
 stage_keeps_on told a b c p q = record {

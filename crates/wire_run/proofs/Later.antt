@@ -8,7 +8,8 @@ use Rattle.nfs_base.specs.declared.side.Side.{Side}
 use Rattle.nfs_base.specs.declared.side.Side.TheVariants.{Source, Dest}
 use Rattle.wire_machine.specs.declared.choice.Choice.{Choice}
 use Rattle.wire_machine.specs.declared.choice.Choice.TheVariants.{Went, Failed}
-use Rattle.wire_run.specs.Running.{AreBlamed, Later, RunStep, either, failed_at, failed_calls, failed_steps, faults_in, has_failed_at, is_failed, peek_failed}
+use Rattle.wire_run.specs.Running.{AreBlamed, Later, either, failed_at, failed_calls, failed_steps, faults_in, has_failed_at, is_failed, peek_failed}
+use Rattle.run_ends.specs.Ends.{RunStep}
 use Rattle.wire_run.specs.Stage.{bit}
 
 rose_sum : (n m a b c : ℕ) → RoseBy n a b → RoseBy m b c → RoseBy (n + m) a c

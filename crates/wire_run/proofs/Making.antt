@@ -22,9 +22,10 @@ use Rattle.session_server.specs.declared.host.Host.{Host}
 use Rattle.source_core.specs.Core as new_source
 use Rattle.source_core.specs.declared.carried.Carried as of_source
 use Rattle.source_core.specs.declared.source.Source as made_source
-use Rattle.wire_run.specs.Fresh.{IsFreshDest, IsFreshSource, IsShort, IsUnmadeFor, Shape, Small, small_for, unformatted, unopened}
-use Rattle.wire_run.specs.Setting.{dest_name, dest_place, dest_source, source_peers, source_place}
-use Rattle.wire_run.specs.declared.setting.TheConstants.{SOURCE_TAG, DEST_TAG}
+use Rattle.run_ends.specs.First.{IsFreshDest, IsFreshSource, Shape}
+use Rattle.wire_run.specs.Fresh.{IsShort, IsUnmadeFor, Small, small_for, unformatted, unopened}
+use Rattle.run_ends.specs.Setting.{dest_name, dest_place, dest_source, source_peers, source_place}
+use Rattle.run_ends.specs.declared.setting.TheConstants.{SOURCE_TAG, DEST_TAG}
 
 -- ---- why none was made
 

@@ -12,11 +12,12 @@ use Rattle.wire_machine.specs.Lines.{lines_of}
 use Rattle.wire_machine.specs.Runs.{Numbered, Runs, Whole}
 use Rattle.wire_machine.specs.Steps.{after_steps}
 use Rattle.wire_machine.specs.declared.choice.Choice.{Choice}
-use Rattle.wire_run.specs.Ends.{SourceState}
-use Rattle.wire_run.specs.Fresh.{IsFreshDest, IsFreshSource, Shape}
-use Rattle.wire_run.specs.Run.{IsFirst, asks_for, first_small, shape_by, shape_of, shape_or}
-use Rattle.wire_run.specs.Running.{AreBlamed, Later, RunMachines, RunStep, RunWorld, Running, failed_calls, mech_of, size_in, world_by, world_in, world_of}
-use Rattle.wire_run.specs.Setting.{dest_place, source_place, user}
+use Rattle.run_ends.specs.Ends.{RunMachines, RunStep, RunWorld, SourceState}
+use Rattle.run_ends.specs.First.{IsFirst, IsFreshDest, IsFreshSource, Shape, shape_by, shape_of, shape_or}
+use Rattle.wire_run.specs.Run.{asks_for, first_small, stops_in}
+use Rattle.wire_run.specs.Running.{AreBlamed, Later, Running, failed_calls, mech_of, size_in, world_by, world_in, world_of}
+use Rattle.run_ends.specs.Setting.{dest_place, source_place, user}
+use Rattle.wire_run.proofs.RunStops.{AreArmedBy, NoneStops}
 use Rattle.wire_run.proofs.Shapes.{asks_more, shape_behind}
 use Rattle.wire_schedule.specs.Admission.{is_ready}
 
@@ -103,6 +104,9 @@ module _ {D M : Type 0} (told : Type 0) (m : RunMachines M) (read : Reading) (fa
     pub source_there : is_some now.context.source ≡ true
     pub dest_there : is_some now.context.dest ≡ true
     pub puts : told → Appends taken now_taken (lines_text (lines_of m first steps))
+    pub lines : List ℕ
+    pub appended : Appends taken now_taken lines
+    pub lines_are : told → lines ≡ lines_text (lines_of m first steps)
 
   and_no : (a : Bool) → (a && false) ≡ false
   and_no true = refl
@@ -167,12 +171,17 @@ module _ {D M : Type 0} (told : Type 0) (m : RunMachines M) (read : Reading) (fa
         source_there = source.0;
         dest_there = on_dest.0;
         puts = λ t. quiet;
+        lines = [];
+        appended = quiet;
+        lines_are = λ t. refl;
       })
 
 module _ {D M : Type 0} (told : Type 0) (m : RunMachines M) (read : Reading) (faults size : D → ℕ) where
   pub record InRun (done : List Numbered) (start now : Running D M) (taken now_taken : Option (List ℕ)) : Type 0 where
     pub steps : List (RunStep M)
     pub choices : now.choices ≡ map (λ (s : RunStep M). s.choice) steps
+    pub armed : AreArmedBy done now
+    pub asked : stops_in done ≡ false → NoneStops steps
     pub blamed : AreBlamed steps
     pub source : Later faults size (failed_calls Source steps) start.source now.source
     pub dest : Later faults size (failed_calls Dest steps) start.dest now.dest

@@ -14,7 +14,7 @@ use Rattle.wire_machine.specs.Lines.{shown}
 use Rattle.wire_machine.specs.World.{Posted, all_idle, bytes_of}
 use Rattle.wire_machine.specs.declared.choice.Choice.TheVariants.{Went}
 use Rattle.dest_core.specs.Stepping.{DestState}
-use Rattle.wire_run.specs.Ends.{SourceState, Words, machines}
+use Rattle.run_ends.specs.Ends.{SourceState, Words, machines}
 use Rattle.wire_run.specs.Running.{Later, is_failed, peek_failed}
 use Rattle.wire_run.specs.Stage.{DestPeeks, HasFileAt, IsReady, PeekIs, Peeks, SettleKeeps, SmallDone, SmallKeeps, SourcePeeks, VolumeStays, bit, bytes_lines, choice_by, dest_files, has_failed, source_files, world_at}
 use Rattle.wire_run.specs.declared.ends.DestEnd.{DestEnd}
@@ -23,9 +23,10 @@ use Rattle.wire_run.specs.declared.stage.Stage.{Stage}
 use Rattle.wire_run.specs.declared.system.Peeked.{Peeked}
 use Rattle.wire_run.specs.declared.system.Peeked.TheVariants as peeks
 use Rattle.wire_run.proofs.Comings.{later_none, one_more, same_world, size_right, world}
-use Rattle.wire_run.proofs.Keeping.{dest_still, dest_there, one_dest, one_source, same_dest, same_source, small_keeps, source_still, source_there}
+use Rattle.wire_run.proofs.Keeping.{dest_stays, dest_still, dest_there, one_dest, one_source, same_dest, same_source, small_keeps, source_stays, source_still, source_there}
 use Rattle.wire_run.proofs.Later.{blamed_one}
 use Rattle.wire_run.proofs.Lone.{rest_log}
+use Rattle.wire_run.proofs.Unstopped.{chosen_peek, made_peek, told_peek, uncut_peek}
 use Rattle.wire_schedule.specs.declared.event.Event.TheVariants as kinds
 
 -- ---- the line that is put is that of the bytes as they are
@@ -125,18 +126,21 @@ module _ {D M : Type 0} (told : Type 0) (words : Words M ℕ) (read : Reading) (
         event_is = refl;
         after_is = refl;
         is = λ t. record {
-          small = (
+          small = made_peek (machines words) (has_failed answer) (kinds.Peek Source file off len) (world_at size p.was d.core old) all_idle (world_at size p.next d.core new) (
             refl,
             same_source_world (host_of size p.next) (host_of size p.was) (host_of size d.core) new.client new.draws new.clock (length new.choices.items) new.log (p.same t)
                 ∙ same_world (host_of size p.was) (host_of size d.core) k.client k.draws k.clock (one_more old.choices.items new.choices.items _ choices)
                 (log ∙ sym (rest_log (machines words) (world_at size p.was d.core old))),
           );
-          choice = tt;
+          choice = chosen_peek (machines words) (has_failed answer) Source file off len all_idle;
         };
         right = λ t. size_right new.log k.bytes;
         lines = λ t. lines_shown told t p.was.server.files.volume.volume Source file off len zeros bytes text_old text_new answer long
-            p.is (subst (λ (e : SourceEnd D M). file < source_files e) p.was_is (has.there t)) put;
+            p.is (subst (λ (e : SourceEnd D M). file < source_files e) p.was_is (has.there t)) put
+            ∙ ap (λ (ls : List Line). text_old ++ lines_text (ls ++ [])) (sym (told_peek (machines words) (has_failed answer) (world_at size p.was d.core old)
+            (record { event = kinds.Peek Source file off len; choice = choice_by (has_failed answer); parts = all_idle; after = world_at size p.next d.core new })));
         choices = choices;
+        asked = λ at none. uncut_peek (has_failed answer) at _;
         blamed = blamed_one (record { event = kinds.Peek Source file off len; choice = choice_by (has_failed answer); parts = all_idle; after = world_at size p.next d.core new })
             (blamed_here answer file off len);
         source_later = later_bit faults size _ (has_failed answer) _ _ (peeked_here answer file off len) p.later;
@@ -162,18 +166,21 @@ module _ {D M : Type 0} (told : Type 0) (words : Words M ℕ) (read : Reading) (
         event_is = refl;
         after_is = refl;
         is = λ t. record {
-          small = (
+          small = made_peek (machines words) (has_failed answer) (kinds.Peek Dest file off len) (world_at size s.core p.was old) all_idle (world_at size s.core p.next new) (
             refl,
             same_dest_world (host_of size s.core) (host_of size p.next) (host_of size p.was) new.client new.draws new.clock (length new.choices.items) new.log (p.same t)
                 ∙ same_world (host_of size s.core) (host_of size p.was) k.client k.draws k.clock (one_more old.choices.items new.choices.items _ choices)
                 (log ∙ sym (rest_log (machines words) (world_at size s.core p.was old))),
           );
-          choice = tt;
+          choice = chosen_peek (machines words) (has_failed answer) Dest file off len all_idle;
         };
         right = λ t. size_right new.log k.bytes;
         lines = λ t. lines_shown told t p.was.server.files.volume.volume Dest file off len zeros bytes text_old text_new answer long
-            p.is (subst (λ (e : DestEnd D M). file < dest_files e) p.was_is (has.there t)) put;
+            p.is (subst (λ (e : DestEnd D M). file < dest_files e) p.was_is (has.there t)) put
+            ∙ ap (λ (ls : List Line). text_old ++ lines_text (ls ++ [])) (sym (told_peek (machines words) (has_failed answer) (world_at size s.core p.was old)
+            (record { event = kinds.Peek Dest file off len; choice = choice_by (has_failed answer); parts = all_idle; after = world_at size s.core p.next new })));
         choices = choices;
+        asked = λ at none. uncut_peek (has_failed answer) at _;
         blamed = blamed_one (record { event = kinds.Peek Dest file off len; choice = choice_by (has_failed answer); parts = all_idle; after = world_at size s.core p.next new })
             (blamed_there answer file off len);
         source_later = later_bit faults size _ false _ _ (not_here answer file off len) (later_none faults size _);
@@ -185,7 +192,7 @@ module _ {D M : Type 0} (told : Type 0) (words : Words M ℕ) (read : Reading) (
   pub source_peek_keeps : (file off : ℕ) (old new : Stage D M) (source : SourceEnd D M) (zeros bytes : List ℕ) (answer : Peeked) → IsReady old
       → SourcePeeks told faults size file off old.source source zeros bytes answer → SettleKeeps (record old { source = source }) new → SmallKeeps told old new
   source_peek_keeps file off old new source zeros bytes answer ready p k =
-      small_keeps told old new (record { was = p.was; next = p.next; was_is = p.was_is; next_is = k.source ∙ p.next_is; stays = λ t. host_stays size p.was p.next (p.same t) })
+      small_keeps told old new (source_stays told old.source new.source p.was p.next p.was_is (k.source ∙ p.next_is) (λ t. host_stays size p.was p.next (p.same t)))
       (dest_still told old.dest new.dest ready.dest k.dest) (ap (λ (c : ClientState _). c.setting) k.client) k.log k.bytes
       (one_source old.source new.source p.was p.next p.was_is (k.source ∙ p.next_is) (omega (arith, p.counted))) (same_dest old.dest new.dest k.dest)
       (omega (arith, ap (λ (c : ClientState _). c.steps) k.client)) k.choices k.flowed
@@ -194,7 +201,7 @@ module _ {D M : Type 0} (told : Type 0) (words : Words M ℕ) (read : Reading) (
       → DestPeeks told faults size file off old.dest dest zeros bytes answer → SettleKeeps (record old { dest = dest }) new → SmallKeeps told old new
   dest_peek_keeps file off old new dest zeros bytes answer ready p k =
       small_keeps told old new (source_still told old.source new.source ready.source k.source)
-      (record { was = p.was; next = p.next; was_is = p.was_is; next_is = k.dest ∙ p.next_is; stays = λ t. host_stays size p.was p.next (p.same t) })
+      (dest_stays told old.dest new.dest p.was p.next p.was_is (k.dest ∙ p.next_is) (λ t. host_stays size p.was p.next (p.same t)))
       (ap (λ (c : ClientState _). c.setting) k.client) k.log k.bytes
       (same_source old.source new.source k.source) (one_dest old.dest new.dest p.was p.next p.was_is (k.dest ∙ p.next_is) (omega (arith, p.counted)))
       (omega (arith, ap (λ (c : ClientState _). c.steps) k.client)) k.choices k.flowed

@@ -96,7 +96,7 @@ put_few read acted s none = fault_few (mistake_by read acted s) (bytes_of s.log 
 -- ---- what is kept
 
 pub kept_all : {D M : Type 0} (s : Stage D M) → bytes_of s.log ≤ most_bytes → SettleKeeps s s
-kept_all s few = record { source = refl; dest = refl; client = refl; draws = refl; clock = refl; flowed = refl; log = grows_none s.log; bytes = few; choices = omega arith }
+kept_all s few = record { source = refl; dest = refl; client = refl; draws = refl; clock = refl; flowed = refl; stops = refl; log = grows_none s.log; bytes = few; choices = omega arith }
 
 -- ---- settled
 
@@ -155,6 +155,7 @@ sent_keeps acted s log (Ok done) few ok err = record {
   draws = refl;
   clock = refl;
   flowed = refl;
+  stops = refl;
   log = (posted_by acted s, ok);
   bytes = omega (arith, ap bytes_of ok, posted_bytes acted s, few);
   choices = omega arith;
@@ -166,6 +167,7 @@ sent_keeps acted s log (Err e) few ok err = record {
   draws = refl;
   clock = refl;
   flowed = refl;
+  stops = refl;
   log = ([], err ∙ sym (append-nil s.log));
   bytes = omega (arith, ap bytes_of err, few);
   choices = omega arith;
@@ -180,6 +182,7 @@ kept_on a b c p q choices = record {
   draws = q.draws ∙ p.draws;
   clock = q.clock ∙ p.clock;
   flowed = q.flowed ∙ p.flowed;
+  stops = q.stops ∙ p.stops;
   log = grows_more a.log b.log c.log p.log q.log;
   bytes = q.bytes;
   choices = choices;

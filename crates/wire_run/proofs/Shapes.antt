@@ -9,12 +9,13 @@ use Rattle.nfs_base.specs.declared.side.Side.TheVariants.{Source, Dest}
 use Rattle.source_core.specs.Core as new_source
 use Rattle.client_core.specs.State.{new_client}
 use Rattle.wire_machine.specs.Runs.{Numbered}
-use Rattle.wire_run.specs.Ends.{SourceState}
-use Rattle.wire_run.specs.Fresh.{IsFreshDest, IsFreshSource, Shape, Small, event_small}
-use Rattle.wire_run.specs.Run.{IsFirst, asks_for, first_small, shape_by, shape_of, shape_or}
-use Rattle.wire_run.specs.Running.{RunWorld, world_of}
-use Rattle.wire_run.specs.Setting.{dest_name, dest_place, dest_source, source_peers, source_place, user}
-use Rattle.wire_run.specs.declared.setting.TheConstants.{SOURCE_TAG, DEST_TAG}
+use Rattle.run_ends.specs.Ends.{RunWorld, SourceState}
+use Rattle.run_ends.specs.First.{IsFirst, IsFreshDest, IsFreshSource, Shape, shape_by, shape_of, shape_or}
+use Rattle.wire_run.specs.Fresh.{Small, event_small}
+use Rattle.wire_run.specs.Run.{asks_for, first_small}
+use Rattle.wire_run.specs.Running.{world_of}
+use Rattle.run_ends.specs.Setting.{dest_name, dest_place, dest_source, source_peers, source_place, user}
+use Rattle.run_ends.specs.declared.setting.TheConstants.{SOURCE_TAG, DEST_TAG}
 
 -- ---- servers that were just opened
 

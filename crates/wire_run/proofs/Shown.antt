@@ -4,11 +4,12 @@ use Rattle.std.proofs.lemmas.Bool.{cases_lt}
 use Rattle.std.specs.Option.{option_map_or}
 use Rattle.std.specs.Prelude.{IfSome, is_some}
 use Rattle.copy_model.specs.Volume.{Volume, bytes_at, file_at}
+use Rattle.disk_model.specs.declared.fuse.Fuse.{Fuse}
 use Rattle.nfs_base.specs.declared.side.Side.{Side}
 use Rattle.nfs_base.specs.declared.side.Side.TheVariants.{Source, Dest}
 use Rattle.outcome.specs.Causes.{Rose, RoseBy}
 use Rattle.dest_core.specs.Stepping.{DestState}
-use Rattle.wire_run.specs.Ends.{SourceState}
+use Rattle.run_ends.specs.Ends.{SourceState}
 use Rattle.wire_run.specs.Running.{HasDisks, Later, Running, disk_of, faults_in, size_in}
 use Rattle.wire_run.specs.Stage.{DestPeeks, DestSized, HasFileAt, IsOpenAt, IsSizedAt, PeekIs, Peeks, SourcePeeks, SourceSized, bit, dest_disk, dest_files, has_failed, is_shown, source_disk, source_files}
 use Rattle.wire_run.specs.System.{HasFile, IsShown, IsSized, IsSound, IsUnread, dest_state, is_broken, running_of, shown_at, source_state, with_disk}
@@ -173,15 +174,15 @@ dest_sized size file n source (dest_end.Disk disk) there is = tt
 
 -- ---- of a system as contracts see it
 
-module _ {D M : Type 0} (told : Type 0) (size : D → ℕ) (file : ℕ) (context : Context) (mech : M) (s : Stage D M) (r : Running D M)
-    (sound : IsSound told context mech s) (seen : running_of size context s ≡ r) where
+module _ {D M : Type 0} (told : Type 0) (size : D → ℕ) (fuse : D → Fuse) (file : ℕ) (context : Context) (mech : M) (s : Stage D M) (r : Running D M)
+    (sound : IsSound told size fuse context mech s) (seen : running_of size context s ≡ r) where
   pub is_open : (side : Side) → HasFile r.context side file → HasDisks r → IsOpenAt side s
   is_open side has disks =
-      open_at told size context mech s sound side file (subst HasDisks (sym seen) disks) (subst (λ (x : Running D M). HasFile x.context side file) (sym seen) has)
+      open_at told size fuse context mech s sound side file (subst HasDisks (sym seen) disks) (subst (λ (x : Running D M). HasFile x.context side file) (sym seen) has)
 
   has_at : (side : Side) → HasFile r.context side file → HasDisks r → HasFileAt told side file s
   has_at side has disks =
-      has_there told size context mech s sound side file (is_open side has disks) (subst (λ (x : Running D M). HasFile x.context side file) (sym seen) has)
+      has_there told size fuse context mech s sound side file (is_open side has disks) (subst (λ (x : Running D M). HasFile x.context side file) (sym seen) has)
 
   sized_in : (side : Side) (n : ℕ) → HasFileAt told side file s → IsSizedAt side file s n → told → IsSized (running_of size context s) side file n
   sized_in Source n has is t = source_sized size file n s.source (dest_state size s.dest) (has.there t) is
@@ -196,9 +197,9 @@ module _ {D M : Type 0} (told : Type 0) (faults size : D → ℕ) (file off : �
   says_by Source context s new has q = source_says told faults size file off bytes_old bytes_new answer context s new has q
   says_by Dest context s new has q = dest_says told faults size file off bytes_old bytes_new answer context s new has q
 
-  pub says : (context : Context) (mech : M) (s new : Stage D M) (r : Running D M) → IsSound told context mech s → running_of size context s ≡ r
+  pub says : (fuse : D → Fuse) (context : Context) (mech : M) (s new : Stage D M) (r : Running D M) → IsSound told size fuse context mech s → running_of size context s ≡ r
       → (side : Side) → HasFile r.context side file → HasDisks r → Peeks told faults size side file off s new bytes_old bytes_new answer
       → Says told faults size side file off r (running_of size context new) bytes_old bytes_new answer
-  says context mech s new r sound seen side has disks q =
+  says fuse context mech s new r sound seen side has disks q =
       subst (λ (x : Running D M). Says told faults size side file off x (running_of size context new) bytes_old bytes_new answer) seen
-      (says_by side context s new (has_at told size file context mech s r sound seen side has disks) q)
+      (says_by side context s new (has_at told size fuse file context mech s r sound seen side has disks) q)

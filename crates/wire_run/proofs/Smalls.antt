@@ -12,16 +12,19 @@ use Rattle.wire_machine.specs.Ends.{ClientAct}
 use Rattle.wire_machine.specs.Lines.{notes_of, own_lines, records_of, unsent}
 use Rattle.wire_machine.specs.Runs as runs
 use Rattle.wire_machine.specs.Runs.{fault_by, fault_of}
+use Rattle.wire_machine.specs.StepLaws.{small_made}
 use Rattle.wire_machine.specs.Steps.{Arrives, ClientDoes, IsChoice, IsDelivered, IsSmall, any_failed, choice_of, command_of}
 use Rattle.wire_machine.specs.World.{Parts, Posted, bytes_of, marked, posted_at}
 use Rattle.wire_machine.specs.declared.choice.Choice.{Choice}
 use Rattle.wire_machine.specs.declared.mistake.Mistake.{Mistake}
 use Rattle.wire_machine.specs.declared.port.Port.{Port}
-use Rattle.wire_run.specs.Running.{Later, RunMachines, RunStep, RunWorld, either, peek_failed}
+use Rattle.wire_run.specs.Running.{Later, either, peek_failed}
+use Rattle.run_ends.specs.Ends.{RunMachines, RunStep, RunWorld}
 use Rattle.wire_run.specs.Stage.{Comes, HandsOver, SmallIs, bit, marked_at, world_at}
 use Rattle.wire_run.specs.declared.stage.Stage.{Stage}
 use Rattle.wire_run.proofs.Later.{bits_either, blamed_one}
 use Rattle.wire_run.proofs.Logs.{got_marked, length_marked, mistake_in_marked}
+use Rattle.wire_run.proofs.Unstopped.{chosen, told_small, uncut}
 use Rattle.wire_schedule.specs.declared.event.Event.{Event}
 use Rattle.wire_schedule.specs.declared.event.Event.TheVariants as kinds
 
@@ -52,7 +55,7 @@ pub record IsQuiet {M : Type 0} (m : RunMachines M) (event : Event) : Type 0 whe
   pub lines : (w : RunWorld M) (choice : Choice) → own_lines m w event choice ≡ []
   pub no_peek : (side : Side) (choice : Choice) → peek_failed side event choice ≡ false
 
-later_as : {D : Type 0} (faults size : D → ℕ) (failed : Bool) (peeked : Bool) (d e : D) → peeked ≡ false
+pub later_as : {D : Type 0} (faults size : D → ℕ) (failed : Bool) (peeked : Bool) (d e : D) → peeked ≡ false
     → Later faults size (bit failed) (Some d) (Some e) → Later faults size (bit (either failed peeked)) (Some d) (Some e)
 later_as {D = D} faults size failed peeked d e none l =
     subst (λ (b : Bool). Later faults size (bit b) (Some d) (Some e)) (sym (ap (λ (b : Bool). either failed b) none ∙ either_false failed)) l
@@ -77,10 +80,13 @@ module _ {D M : Type 0} (told : Type 0) (m : RunMachines M) (read : Reading) (fa
     step = step_made event c.parts (world_at size c.source_next c.dest_next new);
     event_is = refl;
     after_is = refl;
-    is = λ t. record { small = fits _ _ _ (c.is t); choice = quiet.chooses c.parts };
+    is = λ t. record { small = small_made m (choice_of c.parts) event (world_at size c.source c.dest old) c.parts _ refl (fits _ _ _ (c.is t)); choice = quiet.chooses c.parts };
     right = c.right;
-    lines = λ t. c.lines ∙ ap (λ (ls : List Line). text_old ++ lines_text (ls ++ (notes_of c.parts ++ records_of (length old.log) c.parts))) (sym (quiet.lines (world_at size c.source c.dest old) (choice_of c.parts)));
+    lines = λ t. c.lines ∙ ap (λ (ls : List Line). text_old ++ lines_text (ls ++ (notes_of c.parts ++ records_of (length old.log) c.parts)))
+        (sym (told_small m c.parts (world_at size c.source c.dest old) (step_made event c.parts (world_at size c.source_next c.dest_next new))
+        ∙ quiet.lines (world_at size c.source c.dest old) (choice_of c.parts)));
     choices = c.choices;
+    asked = λ side none. uncut c.parts side _;
     blamed = blamed_one (step_made event c.parts (world_at size c.source_next c.dest_next new))
         (bits_either (any_failed c.parts.source.out.used) (any_failed c.parts.dest.out.used)
         (peek_failed Source event (choice_of c.parts)) (peek_failed Dest event (choice_of c.parts)));
@@ -98,7 +104,7 @@ module _ {D M : Type 0} (told : Type 0) (m : RunMachines M) (read : Reading) (fa
     dest_next_is = c.dest_next_is;
     step = step_made event c.parts c.after;
     event_is = refl;
-    is = λ t. record { small = fits _ _ _ (c.is t); choice = quiet.chooses c.parts };
+    is = λ t. record { small = small_made m (choice_of c.parts) event (world_at size c.source c.dest old) c.parts _ refl (fits _ _ _ (c.is t)); choice = quiet.chooses c.parts };
     fault_is = c.fault_is;
     text = c.text;
     choices = c.choices;
@@ -109,10 +115,12 @@ module _ {D M : Type 0} (told : Type 0) (m : RunMachines M) (read : Reading) (fa
   -- ---- a worker's step and a look at the clock
 
   pub quiet_work : (worker : ℕ) → IsQuiet m (kinds.Work worker)
-  quiet_work worker = record { chooses = λ parts. refl; lines = λ w choice. refl; no_peek = λ side choice. refl }
+  quiet_work worker =
+      record { chooses = λ parts. chosen m (kinds.Work worker) parts (λ is. is) (λ is. is); lines = λ w choice. refl; no_peek = λ side choice. refl }
 
   pub quiet_tick : (seconds : ℕ) → IsQuiet m (kinds.Tick seconds)
-  quiet_tick seconds = record { chooses = λ parts. refl; lines = λ w choice. refl; no_peek = λ side choice. refl }
+  quiet_tick seconds =
+      record { chooses = λ parts. chosen m (kinds.Tick seconds) parts (λ is. is) (λ is. is); lines = λ w choice. refl; no_peek = λ side choice. refl }
 
   -- ---- a command of the client
 
@@ -120,18 +128,26 @@ module _ {D M : Type 0} (told : Type 0) (m : RunMachines M) (read : Reading) (fa
   Commands event before parts after = IfSome (command_of event) (λ (act : ClientAct). ClientDoes m act None before parts after)
 
   pub quiet_command : (event : Event) → IsSome (command_of event) → IsQuiet m event
-  quiet_command (kinds.Write side file off bytes) there = record { chooses = λ parts. refl; lines = λ w choice. refl; no_peek = λ side choice. refl }
-  quiet_command (kinds.Commit side file) there = record { chooses = λ parts. refl; lines = λ w choice. refl; no_peek = λ side choice. refl }
-  quiet_command (kinds.Copy copy spec) there = record { chooses = λ parts. refl; lines = λ w choice. refl; no_peek = λ side choice. refl }
-  quiet_command (kinds.Status copy) there = record { chooses = λ parts. refl; lines = λ w choice. refl; no_peek = λ side choice. refl }
-  quiet_command (kinds.Cancel copy) there = record { chooses = λ parts. refl; lines = λ w choice. refl; no_peek = λ side choice. refl }
-  quiet_command kinds.Retry there = record { chooses = λ parts. refl; lines = λ w choice. refl; no_peek = λ side choice. refl }
+  quiet_command (kinds.Write side file off bytes) there =
+      record { chooses = λ parts. chosen m (kinds.Write side file off bytes) parts (λ is. is) (λ is. is); lines = λ w choice. refl; no_peek = λ side choice. refl }
+  quiet_command (kinds.Commit side file) there =
+      record { chooses = λ parts. chosen m (kinds.Commit side file) parts (λ is. is) (λ is. is); lines = λ w choice. refl; no_peek = λ side choice. refl }
+  quiet_command (kinds.Copy copy spec) there =
+      record { chooses = λ parts. chosen m (kinds.Copy copy spec) parts (λ is. is) (λ is. is); lines = λ w choice. refl; no_peek = λ side choice. refl }
+  quiet_command (kinds.Status copy) there =
+      record { chooses = λ parts. chosen m (kinds.Status copy) parts (λ is. is) (λ is. is); lines = λ w choice. refl; no_peek = λ side choice. refl }
+  quiet_command (kinds.Cancel copy) there =
+      record { chooses = λ parts. chosen m (kinds.Cancel copy) parts (λ is. is) (λ is. is); lines = λ w choice. refl; no_peek = λ side choice. refl }
+  quiet_command kinds.Retry there =
+      record { chooses = λ parts. chosen m kinds.Retry parts (λ is. is) (λ is. is); lines = λ w choice. refl; no_peek = λ side choice. refl }
   quiet_command (kinds.Volume side files blocks) there = absurd (no_some there)
   quiet_command (kinds.Deliver number) there = absurd (no_some there)
   quiet_command kinds.Flow there = absurd (no_some there)
   quiet_command (kinds.Work worker) there = absurd (no_some there)
   quiet_command (kinds.Tick seconds) there = absurd (no_some there)
   quiet_command (kinds.Peek side file off len) there = absurd (no_some there)
+  quiet_command (kinds.Crash side pick) there = absurd (no_some there)
+  quiet_command (kinds.CrashAfter side calls pick) there = absurd (no_some there)
 
   pub command_fits : (event : Event) → IsSome (command_of event) → (before : RunWorld M) (parts : Parts) (after : RunWorld M)
       → Commands event before parts after → IsSmall m event before parts after
@@ -147,6 +163,8 @@ module _ {D M : Type 0} (told : Type 0) (m : RunMachines M) (read : Reading) (fa
   command_fits (kinds.Work worker) there before parts after c = absurd (no_some there)
   command_fits (kinds.Tick seconds) there before parts after c = absurd (no_some there)
   command_fits (kinds.Peek side file off len) there before parts after c = absurd (no_some there)
+  command_fits (kinds.Crash side pick) there before parts after c = absurd (no_some there)
+  command_fits (kinds.CrashAfter side calls pick) there before parts after c = absurd (no_some there)
 
   -- ---- a record that is delivered
 
@@ -182,11 +200,18 @@ module _ {D M : Type 0} (told : Type 0) (m : RunMachines M) (read : Reading) (fa
         step = step_made (kinds.Deliver number) c.parts (world_at size c.source_next c.dest_next new);
         event_is = refl;
         after_is = refl;
-        is = λ t. record { small = delivered_by number r (world_at size c.source c.dest old) c.parts _ is (c.is t); choice = refl };
+        is = λ t. record {
+          small = small_made m (choice_of c.parts) (kinds.Deliver number) (world_at size c.source c.dest old) c.parts _ refl
+              (delivered_by number r (world_at size c.source c.dest old) c.parts _ is (c.is t));
+          choice = chosen m (kinds.Deliver number) c.parts (λ is. is) (λ is. is);
+        };
         right = λ t. ap (λ (o : Option Mistake). fault_by o (bytes_of new.log)) (sym (mistake_of_marked number (world_at size c.source c.dest old) c.parts)) ∙ c.right t;
         lines = λ t. c.lines ∙ ap (λ (n : ℕ). text_old ++ lines_text (notes_of c.parts ++ records_of n c.parts)) (length_marked number old.log)
-            ∙ ap (λ (ls : List Line). text_old ++ lines_text (ls ++ (notes_of c.parts ++ records_of (length old.log) c.parts))) (sym (ap (unsent number) is));
+            ∙ ap (λ (ls : List Line). text_old ++ lines_text (ls ++ (notes_of c.parts ++ records_of (length old.log) c.parts)))
+            (sym (told_small m c.parts (world_at size c.source c.dest old) (step_made (kinds.Deliver number) c.parts (world_at size c.source_next c.dest_next new))
+            ∙ ap (unsent number) is));
         choices = c.choices;
+        asked = λ side none. uncut c.parts side _;
         blamed = blamed_one (step_made (kinds.Deliver number) c.parts (world_at size c.source_next c.dest_next new))
             (bits_either (any_failed c.parts.source.out.used) (any_failed c.parts.dest.out.used) false false);
         source_later = later_as faults size _ _ _ _ refl c.source_later;
@@ -203,7 +228,11 @@ module _ {D M : Type 0} (told : Type 0) (m : RunMachines M) (read : Reading) (fa
     dest_next_is = c.dest_next_is;
     step = step_made (kinds.Deliver number) c.parts c.after;
     event_is = refl;
-    is = λ t. record { small = delivered_by number r (world_at size c.source c.dest old) c.parts _ is (c.is t); choice = refl };
+    is = λ t. record {
+      small = small_made m (choice_of c.parts) (kinds.Deliver number) (world_at size c.source c.dest old) c.parts _ refl
+          (delivered_by number r (world_at size c.source c.dest old) c.parts _ is (c.is t));
+      choice = chosen m (kinds.Deliver number) c.parts (λ is. is) (λ is. is);
+    };
     fault_is = λ t. ap (λ (o : Option Mistake). fault_by o (bytes_of c.after.log)) (sym (mistake_of_marked number (world_at size c.source c.dest old) c.parts)) ∙ c.fault_is t;
     text = c.text;
     choices = c.choices;

@@ -4,17 +4,20 @@ use Rattle.std.specs.Option.{option_map_or}
 use Rattle.std.specs.Prelude.{◌&&◌, is_some, nat_le, nat_lt, not}
 use Rattle.std.proofs.lemmas.Bool.{le-leb, leb-true, ltb-true}
 use Rattle.client_steps.specs.declared.setting.Setting.{Setting}
+use Rattle.disk_model.specs.declared.fuse.Fuse.{Fuse}
 use Rattle.nfs_base.specs.declared.side.Side.{Side}
 use Rattle.nfs_base.specs.declared.side.Side.TheVariants.{Source, Dest}
-use Rattle.wire_run.specs.Ends.{is_worker}
+use Rattle.run_ends.specs.Ends.{is_worker}
 use Rattle.wire_run.specs.Running.{HasDisks}
-use Rattle.wire_run.specs.Stage.{AllDelivered, BeginsNone, BeginsOnly, DestHost, DestKeeps, FlowKeeps, HasFileAt, HasFileBelow, IsBelow, IsDestOpen, IsFair, IsFit, IsFlowing, IsOpenAt, IsReady, IsSourceOpen, SmallKeeps, SourceHost, SourceKeeps, VolumeStays, begun_in, dest_disk, dest_files, source_disk, source_files}
+use Rattle.wire_run.specs.Stage.{AllDelivered, BeginsNone, BeginsOnly, DestHost, DestKeeps, FlowKeeps, HasFileAt, HasFileBelow, IsBelow, IsDestOpen, IsFair, IsFit, IsFlowing, IsOpenAt, IsReady, IsSourceOpen, SmallKeeps, DestLeaves, FlowKeepsStops, SourceHost, SourceKeeps, SourceLeaves, VolumeKeeps, begun_in, dest_disk, dest_files, source_disk, source_files}
 use Rattle.wire_run.specs.System.{DestFits, IsSingle, IsSound, SourceFits, running_of}
+use Rattle.wire_run.specs.Watching.{AreNumbered, KeepsStops, sets_in}
 use Rattle.wire_run.specs.declared.ends.DestEnd.{DestEnd}
 use Rattle.wire_run.specs.declared.ends.DestEnd.TheVariants as dest_end
 use Rattle.wire_run.specs.declared.ends.SourceEnd.{SourceEnd}
 use Rattle.wire_run.specs.declared.ends.SourceEnd.TheVariants as source_end
 use Rattle.wire_run.specs.declared.stage.Stage.{Stage}
+use Rattle.wire_run.proofs.SystemStops.{numbered_more}
 use Rattle.wire_schedule.specs.Admission.{admits, after, has_begun, has_file, is_between, is_in_order, is_ready, is_within, most_copies, most_events, most_workers}
 use Rattle.wire_schedule.specs.declared.context.Context.{Context}
 use Rattle.wire_schedule.specs.declared.event.Event.{Event}
@@ -101,13 +104,15 @@ is_served context (kinds.Deliver number) single may = ordered context (kinds.Del
 is_served context (kinds.Work worker) single may = ordered context (kinds.Work worker) may
 is_served context (kinds.Tick seconds) single may = ordered context (kinds.Tick seconds) may
 is_served context (kinds.Peek side file off len) single may = (both _ _ (ordered context (kinds.Peek side file off len) may)).0
+is_served context (kinds.Crash side pick) single may = ordered context (kinds.Crash side pick) may
+is_served context (kinds.CrashAfter side calls pick) single may = ordered context (kinds.CrashAfter side calls pick) may
 is_served context (kinds.Volume side files blocks) single may = absurd single
 is_served context kinds.Flow single may = absurd single
 
 pub is_served_flow : (context : Context) → admits context kinds.Flow ≡ true → is_ready context ≡ true
 is_served_flow context may = ordered context kinds.Flow may
 
-module _ {D M : Type 0} (told : Type 0) (size : D → ℕ) (context : Context) (mech : M) (s : Stage D M) (sound : IsSound told context mech s) where
+module _ {D M : Type 0} (told : Type 0) (size : D → ℕ) (fuse : D → Fuse) (context : Context) (mech : M) (s : Stage D M) (sound : IsSound told size fuse context mech s) where
   pub ready : HasDisks (running_of size context s) → is_ready context ≡ true → IsReady s
   ready disks there =
       let t = both (is_some context.source) (is_some context.dest) there in
@@ -117,7 +122,7 @@ module _ {D M : Type 0} (told : Type 0) (size : D → ℕ) (context : Context) (
       }
 
   -- so many events are few
-  pub fair : IsReady s → IsFair s
+  pub fair : IsReady s → IsFair told size fuse s
   fair opened = record {
     ready = opened;
     below = record {
@@ -128,9 +133,11 @@ module _ {D M : Type 0} (told : Type 0) (size : D → ℕ) (context : Context) (
     };
     bytes = sound.bytes;
     clock = omega (arith, sound.clock_is, sound.events);
+    watched = sound.watched;
+    numbered = numbered_more told (context.events + s.flowed) 67108862 s (omega (arith, sound.few, sound.events)) sound.opened;
   }
 
-  pub flowing : IsReady s → IsFlowing s
+  pub flowing : IsReady s → IsFlowing told size fuse s
   flowing opened = record {
     ready = opened;
     below = record {
@@ -139,6 +146,8 @@ module _ {D M : Type 0} (told : Type 0) (size : D → ℕ) (context : Context) (
       client = omega (arith, sound.below.client, sound.events);
       choices = omega (arith, sound.below.choices, sound.events);
     };
+    watched = sound.watched;
+    numbered = numbered_more told (context.events + s.flowed) (1000000 + s.flowed) s (omega (arith, sound.events)) sound.opened;
     bytes = sound.bytes;
     clock = omega (arith, sound.clock_is, sound.events);
     within = sound.within;
@@ -188,20 +197,26 @@ module _ {D M : Type 0} (told : Type 0) (size : D → ℕ) (context : Context) (
   fits (kinds.Status copy) single opened may = record { there = refl; new = tt; short = omega arith }
   fits (kinds.Cancel copy) single opened may = record { there = refl; new = tt; short = omega arith }
   fits kinds.Retry single opened may = record { there = refl; new = tt; short = omega arith }
+  fits (kinds.Crash side pick) single opened may = tt
+  fits (kinds.CrashAfter side calls pick) single opened may = tt
   fits (kinds.Volume side files blocks) single opened may = absurd single
   fits kinds.Flow single opened may = absurd single
 
 -- ---- what holds afterwards
 
-fits_source : {D M : Type 0} (told : Type 0) (files : Option ℕ) (was next : SourceHost D M) → (told → VolumeStays was.server.files.volume next.server.files.volume)
-    → SourceFits told files (source_end.Open was) → SourceFits told files (source_end.Open next)
-fits_source told None was next stays fits = absurd fits
-fits_source told (Some n) was next stays fits = λ t. ((stays t).files ∙ (fits t).0, (stays t).tag ∙ (fits t).1)
+fits_source : {D M : Type 0} (told : Type 0) (files : Option ℕ) (was : SourceHost D M) (new : SourceEnd D M) → SourceLeaves told was new
+    → SourceFits told files (source_end.Open was) → SourceFits told files new
+fits_source told None was new leaves fits = absurd fits
+fits_source told (Some n) was (source_end.Open next) leaves fits = λ t. ((leaves t).files ∙ (fits t).0, (leaves t).tag ∙ (fits t).1)
+fits_source told (Some n) was source_end.Away leaves fits = tt
+fits_source told (Some n) was (source_end.Disk disk) leaves fits = absurd leaves
 
-fits_dest : {D M : Type 0} (told : Type 0) (files : Option ℕ) (was next : DestHost D M) → (told → VolumeStays was.server.files.volume next.server.files.volume)
-    → DestFits told files (dest_end.Open was) → DestFits told files (dest_end.Open next)
-fits_dest told None was next stays fits = absurd fits
-fits_dest told (Some n) was next stays fits = λ t. ((stays t).files ∙ (fits t).0, (stays t).tag ∙ (fits t).1)
+fits_dest : {D M : Type 0} (told : Type 0) (files : Option ℕ) (was : DestHost D M) (new : DestEnd D M) → DestLeaves told was new
+    → DestFits told files (dest_end.Open was) → DestFits told files new
+fits_dest told None was new leaves fits = absurd fits
+fits_dest told (Some n) was (dest_end.Open next) leaves fits = λ t. ((leaves t).files ∙ (fits t).0, (leaves t).tag ∙ (fits t).1)
+fits_dest told (Some n) was dest_end.Away leaves fits = tt
+fits_dest told (Some n) was (dest_end.Disk disk) leaves fits = absurd leaves
 
 below_at : {D M : Type 0} (n k : ℕ) (s : Stage D M) → n ≡ k → IsBelow n s → IsBelow k s
 below_at n k s e b = subst (λ (i : ℕ). IsBelow i s) e b
@@ -223,14 +238,10 @@ copy_unbegun context copy j long is none =
     (ap (λ (b : Bool). nat_le j most_copies && b) (sym (get_or-set_other context.begun copy j true false (λ e. other (sym e)))) ∙ none, λ e. other (one_some copy j e))
 
 pub source_fits_on : {D M : Type 0} (told : Type 0) (files : Option ℕ) (old new : SourceEnd D M) → SourceKeeps told old new → SourceFits told files old → SourceFits told files new
-source_fits_on {D} {M} told files old new k fits =
-    subst (λ (e : SourceEnd D M). SourceFits told files e) (sym k.next_is)
-    (fits_source told files k.was k.next k.stays (subst (λ (e : SourceEnd D M). SourceFits told files e) k.was_is fits))
+source_fits_on {D} {M} told files old new k fits = fits_source told files k.was new k.leaves (subst (λ (e : SourceEnd D M). SourceFits told files e) k.was_is fits)
 
 pub dest_fits_on : {D M : Type 0} (told : Type 0) (files : Option ℕ) (old new : DestEnd D M) → DestKeeps told old new → DestFits told files old → DestFits told files new
-dest_fits_on {D} {M} told files old new k fits =
-    subst (λ (e : DestEnd D M). DestFits told files e) (sym k.next_is)
-    (fits_dest told files k.was k.next k.stays (subst (λ (e : DestEnd D M). DestFits told files e) k.was_is fits))
+dest_fits_on {D} {M} told files old new k fits = fits_dest told files k.was new k.leaves (subst (λ (e : DestEnd D M). DestFits told files e) k.was_is fits)
 
 -- a copy that wasn't begun before an event, and isn't begun in it, isn't begun after it
 still_unbegun : (context : Context) (event : Event) (j : ℕ) → IsSingle event → length context.begun ≡ most_copies + 1 → admits context event ≡ true
@@ -245,6 +256,8 @@ still_unbegun context (kinds.Deliver number) j single long may none = (none, λ 
 still_unbegun context (kinds.Work worker) j single long may none = (none, λ e. cc)
 still_unbegun context (kinds.Tick seconds) j single long may none = (none, λ e. cc)
 still_unbegun context (kinds.Peek side file off len) j single long may none = (none, λ e. cc)
+still_unbegun context (kinds.Crash side pick) j single long may none = (none, λ e. cc)
+still_unbegun context (kinds.CrashAfter side calls pick) j single long may none = (none, λ e. cc)
 still_unbegun context (kinds.Volume side files blocks) j single long may none = absurd single
 still_unbegun context kinds.Flow j single long may none = absurd single
 
@@ -263,6 +276,8 @@ numbered_on context kinds.Flow = refl
 numbered_on context (kinds.Work worker) = refl
 numbered_on context (kinds.Tick seconds) = refl
 numbered_on context (kinds.Peek side file off len) = refl
+numbered_on context (kinds.Crash side pick) = refl
+numbered_on context (kinds.CrashAfter side calls pick) = refl
 
 source_on : (context : Context) (event : Event) → IsSingle event → (after context event).source ≡ context.source
 source_on context (kinds.Volume side files blocks) single = absurd single
@@ -277,6 +292,8 @@ source_on context (kinds.Deliver number) single = refl
 source_on context (kinds.Work worker) single = refl
 source_on context (kinds.Tick seconds) single = refl
 source_on context (kinds.Peek side file off len) single = refl
+source_on context (kinds.Crash side pick) single = refl
+source_on context (kinds.CrashAfter side calls pick) single = refl
 
 dest_on : (context : Context) (event : Event) → IsSingle event → (after context event).dest ≡ context.dest
 dest_on context (kinds.Volume side files blocks) single = absurd single
@@ -291,17 +308,21 @@ dest_on context (kinds.Deliver number) single = refl
 dest_on context (kinds.Work worker) single = refl
 dest_on context (kinds.Tick seconds) single = refl
 dest_on context (kinds.Peek side file off len) single = refl
+dest_on context (kinds.Crash side pick) single = refl
+dest_on context (kinds.CrashAfter side calls pick) single = refl
 
-pub sound_once : {D M : Type 0} (told : Type 0) (context : Context) (mech : M) (event : Event) (old new : Stage D M) → IsSound told context mech old → IsSingle event
-    → admits context event ≡ true → SmallKeeps told old new → BeginsOnly (begun_in event) old.client new.client → new.clock ≤ old.clock + 1000000
-    → IsSound told (after context event) mech new
-sound_once told context mech event old new sound single may k begun clock = record {
+pub sound_once : {D M : Type 0} (told : Type 0) (size : D → ℕ) (fuse : D → Fuse) (context : Context) (mech : M) (event : Event) (old new : Stage D M)
+    → IsSound told size fuse context mech old → IsSingle event → admits context event ≡ true → SmallKeeps told old new → KeepsStops told size fuse (sets_in event) old new
+    → BeginsOnly (begun_in event) old.client new.client → new.clock ≤ old.clock + 1000000 → IsSound told size fuse (after context event) mech new
+sound_once told size fuse context mech event old new sound single may k stops begun clock = record {
   source_fits = subst (λ (files : Option ℕ). SourceFits told files new.source) (sym (source_on context event single)) (source_fits_on told context.source old.source new.source k.keeps.source sound.source_fits);
   dest_fits = subst (λ (files : Option ℕ). DestFits told files new.dest) (sym (dest_on context event single)) (dest_fits_on told context.dest old.dest new.dest k.keeps.dest sound.dest_fits);
   mech_is = ap (λ (s : Setting _). s.mech) k.keeps.setting ∙ sound.mech_is;
   events = one_event context event may;
   numbered = numbered_on context event ∙ sound.numbered;
   below = below_at _ _ new (omega (arith, k.flowed)) (k.below (context.events + old.flowed) sound.below);
+  watched = stops.watched;
+  opened = numbered_more told (context.events + old.flowed + 1) (context.events + 1 + new.flowed) new (omega (arith, k.flowed)) (stops.numbered (context.events + old.flowed) sound.opened);
   clock_is = omega (arith, clock, sound.clock_is);
   bytes = k.keeps.bytes;
   within = omega (arith, k.flowed, sound.within, k.keeps.log.longer);
@@ -310,20 +331,22 @@ sound_once told context mech event old new sound single may k begun clock = reco
   unbegun = λ j none. let u = still_unbegun context event j single sound.numbered may none in begun j u.1 (sound.unbegun j u.0);
 }
 
-pub sound_flow : {D M : Type 0} (told : Type 0) (context : Context) (mech : M) (old new : Stage D M) → IsSound told context mech old
-    → admits context kinds.Flow ≡ true → FlowKeeps told old new → BeginsNone old.client new.client
-    → IsSound told (after context kinds.Flow) mech new
-sound_flow told context mech old new sound may k begun = record {
+pub sound_flow : {D M : Type 0} (told : Type 0) (size : D → ℕ) (fuse : D → Fuse) (context : Context) (mech : M) (old new : Stage D M)
+    → IsSound told size fuse context mech old → admits context kinds.Flow ≡ true → FlowKeeps told old new → FlowKeepsStops told size fuse old new
+    → BeginsNone old.client new.client → IsSound told size fuse (after context kinds.Flow) mech new
+sound_flow told size fuse context mech old new sound may k stops begun = record {
   source_fits = source_fits_on told context.source old.source new.source k.keeps.source sound.source_fits;
   dest_fits = dest_fits_on told context.dest old.dest new.dest k.keeps.dest sound.dest_fits;
   mech_is = ap (λ (s : Setting _). s.mech) k.keeps.setting ∙ sound.mech_is;
   events = one_event context kinds.Flow may;
   numbered = sound.numbered;
   below = below_more _ _ new (omega arith) (k.below context.events sound.below);
+  watched = stops.watched;
+  opened = numbered_more told (context.events + new.flowed) (context.events + 1 + new.flowed) new (omega arith) (stops.numbered context.events sound.opened);
   clock_is = omega (arith, k.clock, sound.clock_is);
   bytes = k.keeps.bytes;
-  within = k.flowing.within;
-  few = k.flowing.few;
-  delivered = k.flowing.delivered;
+  within = k.within;
+  few = k.few;
+  delivered = k.delivered;
   unbegun = λ j none. begun j (sound.unbegun j none);
 }

@@ -5,7 +5,8 @@ use Rattle.streams.specs.Stream.{Taking}
 use Rattle.wire_machine.specs.Check.{Reading}
 use Rattle.wire_machine.specs.Runs.{Numbered, events_in, numbered}
 use Rattle.wire_run.specs.Run.{RanOut}
-use Rattle.wire_run.specs.Running.{HasDisks, RunMachines, Running, context_after, mech_of}
+use Rattle.wire_run.specs.Running.{HasDisks, Running, context_after, mech_of}
+use Rattle.run_ends.specs.Ends.{RunMachines}
 use Rattle.wire_run.specs.Trace.{GoesOn, Happen, Happens, IsCut, PutsLines, events_at}
 use Rattle.wire_run.specs.declared.run.Ran.{Ran}
 use Rattle.wire_run.specs.declared.run.Ran.TheVariants as ran
@@ -104,12 +105,14 @@ module _ {D M : Type 0} (told : Type 0) (m : RunMachines M) (read : Reading) (fa
   context_of context line event (stepped.OverLimit text) before now puts = refl
   context_of context line event (stepped.Mistaken text mistake) before now puts = refl
   context_of context line event (stepped.Unmade cause) before now puts = absurd (none_some (ran.Unmade cause) puts.1)
+  context_of context line event (stepped.Lost side cause) before now puts = absurd (none_some (ran.Lost cause) puts.1)
 
   lines_later : (line : ℕ) (became : Stepped) (before now : Taking) (result : Option Ran) → PutsLines line became before now result → before.faults ≤ now.faults
   lines_later line (stepped.Went text) before now result puts = puts.later
   lines_later line (stepped.OverLimit text) before now result puts = puts.later
   lines_later line (stepped.Mistaken text mistake) before now result puts = puts.later
   lines_later line (stepped.Unmade cause) before now result puts = let same = ap (λ (k : Taking). k.faults) puts.0 in omega (arith, same)
+  lines_later line (stepped.Lost side cause) before now result puts = let same = ap (λ (k : Taking). k.faults) puts.0 in omega (arith, same)
 
   -- the disks are there
   pub disks_along : (events : List Numbered) (old new : Running D M) (before now : Taking) (result : Option Ran) → HasDisks old

@@ -6,7 +6,8 @@ use Rattle.std.specs.Prelude.{Result, Ok, Err, IfOk, OnErr}
 use Rattle.streams.specs.Stream.{Taking}
 use Rattle.wire_machine.specs.Check.{Reading}
 use Rattle.wire_machine.specs.Runs.{Numbered, events_in, numbered}
-use Rattle.wire_run.specs.Running.{RunMachines, Running}
+use Rattle.run_ends.specs.Ends.{RunMachines}
+use Rattle.wire_run.specs.Running.{Running}
 use Rattle.wire_run.specs.Trace.{Happen, Happens, IsCut, turn_of}
 use Rattle.wire_run.specs.declared.run.Ran.{Ran}
 use Rattle.wire_run.proofs.Tracing.{admitted_join, context_along, happen_end, happen_join, happen_one, numbered_events, numbered_join}

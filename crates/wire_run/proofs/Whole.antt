@@ -1,10 +1,13 @@
 -- A run from its beginning to its end.
-use Rattle.std.proofs.Common.{◌≡◌, inl, ℕ, Option, None, Some, List, [], length, refl, sym, ap, subst, append-nil, arith, IsTrue}
+use Rattle.std.proofs.Common.{◌≡◌, inl, ℕ, true, Option, None, Some, List, [], length, refl, sym, ap, subst, append-nil, arith, IsTrue}
 use Rattle.std.proofs.KnownBytes.{Appends-nil}
+use Rattle.nfs_base.specs.declared.side.Side.{Side}
+use Rattle.nfs_base.specs.declared.side.Side.TheVariants.{Source, Dest}
 use Rattle.streams.specs.Stream.{Taking}
 use Rattle.wire_machine.specs.Check.{Reading}
 use Rattle.wire_machine.specs.Runs.{Numbered, events_in}
-use Rattle.wire_run.specs.Running.{RunMachines, Running, at_rest, mech_of, world_in}
+use Rattle.run_ends.specs.Ends.{RunMachines}
+use Rattle.wire_run.specs.Running.{Running, armed_of, at_rest, mech_of, world_in}
 use Rattle.wire_run.specs.Run.{RanOut}
 use Rattle.wire_run.specs.Trace.{EndPuts, Happen, IsCut, events_at}
 use Rattle.wire_run.specs.declared.run.Ran.{Ran}
@@ -33,6 +36,8 @@ module _ {D M : Type 0} (told : Type 0) (m : RunMachines M) (read : Reading) (fa
   begins start taken is = record {
     steps = [];
     choices = ap (λ (r : Running D M). r.choices) is;
+    armed = λ side armed. absurd (unarmed side armed);
+    asked = λ none. refl;
     blamed = blamed_none M;
     source = later_same faults size start.source;
     dest = later_same faults size start.dest;
@@ -60,6 +65,10 @@ module _ {D M : Type 0} (told : Type 0) (m : RunMachines M) (read : Reading) (fa
       dest = (ap (λ (r : Running D M). (r.context).dest) is, refl, refl);
     });
   }
+    where
+      unarmed : (side : Side) → armed_of start side ≡ true → ⊥
+      unarmed Source armed = let none = ap (λ (r : Running D M). r.source_armed) is in cc
+      unarmed Dest armed = let none = ap (λ (r : Running D M). r.dest_armed) is in cc
 
   -- it ends with an event
   pub run_over : (events : List Numbered) (start new : Running D M) (before now : Taking) (end : Ran) → start ≡ at_rest (mech_of start) start.source start.dest
@@ -86,6 +95,7 @@ module _ {D M : Type 0} (told : Type 0) (m : RunMachines M) (read : Reading) (fa
   run_last reads events start new before middle now (ran.OverLimit line) is admitted happened put = absurd put
   run_last reads events start new before middle now (ran.Mistaken mistake) is admitted happened put = absurd put
   run_last reads events start new before middle now (ran.Unmade cause) is admitted happened put = absurd put
+  run_last reads events start new before middle now (ran.Lost cause) is admitted happened put = absurd put
 
   -- memory ran out in an event, or at the last line
   pub run_cut : (events : List Numbered) (start : Running D M) (before now : Taking) → start ≡ at_rest (mech_of start) start.source start.dest

@@ -7,11 +7,8 @@ use Rattle.block_file.specs.declared.faults.FormatFault.TheVariants as formattin
 use Rattle.block_file.specs.declared.faults.OpenFault.{OpenFault}
 use Rattle.block_file.specs.declared.faults.OpenFault.TheVariants as opening
 use Rattle.block_file.specs.Opened.{MayBeLeft, homes_by}
-use Rattle.copy_model.specs.Volume.{formatted}
 use Rattle.disk_model.specs.Disk.{Image, MayLeave}
 use Rattle.disk_model.specs.Elapsed.{Timeline, present}
-use Rattle.dest_core.specs.Core as new_dest
-use Rattle.dest_core.specs.Stepping.{DestState}
 use Rattle.dest_core.specs.declared.destination.Destination.{Destination}
 use Rattle.dest_jobs.specs.declared.carried.Carried as of_dest
 use Rattle.nfs_base.specs.declared.limits.TheConstants.{MOST_BLOCKS, MOST_FILES}
@@ -19,18 +16,15 @@ use Rattle.nfs_base.specs.declared.side.Side.{Side}
 use Rattle.nfs_base.specs.declared.side.Side.TheVariants.{Source, Dest}
 use Rattle.session_server.specs.Host.{host_of}
 use Rattle.session_server.specs.declared.host.Host.{Host}
-use Rattle.source_core.specs.Core as new_source
 use Rattle.source_core.specs.declared.carried.Carried as of_source
 use Rattle.source_core.specs.declared.source.Source as made_source
-use Rattle.wire_run.specs.Ends.{SourceState}
-use Rattle.wire_run.specs.Setting.{dest_name, dest_place, dest_source, source_peers, source_place}
+use Rattle.run_ends.specs.First.{IsFreshDest, IsFreshSource, Shape}
 use Rattle.wire_run.specs.declared.ends.DestEnd.{DestEnd}
 use Rattle.wire_run.specs.declared.ends.DestEnd.TheVariants as dest_end
 use Rattle.wire_run.specs.declared.ends.SourceEnd.{SourceEnd}
 use Rattle.wire_run.specs.declared.ends.SourceEnd.TheVariants as source_end
 use Rattle.wire_run.specs.declared.fresh.Unmade.{Unmade}
 use Rattle.wire_run.specs.declared.fresh.Unmade.TheVariants as unmade
-use Rattle.wire_run.specs.declared.setting.TheConstants.{SOURCE_TAG, DEST_TAG}
 use Rattle.wire_schedule.specs.declared.event.Event.{Event}
 use Rattle.wire_schedule.specs.declared.event.Event.TheVariants as kinds
 
@@ -53,33 +47,6 @@ size_at source dest Dest = dest
 abbrev pub event_small : (source dest : ℕ) → Event → Option Small
 event_small source dest (kinds.Volume side files blocks) = small_for side (size_at source dest side) files blocks
 event_small source dest event = None
-
--- ---- servers that were just opened, each on a volume that was just formatted
-
--- how a server's volume is asked for
-pub record Shape : Type 0 where
-  pub files : ℕ
-  pub blocks : ℕ
-
-pub record IsFreshSource {M : Type 0} (mech : M) (shape : Shape) (s : SourceState M) : Type 0 where
-  pub contexts : s.contexts ≡ new_source.no_contexts 1
-  pub opens : s.state.machine.opens ≡ new_source.no_opens 1
-  pub sessions : s.state.sessions ≡ new_source.no_sessions 1
-  pub extra : s.state.machine.extra ≡ new_source.no_source 1 mech source_peers source_place
-  pub volume : s.state.machine.store.volume ≡ formatted shape.files (shape.blocks * 4096)
-  pub tag : s.state.machine.store.tag ≡ SOURCE_TAG
-  pub second : s.second ≡ 0
-  pub steps : s.steps ≡ 0
-
-pub record IsFreshDest {M : Type 0} (mech : M) (shape : Shape) (s : DestState M) : Type 0 where
-  pub contexts : s.contexts ≡ new_dest.no_contexts 1
-  pub opens : s.state.machine.opens ≡ new_dest.no_opens 1
-  pub sessions : s.state.sessions ≡ new_dest.no_sessions 1
-  pub extra : s.state.machine.extra ≡ new_dest.no_copies 1 (shape.blocks * 4096) mech dest_source dest_name dest_place
-  pub volume : s.state.machine.store.volume ≡ formatted shape.files (shape.blocks * 4096)
-  pub tag : s.state.machine.store.tag ≡ DEST_TAG
-  pub second : s.second ≡ 0
-  pub steps : s.steps ≡ 0
 
 -- a volume has 1 to 64 files of 1 to 16,384 blocks each, and no more than 16,384 blocks in all
 pub record IsShape (files blocks : ℕ) : Type 0 where

@@ -1,11 +1,11 @@
 pub mod Commanding
-pub mod Ends
+pub mod Cutting
 pub mod Fresh
-pub mod Handling
 pub mod Making
 pub mod Run
 pub mod Running
-pub mod Setting
 pub mod Stage
+pub mod Stopping
 pub mod System
 pub mod Trace
+pub mod Watching

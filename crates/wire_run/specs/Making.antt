@@ -2,7 +2,8 @@
 use Rattle.std.specs.Prelude.{◌≡◌, ℕ, Result}
 use Rattle.nfs_base.specs.declared.side.Side.{Side}
 use Rattle.nfs_base.specs.declared.side.Side.TheVariants.{Source, Dest}
-use Rattle.wire_run.specs.Fresh.{DestMakes, IsDestDisk, IsSourceDisk, Shape, SourceMakes}
+use Rattle.wire_run.specs.Fresh.{DestMakes, IsDestDisk, IsSourceDisk, SourceMakes}
+use Rattle.run_ends.specs.First.{Shape}
 use Rattle.wire_run.specs.Stage.{peeked_at}
 use Rattle.wire_run.specs.declared.ends.DestEnd.TheVariants as dest_end
 use Rattle.wire_run.specs.declared.ends.SourceEnd.TheVariants as source_end

@@ -1,16 +1,16 @@
 -- The run of a schedule from its beginning, and what is put of it. Own definitions.
-use Rattle.std.specs.Prelude.{◌≡◌, ◌⊎◌, ◌≤◌, ◌+◌, ℕ, Bool, true, List, [], ◌∷◌, ◌++◌, length, take, map, Option, Some, None, is_some}
+use Rattle.std.specs.Prelude.{◌≡◌, ◌⊎◌, ◌≤◌, ◌+◌, ℕ, Bool, true, false, List, [], ◌∷◌, ◌++◌, length, take, map, Option, Some, None, is_some}
 use Rattle.std.specs.Io.KnownBytes.{Appends, Keeps}
 use Rattle.outcome.specs.Causes.{Rose}
 use Rattle.wire_lines.specs.LineText.{lines_text}
 use Rattle.wire_machine.specs.Lines.{lines_of}
 use Rattle.wire_machine.specs.Steps.{after_steps}
+use Rattle.wire_run.specs.declared.fresh.Unmade.{Unmade}
 use Rattle.wire_run.specs.declared.fresh.Unmade.TheVariants as unmade
 use Rattle.wire_run.specs.declared.run.Ran.{Ran}
 use Rattle.wire_run.specs.declared.run.Ran.TheVariants as ran
 use Rattle.std.specs.List.{list_any}
 use Rattle.std.specs.Option.{option_or}
-use Rattle.client_core.specs.State.{new_client}
 use Rattle.copy_model.specs.Volume.{Volume}
 use Rattle.nfs_base.specs.declared.side.Side.{Side}
 use Rattle.nfs_base.specs.declared.side.Side.TheVariants.{Source, Dest}
@@ -18,9 +18,11 @@ use Rattle.streams.specs.Sink.{AppendsFront}
 use Rattle.wire_machine.specs.Check.{Reading}
 use Rattle.wire_machine.specs.Runs.{End, MistakenBy, Numbered, Runs, TooLargeAt, Whole, last_line}
 use Rattle.wire_machine.specs.declared.choice.Choice.{Choice}
-use Rattle.wire_run.specs.Fresh.{IsFreshDest, IsFreshSource, Shape, Small, event_small}
-use Rattle.wire_run.specs.Running.{Later, RunMachines, RunStep, RunWorld, Running, disk_of, failed_calls, failed_steps, faults_in, size_in}
-use Rattle.wire_run.specs.Setting.{dest_place, source_place, user}
+use Rattle.wire_machine.specs.declared.choice.Choice.TheVariants.{Stopped}
+use Rattle.run_ends.specs.First.{IsFirst, shape_by}
+use Rattle.wire_run.specs.Fresh.{Small, event_small}
+use Rattle.wire_run.specs.Running.{Later, Running, disk_of, failed_calls, failed_steps, faults_in, size_in}
+use Rattle.run_ends.specs.Ends.{RunMachines, RunStep, RunWorld}
 use Rattle.wire_run.specs.System.{shown_at}
 use Rattle.wire_schedule.specs.declared.event.Event.{Event}
 use Rattle.wire_schedule.specs.declared.event.Event.TheVariants as kinds
@@ -29,30 +31,6 @@ use Rattle.wire_schedule.specs.declared.event.Event.TheVariants as kinds
 abbrev pub first_small : (source dest : ℕ) → List Numbered → Option Small
 first_small source dest [] = None
 first_small source dest (e ∷ events) = option_or (event_small source dest e.event) (first_small source dest events)
-
--- ---- the first world of a schedule. One that asks for no server has none, and nothing happens in it.
-
-abbrev pub shape_by : Side → Event → Option Shape
-shape_by Source (kinds.Volume Source files blocks) = Some (record { files = files; blocks = blocks })
-shape_by Dest (kinds.Volume Dest files blocks) = Some (record { files = files; blocks = blocks })
-shape_by side event = None
-
-abbrev pub shape_or : Option Shape → Shape → Shape
-shape_or (Some shape) other = shape
-shape_or None other = other
-
-abbrev pub shape_of : Side → List Numbered → Shape
-shape_of side [] = record { files = 0; blocks = 0 }
-shape_of side (e ∷ events) = shape_or (shape_by side e.event) (shape_of side events)
-
-pub record IsFirst {M : Type 0} (mech : M) (events : List Numbered) (w : RunWorld M) : Type 0 where
-  pub source : IsFreshSource mech (shape_of Source events) w.source
-  pub dest : IsFreshDest mech (shape_of Dest events) w.dest
-  pub client : w.client ≡ new_client (record { mech = mech; me = user; source = source_place; dest = dest_place })
-  pub draws : w.draws ≡ 0
-  pub clock : w.clock ≡ 0
-  pub steps : w.steps ≡ 0
-  pub log : w.log ≡ []
 
 -- a schedule asks for a server
 abbrev pub asks_for : Side → List Numbered → Bool
@@ -112,6 +90,36 @@ pub record RunsTo {M : Type 0} (m : RunMachines M) (read : Reading) (mech : M) (
   pub runs : ScheduleRuns m read mech events did end lines records last
   pub puts : Appends old new (put_by end lines records)
 
+-- These are all lines of the first so many events.
+pub record IsBefore {M : Type 0} (m : RunMachines M) (read : Reading) (mech : M) (events : List Numbered) (lines : List ℕ) : Type 0 where
+  pub done : ℕ
+  pub did : Did
+  pub records : ℕ
+  pub last : Volumes
+  pub runs : ScheduleRuns m read mech (take done events) did Whole lines records last
+
+-- ---- servers that stop
+
+-- a schedule stops a server, or sets a fuse
+abbrev pub stops_server : Event → Bool
+stops_server (kinds.Crash side pick) = true
+stops_server (kinds.CrashAfter side calls pick) = true
+stops_server event = false
+
+abbrev pub stops_in : List Numbered → Bool
+stops_in events = list_any (λ (e : Numbered). stops_server e.event) events
+
+-- why a server is lost that couldn't be opened anew
+abbrev pub CanLose : (told : Type 0) → Unmade → Type 0
+CanLose told unmade.DiskFailed = Unit {0}
+CanLose told (unmade.TooSmall need have) = ⊥
+CanLose told (unmade.NotVolume block at) = told → ⊥
+
+-- no small step stopped one
+abbrev pub is_stop : Choice → Bool
+is_stop (Stopped kept) = true
+is_stop choice = false
+
 -- ---- how a run ended, by its answer; a whole one has as many records as there are then
 
 -- a disk is too small: it is as it was handed in, and nothing was put
@@ -131,11 +139,15 @@ RanPuts told m read mech small events did last old new taken now_taken ran.Write
 RanPuts told m read mech small events did last old new taken now_taken (ran.Unmade unmade.DiskFailed) = Keeps taken now_taken
 RanPuts told m read mech small events did last old new taken now_taken (ran.Unmade (unmade.TooSmall need have)) = RanShort small old new taken now_taken need have
 RanPuts told m read mech small events did last old new taken now_taken (ran.Unmade (unmade.NotVolume block at)) = (told → ⊥) × Keeps taken now_taken
+RanPuts told m read mech small events did last old new taken now_taken (ran.Lost cause) =
+    CanLose told cause × (stops_in events ≡ true) × (lines : List ℕ) × Appends taken now_taken lines × (told → IsBefore m read mech events lines)
 
 -- A write fault comes only where the sink's count rose, and a failure to make a volume only where a disk's did.
 abbrev pub RanHasCause : {D M : Type 0} → (faults : D → ℕ) → Running D M → Running D M → (before now : ℕ) → Ran → Type 0
 RanHasCause faults old new before now ran.WriteFault = Rose before now
 RanHasCause faults old new before now (ran.Unmade unmade.DiskFailed) =
+    Rose (faults_in faults old.source) (faults_in faults new.source) ⊎ Rose (faults_in faults old.dest) (faults_in faults new.dest)
+RanHasCause faults old new before now (ran.Lost unmade.DiskFailed) =
     Rose (faults_in faults old.source) (faults_in faults new.source) ⊎ Rose (faults_in faults old.dest) (faults_in faults new.dest)
 RanHasCause faults old new before now result = Unit {0}
 
@@ -147,6 +159,7 @@ pub record RanIs {D M : Type 0} (told : Type 0) (m : RunMachines M) (read : Read
   pub last : Volumes
   pub holds : told → result ≡ ran.Whole → (side : Side) → asks_for side events ≡ true → shown_at new.source_state new.dest_state side ≡ Some (volume_in last side)
   pub choices : new.choices ≡ did.choices
+  pub asked : stops_in events ≡ false → list_any (λ (choice : Choice). is_stop choice) did.choices ≡ false
   pub blamed : failed_steps did.choices ≤ did.failed Source + did.failed Dest
   pub source : Later faults size (did.failed Source) old.source new.source
   pub dest : Later faults size (did.failed Dest) old.dest new.dest

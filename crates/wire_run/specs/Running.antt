@@ -1,5 +1,5 @@
 -- What contracts see of a system that runs a schedule, and what one event leaves of it.
-use Rattle.std.specs.Prelude.{◌≡◌, ◌⊎◌, ◌≤◌, ◌+◌, ℕ, Bool, true, false, List, [], ◌++◌, length, map, count_by, Option, Some, None, is_some}
+use Rattle.std.specs.Prelude.{◌≡◌, ◌⊎◌, ◌≤◌, ◌+◌, ◌||◌, ℕ, Bool, true, false, List, [], ◌++◌, length, map, count_by, Option, Some, None, is_some}
 use Rattle.std.specs.String.{string_bytes}
 use Rattle.client_core.specs.State.{ClientState, new_client}
 use Rattle.nfs_base.specs.declared.side.Side.{Side}
@@ -9,17 +9,18 @@ use Rattle.wire_lines.specs.LineText.{lines_text}
 use Rattle.wire_machine.specs.Check.{Reading}
 use Rattle.wire_machine.specs.declared.choice.Choice.{Choice}
 use Rattle.wire_machine.specs.declared.choice.Choice.TheVariants.{Failed}
-use Rattle.wire_machine.specs.Ends.{Machines}
 use Rattle.wire_machine.specs.Lines.{lines_of}
-use Rattle.wire_machine.specs.Runs.{EventGoes, Fault, Mistaken, TooLarge}
-use Rattle.wire_machine.specs.Steps.{Step, after_steps, any_failed}
+use Rattle.wire_machine.specs.Runs.{EventGoes, Fault, Goes, Mistaken, TooLarge}
+use Rattle.wire_machine.specs.Steps.{NeverStops, Step, after_steps, any_failed, same_side, small_steps}
 use Rattle.wire_machine.specs.World.{Posted, World}
 use Rattle.wire_run.specs.declared.system.Stepped.{Stepped}
 use Rattle.wire_run.specs.declared.system.Stepped.TheVariants as stepped
 use Rattle.dest_core.specs.Stepping.{DestState}
-use Rattle.wire_run.specs.Ends.{SourceState}
-use Rattle.wire_run.specs.Fresh.{IsFreshDest, IsFreshSource, Shape, event_small}
-use Rattle.wire_run.specs.Setting.{dest_place, source_place, user}
+use Rattle.run_ends.specs.Ends.{RunMachines, RunStep, RunWorld, SourceState}
+use Rattle.run_ends.specs.First.{IsFreshDest, IsFreshSource, Shape}
+use Rattle.wire_run.specs.Fresh.{event_small}
+use Rattle.run_ends.specs.Setting.{dest_place, source_place, user}
+use Rattle.wire_run.specs.Watching.{crashes_in, sets_in}
 use Rattle.wire_run.specs.declared.fresh.Unmade.{Unmade}
 use Rattle.wire_run.specs.declared.fresh.Unmade.TheVariants as unmade
 use Rattle.wire_schedule.specs.Admission.{after, at_start}
@@ -27,24 +28,16 @@ use Rattle.wire_schedule.specs.declared.context.Context.{Context}
 use Rattle.wire_schedule.specs.declared.event.Event.{Event}
 use Rattle.wire_schedule.specs.declared.event.Event.TheVariants as kinds
 
--- the machines of a run, with draws that count
-abbrev pub RunWorld : Type 0 → Type 0
-RunWorld M = World (SourceState M) (DestState M) (ClientState M) ℕ
-
-abbrev pub RunMachines : Type 0 → Type 1
-RunMachines M = Machines (SourceState M) (DestState M) (ClientState M) ℕ
-
-abbrev pub RunStep : Type 0 → Type 0
-RunStep M = Step (SourceState M) (DestState M) (ClientState M) ℕ
-
--- What the events so far leave open; the two disks, on their own or under a server; both servers, from their lines on; the
--- client, the draws, the clock, all records, and what the disks did in each small step.
+-- What the events so far leave open; the two disks, on their own or under a server; both servers, from their lines on; whether a
+-- fuse is set at the disk of each; the client, the draws, the clock, all records, and what the disks did in each small step.
 pub record Running (D M : Type 0) : Type 0 where
   pub context : Context
   pub source : Option D
   pub dest : Option D
   pub source_state : Option (SourceState M)
   pub dest_state : Option (DestState M)
+  pub source_armed : Bool
+  pub dest_armed : Bool
   pub client : ClientState M
   pub draws : ℕ
   pub clock : ℕ
@@ -78,6 +71,8 @@ at_rest mech source dest = record {
   dest = dest;
   source_state = None;
   dest_state = None;
+  source_armed = false;
+  dest_armed = false;
   client = new_client (record { mech = mech; me = user; source = source_place; dest = dest_place });
   draws = 0;
   clock = 0;
@@ -89,6 +84,16 @@ at_rest mech source dest = record {
 abbrev pub disk_of : {D M : Type 0} → Running D M → Side → Option D
 disk_of r Source = r.source
 disk_of r Dest = r.dest
+
+-- a fuse is set at it
+abbrev pub armed_of : {D M : Type 0} → Running D M → Side → Bool
+armed_of r Source = r.source_armed
+armed_of r Dest = r.dest_armed
+
+-- a server is there
+abbrev pub is_there : {D M : Type 0} → Running D M → Side → Bool
+is_there r Source = is_some r.source_state
+is_there r Dest = is_some r.dest_state
 
 -- the mechanism is the client's
 abbrev pub mech_of : {D M : Type 0} → Running D M → M
@@ -106,11 +111,6 @@ failed_at Source s = any_failed s.parts.source.out.used
 failed_at Dest s = any_failed s.parts.dest.out.used
 
 -- a peek that fails is one call more
-abbrev pub same_side : Side → Side → Bool
-same_side Source Source = true
-same_side Dest Dest = true
-same_side _ _ = false
-
 abbrev pub peek_failed : Side → Event → Choice → Bool
 peek_failed side (kinds.Peek at file off len) Failed = same_side side at
 peek_failed side event choice = false
@@ -159,17 +159,24 @@ fault_in (stepped.Went text) = None
 fault_in (stepped.OverLimit text) = Some TooLarge
 fault_in (stepped.Mistaken text mistake) = Some (Mistaken mistake)
 fault_in (stepped.Unmade cause) = None
+fault_in (stepped.Lost side cause) = None
 
 abbrev pub text_in : Stepped → List ℕ
 text_in (stepped.Went text) = string_bytes text
 text_in (stepped.OverLimit text) = string_bytes text
 text_in (stepped.Mistaken text mistake) = string_bytes text
 text_in (stepped.Unmade cause) = []
+text_in (stepped.Lost side cause) = []
 
--- no server is made in it
+-- no server is made in it, and none is lost
 abbrev pub MakesNone : Stepped → Type 0
 MakesNone (stepped.Unmade cause) = ⊥
+MakesNone (stepped.Lost side cause) = ⊥
 MakesNone result = Unit {0}
+
+-- a server may stop in an event: its fuse is set, or the event is its crash
+abbrev pub is_asked : {D M : Type 0} → Running D M → Side → Event → Bool
+is_asked r side event = armed_of r side || crashes_in event side
 
 -- An event of two servers that are there was carried out, up to its end or to a fault: these small steps were done. They are
 -- those of the machines and have these lines, where the disks tell what they hold. Of any disks, each in which a call failed is one at
@@ -182,9 +189,42 @@ pub record IsCarriedOut {D M : Type 0} (told : Type 0) (m : RunMachines M) (read
   pub world : fault_in result ≡ None → world_in new ≡ Some (after_steps before steps)
   pub lines : told → text_in result ≡ lines_text (lines_of m before steps)
   pub choices : new.choices ≡ old.choices ++ map (λ (s : RunStep M). s.choice) steps
+  pub asked : (side : Side) → is_asked old side event ≡ false → NeverStops side before steps
   pub blamed : AreBlamed steps
   pub source_later : Later faults size (failed_calls Source steps) old.source new.source
   pub dest_later : Later faults size (failed_calls Dest steps) old.dest new.dest
+
+-- Or a server stopped in it that couldn't be opened anew, and isn't there any more: these small steps were done before. Of a disk that
+-- tells what it holds, only a failure of it brings that.
+abbrev pub LostFor : {D : Type 0} → (told : Type 0) → (D → ℕ) → (old new : Option D) → Unmade → Type 0
+LostFor told faults old new unmade.DiskFailed = Rose (faults_in faults old) (faults_in faults new)
+LostFor told faults old new (unmade.TooSmall need have) = ⊥
+LostFor told faults old new (unmade.NotVolume block at) = told → ⊥
+
+pub record IsLost {D M : Type 0} (told : Type 0) (m : RunMachines M) (read : Reading) (faults size : D → ℕ) (old new : Running D M) (before : RunWorld M)
+    (event : Event) (side : Side) (cause : Unmade) : Type 0 where
+  pub why : LostFor told faults (disk_of old side) (disk_of new side) cause
+  pub gone : is_there new side ≡ false
+  pub done : List Event
+  pub rest : List Event
+  pub are : small_steps before event ≡ done ++ rest
+  pub steps : List (RunStep M)
+  pub goes : told → Goes m read before done steps None
+  pub choices : new.choices ≡ old.choices ++ map (λ (s : RunStep M). s.choice) steps
+  pub asked : is_asked old side event ≡ true
+  pub never : (other : Side) → is_asked old other event ≡ false → NeverStops other before steps
+  pub blamed : AreBlamed steps
+  pub source_later : Later faults size (failed_calls Source steps) old.source new.source
+  pub dest_later : Later faults size (failed_calls Dest steps) old.dest new.dest
+
+abbrev pub Became : {D M : Type 0} → (told : Type 0) → RunMachines M → Reading → (faults size : D → ℕ) → (old new : Running D M) → (before : RunWorld M) → Event
+    → Stepped → Type 0
+Became told m read faults size old new before event (stepped.Lost side cause) = IsLost told m read faults size old new before event side cause
+Became told m read faults size old new before event result = IsCarriedOut told m read faults size old new before event result
+
+-- No fuse is set but by its line.
+abbrev pub ArmsRight : {D M : Type 0} → (old new : Running D M) → Event → Type 0
+ArmsRight old new event = (side : Side) → armed_of new side ≡ true → (armed_of old side || sets_in event side) ≡ true
 
 -- ---- an event that makes a server
 
@@ -225,9 +265,15 @@ abbrev pub StepIs : {D M : Type 0} → (told : Type 0) → RunMachines M → Rea
 StepIs told m read faults size mech old new (kinds.Volume side files blocks) result =
     VolumeIs told faults size mech side (record { files = files; blocks = blocks }) old new (kinds.Volume side files blocks) result
 StepIs {M = M} told m read faults size mech old new event result =
-    (before : RunWorld M) → world_in old ≡ Some before → IsCarriedOut told m read faults size old new before event result
+    (before : RunWorld M) → world_in old ≡ Some before → Became told m read faults size old new before event result
+
+-- a server isn't there any more
+abbrev pub without : Side → Context → Context
+without Source context = record context { source = None }
+without Dest context = record context { dest = None }
 
 -- the events so far, with this one as the last; a server that wasn't made is none of them
 abbrev pub context_after : Context → Event → Stepped → Context
 context_after context event (stepped.Unmade cause) = context
+context_after context event (stepped.Lost side cause) = without side (after context event)
 context_after context event result = after context event

@@ -1,4 +1,5 @@
 -- What small steps leave of the ends, the draws, the clock and the records, and what they keep.
+use Rattle.std.specs.List.{list_any}
 use Rattle.std.specs.Option.{option_map_or}
 use Rattle.std.specs.Prelude.{◌≡◌, ℕ, zero, suc, ◌+◌, ◌≤◌, Bool, true, false, ◌||◌, List, [], ◌∷◌, ◌++◌, ◌≢◌, length, map, Option, Some, None, IsSome, Result, Ok, Err, ◌<◌, not}
 use Rattle.block_file.specs.Opened.{Opened}
@@ -8,6 +9,7 @@ use Rattle.client_core.specs.State.{ClientState}
 use Rattle.client_core.specs.Telling.{copy_of}
 use Rattle.copy_model.specs.Volume.{Volume, bytes_at, file_at}
 use Rattle.dest_core.specs.declared.destination.Destination.{Destination}
+use Rattle.disk_model.specs.declared.fuse.Fuse.{Fuse}
 use Rattle.dest_jobs.specs.declared.carried.Carried.{Carried as DestCarried}
 use Rattle.job_table.specs.Fits.{PlansAreFit}
 use Rattle.nfs_base.specs.declared.seal.End.{End}
@@ -33,15 +35,16 @@ use Rattle.wire_machine.specs.Runs as runs
 use Rattle.wire_machine.specs.Runs.{Goes, fault_by, fault_of, most_bytes}
 use Rattle.wire_lines.specs.declared.letters.Speaker.{Speaker}
 use Rattle.wire_lines.specs.declared.letters.Speaker.TheVariants as speakers
-use Rattle.wire_machine.specs.Steps.{Arrives, IsStep, after_steps, command_of, any_failed, choice_of}
+use Rattle.wire_machine.specs.Steps.{Arrives, IsStep, NeverStops, after_steps, command_of, cut_of, any_failed, choice_of}
 use Rattle.wire_machine.specs.World.{Parts, Posted, all_posted, bytes_of, marked, posted_at}
 use Rattle.wire_machine.specs.declared.choice.Choice.{Choice}
 use Rattle.wire_machine.specs.declared.port.Port.{Port}
 use Rattle.wire_machine.specs.declared.choice.Choice.TheVariants.{Went, Failed}
 use Rattle.wire_machine.specs.declared.mistake.Mistake.{Mistake}
 use Rattle.wire_run.specs.Commanding.{CanBegin}
-use Rattle.wire_run.specs.Ends.{is_worker}
-use Rattle.wire_run.specs.Running.{AreBlamed, Later, RunMachines, RunStep, RunWorld, failed_calls, has_failed_at, world_of}
+use Rattle.run_ends.specs.Ends.{RunMachines, RunStep, RunWorld, is_worker}
+use Rattle.wire_run.specs.Running.{AreBlamed, Later, failed_calls, has_failed_at, world_of}
+use Rattle.wire_run.specs.Watching.{AreNumbered, AreWatched, crashes_in, is_armed}
 use Rattle.wire_run.specs.declared.ends.DestEnd.{DestEnd}
 use Rattle.wire_run.specs.declared.ends.DestEnd.TheVariants as dest_end
 use Rattle.wire_run.specs.declared.ends.SourceEnd.{SourceEnd}
@@ -117,20 +120,31 @@ pub record VolumeStays {D : Type 0} (old new : Opened D) : Type 0 where
   pub tag : new.tag ≡ old.tag
   pub boot : new.volume.boot ≡ old.volume.boot
 
--- A server that is there is there afterwards, and where its disk tells what it holds, its volume stays.
+-- a small step in which a server is opened anew keeps the first two
+pub record VolumeKeeps {D : Type 0} (old new : Opened D) : Type 0 where
+  pub files : length new.volume.files ≡ length old.volume.files
+  pub tag : new.tag ≡ old.tag
+
+-- A server that is there is there afterwards, and where its disk tells what it holds, its volume is kept; or it is away.
+abbrev pub SourceLeaves : {D M : Type 0} → (told : Type 0) → SourceHost D M → SourceEnd D M → Type 0
+SourceLeaves told was (source_end.Open next) = told → VolumeKeeps was.server.files.volume next.server.files.volume
+SourceLeaves told was source_end.Away = Unit {0}
+SourceLeaves told was (source_end.Disk disk) = ⊥
+
 pub record SourceKeeps {D M : Type 0} (told : Type 0) (old new : SourceEnd D M) : Type 0 where
   pub was : SourceHost D M
-  pub next : SourceHost D M
   pub was_is : old ≡ source_end.Open was
-  pub next_is : new ≡ source_end.Open next
-  pub stays : told → VolumeStays was.server.files.volume next.server.files.volume
+  pub leaves : SourceLeaves told was new
+
+abbrev pub DestLeaves : {D M : Type 0} → (told : Type 0) → DestHost D M → DestEnd D M → Type 0
+DestLeaves told was (dest_end.Open next) = told → VolumeKeeps was.server.files.volume next.server.files.volume
+DestLeaves told was dest_end.Away = Unit {0}
+DestLeaves told was (dest_end.Disk disk) = ⊥
 
 pub record DestKeeps {D M : Type 0} (told : Type 0) (old new : DestEnd D M) : Type 0 where
   pub was : DestHost D M
-  pub next : DestHost D M
   pub was_is : old ≡ dest_end.Open was
-  pub next_is : new ≡ dest_end.Open next
-  pub stays : told → VolumeStays was.server.files.volume next.server.files.volume
+  pub leaves : DestLeaves told was new
 
 -- ---- an act of a server that is there
 
@@ -325,6 +339,7 @@ pub record SettleKeeps {D M : Type 0} (old new : Stage D M) : Type 0 where
   pub draws : new.draws ≡ old.draws
   pub clock : new.clock ≡ old.clock
   pub flowed : new.flowed ≡ old.flowed
+  pub stops : new.stops ≡ old.stops
   pub log : Grows old.log new.log
   pub bytes : bytes_of new.log ≤ most_bytes
   pub choices : length new.choices.items ≤ length old.choices.items + 1
@@ -395,11 +410,13 @@ pub record SmallKeeps {D M : Type 0} (told : Type 0) (old new : Stage D M) : Typ
 -- ---- what is known before a small step
 
 -- both servers are there, no end can have made all its steps, and the records and the clock are within the limits
-pub record IsFair {D M : Type 0} (s : Stage D M) : Type 0 where
+pub record IsFair {D M : Type 0} (told : Type 0) (size : D → ℕ) (fuse : D → Fuse) (s : Stage D M) : Type 0 where
   pub ready : IsReady s
   pub below : IsBelow 67108862 s
   pub bytes : bytes_of s.log ≤ most_bytes
   pub clock : s.clock ≤ 1000000000000
+  pub watched : AreWatched told size fuse s
+  pub numbered : AreNumbered told 67108862 s
 
 -- a server's volume has a file of this number, where its disk tells
 abbrev pub source_files : {D M : Type 0} → SourceEnd D M → ℕ
@@ -433,12 +450,14 @@ pub record IsCommand {M : Type 0} (event : Event) (c : ClientState M) : Type 0 w
   pub new : CanBegin event c
   pub short : length (bytes_in event) ≤ DATA_LIMIT
 
--- an event that is one small step, and can be carried out
+-- An event that is one small step, and can be carried out. A server that is there may always crash.
 abbrev pub IsFit : {D M : Type 0} → (told : Type 0) → Event → Stage D M → Type 0
 IsFit told (kinds.Deliver number) s = Unit {0}
 IsFit told (kinds.Work worker) s = is_worker worker ≡ true
 IsFit told (kinds.Tick seconds) s = seconds ≤ 1000000
 IsFit told (kinds.Peek side file off len) s = HasFileAt told side file s
+IsFit told (kinds.Crash side pick) s = Unit {0}
+IsFit told (kinds.CrashAfter side calls pick) s = Unit {0}
 IsFit told event s = IsCommand event s.client
 
 -- ---- a record that is delivered
@@ -534,6 +553,7 @@ pub record SmallDone {D M : Type 0} (told : Type 0) (m : RunMachines M) (read : 
   pub right : told → fault_of m read (world_at size source dest old) step ≡ None
   pub lines : told → text_new ≡ text_old ++ lines_text (step_lines m (world_at size source dest old) step)
   pub choices : new.choices.items ≡ old.choices.items ++ step.choice ∷ []
+  pub asked : (side : Side) → (is_armed side old || crashes_in event side) ≡ false → cut_of side (world_at size source dest old) step ≡ None
   pub blamed : AreBlamed (step ∷ [])
   pub source_later : Later faults size (bit (has_failed_at Source step)) (Some source.server.files.volume.disk) (Some source_next.server.files.volume.disk)
   pub dest_later : Later faults size (bit (has_failed_at Dest step)) (Some dest.server.files.volume.disk) (Some dest_next.server.files.volume.disk)
@@ -564,6 +584,10 @@ SmallIs told m read faults size event old new text_old text_new (Some fault) = S
 
 -- ---- small steps one after the other
 
+-- a server may stop in them: its fuse is set, or one of them is its crash
+abbrev pub is_asked : {D M : Type 0} → Side → List Event → Stage D M → Bool
+is_asked side smalls s = is_armed side s || list_any (λ (event : Event). crashes_in event side) smalls
+
 pub record StageGoes {D M : Type 0} (told : Type 0) (m : RunMachines M) (read : Reading) (faults size : D → ℕ) (smalls : List Event)
     (old new : Stage D M) (text : List ℕ) (fault : Option runs.Fault) : Type 0 where
   pub source : SourceHost D M
@@ -579,6 +603,7 @@ pub record StageGoes {D M : Type 0} (told : Type 0) (m : RunMachines M) (read : 
   pub world : fault ≡ None → world_at size source_next dest_next new ≡ after_steps (world_at size source dest old) steps
   pub lines : told → text ≡ lines_text (lines_of m (world_at size source dest old) steps)
   pub choices : new.choices.items ≡ old.choices.items ++ map (λ (s : RunStep M). s.choice) steps
+  pub asked : (side : Side) → is_asked side smalls old ≡ false → NeverStops side (world_at size source dest old) steps
   pub blamed : AreBlamed steps
   pub source_later : Later faults size (failed_calls Source steps) (Some source.server.files.volume.disk) (Some source_next.server.files.volume.disk)
   pub dest_later : Later faults size (failed_calls Dest steps) (Some dest.server.files.volume.disk) (Some dest_next.server.files.volume.disk)
@@ -586,9 +611,11 @@ pub record StageGoes {D M : Type 0} (told : Type 0) (m : RunMachines M) (read : 
 -- ---- a flow
 
 -- what is known before each delivery of a flow
-pub record IsFlowing {D M : Type 0} (s : Stage D M) : Type 0 where
+pub record IsFlowing {D M : Type 0} (told : Type 0) (size : D → ℕ) (fuse : D → Fuse) (s : Stage D M) : Type 0 where
   pub ready : IsReady s
   pub below : IsBelow (1000000 + s.flowed) s
+  pub watched : AreWatched told size fuse s
+  pub numbered : AreNumbered told (1000000 + s.flowed) s
   pub bytes : bytes_of s.log ≤ most_bytes
   pub clock : s.clock ≤ 1000000000000
   pub within : s.flowed ≤ length s.log
@@ -599,7 +626,14 @@ pub record FlowKeeps {D M : Type 0} (told : Type 0) (old new : Stage D M) : Type
   pub keeps : StageKeeps told old new
   pub below : (e : ℕ) → IsBelow (e + old.flowed) old → IsBelow (e + new.flowed) new
   pub clock : new.clock ≡ old.clock
-  pub flowing : IsFlowing new
+  pub within : new.flowed ≤ length new.log
+  pub few : new.flowed ≤ most_records
+  pub delivered : AllDelivered new.flowed new.log
+
+pub record FlowKeepsStops {D M : Type 0} (told : Type 0) (size : D → ℕ) (fuse : D → Fuse) (old new : Stage D M) : Type 0 where
+  pub watched : AreWatched told size fuse new
+  pub numbered : (e : ℕ) → AreNumbered told (e + old.flowed) old → AreNumbered told (e + new.flowed) new
+  pub armed : (side : Side) → is_armed side new ≡ true → is_armed side old ≡ true
 
 -- the next record is delivered, unless it was
 abbrev pub next_flowed : {D M : Type 0} → Stage D M → Stage D M

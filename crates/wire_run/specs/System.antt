@@ -6,6 +6,7 @@ use Rattle.client_core.specs.Telling.{copy_of}
 use Rattle.copy_model.specs.Volume.{Volume, bytes_at, file_at}
 use Rattle.dest_core.specs.Stepping.{DestState}
 use Rattle.disk_model.specs.Disk.{Image, MayLeave}
+use Rattle.disk_model.specs.declared.fuse.Fuse.{Fuse}
 use Rattle.disk_model.specs.Elapsed.{Timeline, present}
 use Rattle.nfs_base.specs.declared.side.Side.{Side}
 use Rattle.nfs_base.specs.declared.side.Side.TheVariants.{Source, Dest}
@@ -13,14 +14,15 @@ use Rattle.outcome.specs.Causes.{Rose}
 use Rattle.session_server.specs.Host.{host_of}
 use Rattle.wire_machine.specs.Runs.{most_bytes}
 use Rattle.wire_machine.specs.World.{bytes_of}
-use Rattle.wire_run.specs.Ends.{SourceState}
-use Rattle.wire_run.specs.Running.{Running, disk_of, faults_in}
+use Rattle.run_ends.specs.Ends.{SourceState}
+use Rattle.wire_run.specs.Running.{Running, disk_of, faults_in, without}
 use Rattle.wire_run.specs.Stage.{AllDelivered, IsBelow, dest_disk, most_records, source_disk}
+use Rattle.wire_run.specs.Watching.{AreNumbered, AreWatched, is_armed}
 use Rattle.wire_run.specs.declared.ends.DestEnd.{DestEnd}
 use Rattle.wire_run.specs.declared.ends.DestEnd.TheVariants as dest_end
 use Rattle.wire_run.specs.declared.ends.SourceEnd.{SourceEnd}
 use Rattle.wire_run.specs.declared.ends.SourceEnd.TheVariants as source_end
-use Rattle.wire_run.specs.declared.setting.TheConstants.{SOURCE_TAG, DEST_TAG}
+use Rattle.run_ends.specs.declared.setting.TheConstants.{SOURCE_TAG, DEST_TAG}
 use Rattle.wire_run.specs.declared.stage.Stage.{Stage}
 use Rattle.wire_schedule.specs.Admission.{has_begun, has_file, most_copies, most_events}
 use Rattle.wire_schedule.specs.declared.context.Context.{Context}
@@ -54,6 +56,8 @@ running_of size context s = record {
   dest = dest_disk s.dest;
   source_state = source_state size s.source;
   dest_state = dest_state size s.dest;
+  source_armed = is_armed Source s;
+  dest_armed = is_armed Dest s;
   client = s.client;
   draws = s.draws;
   clock = s.clock;
@@ -81,13 +85,15 @@ DestFits told (Some files) (dest_end.Open core) =
 DestFits told (Some files) dest_end.Away = Unit {0}
 DestFits told (Some files) (dest_end.Disk disk) = ⊥
 
-pub record IsSound {D M : Type 0} (told : Type 0) (context : Context) (mech : M) (s : Stage D M) : Type 0 where
+pub record IsSound {D M : Type 0} (told : Type 0) (size : D → ℕ) (fuse : D → Fuse) (context : Context) (mech : M) (s : Stage D M) : Type 0 where
   pub source_fits : SourceFits told context.source s.source
   pub dest_fits : DestFits told context.dest s.dest
   pub mech_is : s.client.setting.mech ≡ mech
   pub events : context.events ≤ most_events
   pub numbered : length context.begun ≡ most_copies + 1
   pub below : IsBelow (context.events + s.flowed) s
+  pub watched : AreWatched told size fuse s
+  pub opened : AreNumbered told (context.events + s.flowed) s
   pub clock_is : s.clock ≤ 1000000 * context.events
   pub bytes : bytes_of s.log ≤ most_bytes
   pub within : s.flowed ≤ length s.log
@@ -147,3 +153,9 @@ DiskHolds timeline size tag v disk =
 
 abbrev pub Holds : {D : Type 0} → (D → Timeline) → (D → ℕ) → ℕ → Option Volume → Option D → Type 0
 Holds timeline size tag v disk = IfSome v (λ v. DiskHolds timeline size tag v disk)
+
+-- ---- a server is lost: its disk is on its own
+
+abbrev pub lost_in : {D M : Type 0} → Side → D → Running D M → Running D M
+lost_in Source disk r = record r { context = without Source r.context; source = Some disk; source_state = None }
+lost_in Dest disk r = record r { context = without Dest r.context; dest = Some disk; dest_state = None }

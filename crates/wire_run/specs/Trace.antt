@@ -6,7 +6,8 @@ use Rattle.streams.specs.Sink.{AppendsFront}
 use Rattle.streams.specs.Stream.{Taking}
 use Rattle.wire_machine.specs.Check.{Reading}
 use Rattle.wire_machine.specs.Runs.{Numbered, Whole, last_line}
-use Rattle.wire_run.specs.Running.{HasDisks, RunMachines, Running, StepIs, context_after, mech_of, text_in}
+use Rattle.wire_run.specs.Running.{ArmsRight, HasDisks, Running, StepIs, context_after, mech_of, text_in}
+use Rattle.run_ends.specs.Ends.{RunMachines}
 use Rattle.wire_run.specs.declared.run.Ran.{Ran}
 use Rattle.wire_run.specs.declared.run.Ran.TheVariants as ran
 use Rattle.wire_run.specs.declared.system.Stepped.{Stepped}
@@ -37,10 +38,12 @@ ended_by line (stepped.Went text) = None
 ended_by line (stepped.OverLimit text) = Some (ran.OverLimit line)
 ended_by line (stepped.Mistaken text mistake) = Some (ran.Mistaken mistake)
 ended_by line (stepped.Unmade cause) = Some (ran.Unmade cause)
+ended_by line (stepped.Lost side cause) = Some (ran.Lost cause)
 
--- The lines of an event are put. Where a server wasn't made there are none.
+-- The lines of an event are put. Where a server wasn't made, or is lost, there are none.
 abbrev pub PutsLines : (line : ℕ) → Stepped → (before now : Taking) → Option Ran → Type 0
 PutsLines line (stepped.Unmade cause) before now result = (now ≡ before) × (result ≡ Some (ran.Unmade cause))
+PutsLines line (stepped.Lost side cause) before now result = (now ≡ before) × (result ≡ Some (ran.Lost cause))
 PutsLines line s before now result = Puts (text_in s) (ended_by line s) before now result
 
 -- the last line is put behind so many records
@@ -56,6 +59,7 @@ module _ {D M : Type 0} (told : Type 0) (m : RunMachines M) (read : Reading) (fa
     pub is : StepIs told m read faults size (mech_of old) old new e.event became
     pub context : new.context ≡ context_after old.context e.event became
     pub disks : HasDisks new
+    pub arms : ArmsRight old new e.event
     pub puts : PutsLines e.line became before now result
 
   -- the events go on after one, unless the run ends with it

@@ -1,12 +1,14 @@
 //! What the two servers of a run do in small steps, where they are there.
 
 ghost use Rattle.std.specs.Prelude.{◌≡◌, ◌+◌, ◌<◌, ◌≤◌, ℕ, length, true, IfOk, IfSome, OnErr};
+ghost use Rattle.wire_run.specs.Cutting.{DestCalls, SourceCalls};
+ghost use Rattle.wire_run.specs.Watching.{fuse_in};
 ghost use Rattle.session_server.specs.declared.host.TheConstants.{MOST_STEPS};
 ghost use Rattle.source_core.specs.Core.{nothing};
 ghost use Rattle.wire_machine.specs.Ends as acts;
 ghost use Rattle.wire_machine.specs.Steps.{command_of};
-ghost use Rattle.wire_run.specs.Ends.{is_worker, run_machines};
-ghost use Rattle.wire_run.specs.Stage.{dest_boot, dest_steps, peeked_of, source_boot, source_steps, ClientActs, DestActs, DestPeeks, DestSized, HasFitPlans, IsCommand, IsDestOpen, IsSourceOpen, SourceActs, SourcePeeks, SourceSized};
+ghost use Rattle.run_ends.specs.Ends.{is_worker, run_machines};
+ghost use Rattle.wire_run.specs.Stage.{dest_boot, dest_disk, dest_steps, peeked_of, source_boot, source_disk, source_steps, ClientActs, DestActs, DestPeeks, DestSized, HasFitPlans, IsCommand, IsDestOpen, IsSourceOpen, SourceActs, SourcePeeks, SourceSized};
 
 use crate::bytes::{are_bytes, of_bytes};
 use crate::client_turn::command;
@@ -16,7 +18,7 @@ use block_file::ReadFault;
 use client_core::Client;
 use dest_core::DestCore;
 use dest_tasks::WORKERS;
-use disk_model::Disk;
+use disk_model::CrashDisk;
 use gss_mech::Mechanism;
 use nfs_base::Side;
 use outbox::{NoteList, Outbox};
@@ -27,7 +29,7 @@ use streams::CountDraws;
 use wire_schedule::Event;
 use wire_xdr::Items;
 
-impl<D: Disk, M: Mechanism> SourceEnd<D, M> {
+impl<D: CrashDisk + Drop, M: Mechanism> SourceEnd<D, M> {
     /// Takes a record on a connection.
     pub(crate) fn take(
         &mut self,
@@ -40,6 +42,7 @@ impl<D: Disk, M: Mechanism> SourceEnd<D, M> {
         requires open { IsSourceOpen self.old }
         requires few { source_steps self.old < MOST_STEPS }
         ensures acts { IfOk result (SourceActs D.Told (run_machines M.mic_of M.derived M.started M.accepted M.finished) D.faults D.size (acts.SourceTakes conn bytes.now) now self.old draws.old self.new draws.new) }
+        ensures calls { IfOk result (λ out. SourceCalls D.Told D.size D.fuse D.timeline D.faults self.old self.new out.used) }
         ensures err { OnErr result (self.new ≡ self.old) }
     {
         volume_laws::steps_keep_the_files();
@@ -47,6 +50,7 @@ impl<D: Disk, M: Mechanism> SourceEnd<D, M> {
         let SourceEnd::Open(core) = self else {
             unreachable!()
         };
+        core.boot();
         are_bytes(bytes);
         of_bytes(core.on_record(alloc, conn, bytes, now, draws))
     }
@@ -56,11 +60,14 @@ impl<D: Disk, M: Mechanism> SourceEnd<D, M> {
         requires open { IsSourceOpen self.old }
         requires few { source_steps self.old < MOST_STEPS }
         ensures acts { IfOk result (λ out. (draws : ℕ) → SourceActs D.Told (run_machines M.mic_of M.derived M.started M.accepted M.finished) D.faults D.size acts.SourceTicks now self.old draws self.new draws out) }
+        ensures calls { IfOk result (λ out. SourceCalls D.Told D.size D.fuse D.timeline D.faults self.old self.new out.used) }
+        ensures fuse { fuse_in D.fuse (source_disk self.new) ≡ fuse_in D.fuse (source_disk self.old) }
         ensures err { OnErr result (self.new ≡ self.old) }
     {
         let SourceEnd::Open(core) = self else {
             unreachable!()
         };
+        core.boot();
         core.tick(alloc, now)
     }
 
@@ -94,7 +101,8 @@ impl<D: Disk, M: Mechanism> SourceEnd<D, M> {
     pub(crate) fn peek(&mut self, file: u32, off: u64, out: &mut [u8]) -> Peeked
         requires open { IsSourceOpen self.old }
         requires file { 1 ≤ file }
-        ensures { SourcePeeks D.Told D.faults D.size file off self.old self.new out.old out.new result }
+        ensures peeks { SourcePeeks D.Told D.faults D.size file off self.old self.new out.old out.new result }
+        ensures fuse { fuse_in D.fuse (source_disk self.new) ≡ fuse_in D.fuse (source_disk self.old) }
     {
         let SourceEnd::Open(core) = self else {
             unreachable!()
@@ -106,7 +114,7 @@ impl<D: Disk, M: Mechanism> SourceEnd<D, M> {
     }
 }
 
-impl<D: Disk, M: Mechanism> DestEnd<D, M> {
+impl<D: CrashDisk + Drop, M: Mechanism> DestEnd<D, M> {
     /// Takes a record on the client's connection.
     pub(crate) fn take(
         &mut self,
@@ -118,6 +126,7 @@ impl<D: Disk, M: Mechanism> DestEnd<D, M> {
         requires open { IsDestOpen self.old }
         requires few { dest_steps self.old < MOST_STEPS }
         ensures acts { IfOk result (DestActs D.Told (run_machines M.mic_of M.derived M.started M.accepted M.finished) D.faults D.size (acts.DestTakes 0 bytes.now) now self.old draws.old self.new draws.new) }
+        ensures calls { IfOk result (λ out. DestCalls D.Told D.size D.fuse D.timeline D.faults self.old self.new out.used) }
         ensures err { OnErr result (self.new ≡ self.old) }
     {
         volume_laws::steps_keep_the_files();
@@ -125,6 +134,7 @@ impl<D: Disk, M: Mechanism> DestEnd<D, M> {
         let DestEnd::Open(core) = self else {
             unreachable!()
         };
+        core.boot();
         are_bytes(bytes);
         let out = of_bytes(core.on_record(alloc, 0, bytes, now, draws));
         core.landed();
@@ -143,6 +153,7 @@ impl<D: Disk, M: Mechanism> DestEnd<D, M> {
         requires few { dest_steps self.old < MOST_STEPS }
         requires there { is_worker worker ≡ true }
         ensures acts { IfOk result (DestActs D.Told (run_machines M.mic_of M.derived M.started M.accepted M.finished) D.faults D.size (acts.Works worker) now self.old draws.old self.new draws.new) }
+        ensures calls { IfOk result (λ out. DestCalls D.Told D.size D.fuse D.timeline D.faults self.old self.new out.used) }
         ensures err { OnErr result (self.new ≡ self.old) }
     {
         volume_laws::steps_keep_the_files();
@@ -150,6 +161,7 @@ impl<D: Disk, M: Mechanism> DestEnd<D, M> {
         let DestEnd::Open(core) = self else {
             unreachable!()
         };
+        core.boot();
         let out = of_bytes(core.work(alloc, worker, now, draws));
         core.landed();
         out
@@ -160,6 +172,7 @@ impl<D: Disk, M: Mechanism> DestEnd<D, M> {
         requires open { IsDestOpen self.old }
         requires few { dest_steps self.old < MOST_STEPS }
         ensures acts { IfOk result (λ out. (draws : ℕ) → DestActs D.Told (run_machines M.mic_of M.derived M.started M.accepted M.finished) D.faults D.size (acts.Hears worker bytes.now) now self.old draws self.new draws out) }
+        ensures calls { IfOk result (λ out. DestCalls D.Told D.size D.fuse D.timeline D.faults self.old self.new out.used) }
         ensures err { OnErr result (self.new ≡ self.old) }
     {
         let there = is_worker(worker);
@@ -168,6 +181,7 @@ impl<D: Disk, M: Mechanism> DestEnd<D, M> {
         } else {
             are_bytes(bytes);
             self.has_fit_plans();
+            self.rests();
             no_outbox(alloc)
         }
     }
@@ -177,6 +191,7 @@ impl<D: Disk, M: Mechanism> DestEnd<D, M> {
         requires few { dest_steps self.old < MOST_STEPS }
         requires there { is_worker worker ≡ true }
         ensures acts { IfOk result (λ out. (draws : ℕ) → DestActs D.Told (run_machines M.mic_of M.derived M.started M.accepted M.finished) D.faults D.size (acts.Hears worker bytes.now) now self.old draws self.new draws out) }
+        ensures calls { IfOk result (λ out. DestCalls D.Told D.size D.fuse D.timeline D.faults self.old self.new out.used) }
         ensures err { OnErr result (self.new ≡ self.old) }
     {
         volume_laws::steps_keep_the_files();
@@ -184,6 +199,7 @@ impl<D: Disk, M: Mechanism> DestEnd<D, M> {
         let DestEnd::Open(core) = self else {
             unreachable!()
         };
+        core.boot();
         are_bytes(bytes);
         let out = of_bytes(core.on_source_reply(alloc, worker, bytes, now));
         core.landed();
@@ -195,11 +211,14 @@ impl<D: Disk, M: Mechanism> DestEnd<D, M> {
         requires open { IsDestOpen self.old }
         requires few { dest_steps self.old < MOST_STEPS }
         ensures acts { IfOk result (λ out. (draws : ℕ) → DestActs D.Told (run_machines M.mic_of M.derived M.started M.accepted M.finished) D.faults D.size acts.DestTicks now self.old draws self.new draws out) }
+        ensures calls { IfOk result (λ out. DestCalls D.Told D.size D.fuse D.timeline D.faults self.old self.new out.used) }
+        ensures fuse { fuse_in D.fuse (dest_disk self.new) ≡ fuse_in D.fuse (dest_disk self.old) }
         ensures err { OnErr result (self.new ≡ self.old) }
     {
         let DestEnd::Open(core) = self else {
             unreachable!()
         };
+        core.boot();
         let out = of_bytes(core.tick(alloc, now));
         core.landed();
         out
@@ -246,7 +265,8 @@ impl<D: Disk, M: Mechanism> DestEnd<D, M> {
     pub(crate) fn peek(&mut self, file: u32, off: u64, out: &mut [u8]) -> Peeked
         requires open { IsDestOpen self.old }
         requires file { 1 ≤ file }
-        ensures { DestPeeks D.Told D.faults D.size file off self.old self.new out.old out.new result }
+        ensures peeks { DestPeeks D.Told D.faults D.size file off self.old self.new out.old out.new result }
+        ensures fuse { fuse_in D.fuse (dest_disk self.new) ≡ fuse_in D.fuse (dest_disk self.old) }
     {
         let DestEnd::Open(core) = self else {
             unreachable!()

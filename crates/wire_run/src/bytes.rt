@@ -1,7 +1,7 @@
 //! What is known of bytes by their type.
 
 ghost use Rattle.std.specs.Prelude.{◌≡◌, IfOk};
-ghost use Rattle.wire_run.specs.Handling.{AreBytes};
+ghost use Rattle.run_ends.specs.Handling.{AreBytes};
 ghost use Rattle.wire_xdr.specs.Cursor.{IsBytes};
 
 use outbox::{Outbox, Outgoing};

@@ -6,7 +6,7 @@ ghost use Rattle.nfs_base.specs.declared.limits.TheConstants.{DATA_LIMIT};
 ghost use Rattle.wire_run.specs.Commanding.{CanBegin};
 ghost use Rattle.wire_run.specs.Stage.{bytes_in};
 ghost use Rattle.wire_machine.specs.Steps.{command_of};
-ghost use Rattle.wire_run.specs.Ends.{client_does, words_of};
+ghost use Rattle.run_ends.specs.Ends.{client_does, words_of};
 
 use client_core::Client;
 use gss_mech::Mechanism;
@@ -48,6 +48,8 @@ pub(crate) fn command<M: Mechanism, W: Draws>(
         | Event::Flow
         | Event::Work { .. }
         | Event::Tick { .. }
-        | Event::Peek { .. } => unreachable!(),
+        | Event::Peek { .. }
+        | Event::Crash { .. }
+        | Event::CrashAfter { .. } => unreachable!(),
     }
 }

@@ -1,18 +1,21 @@
 //! The two servers of a run.
 
-ghost use Rattle.std.specs.Prelude.{◌≡◌, IfOk, OnErr, MatchResult};
+ghost use Rattle.std.specs.Prelude.{◌≡◌, ◌<◌, ◌≤◌, IfOk, OnErr, MatchResult};
+ghost use Rattle.block_file.specs.Layout.{blocks_of};
+ghost use Rattle.disk_model.specs.declared.fuse.Fuse.TheVariants.{Unset};
 ghost use Rattle.wire_run.specs.Fresh.{dest_with, source_with, DestLeft, DestMakes, IsDestDisk, IsDestMade, IsShape, IsSourceDisk, IsSourceMade, IsUnmade, SourceLeft, SourceMakes};
 ghost use Rattle.wire_run.specs.Stage.{dest_disk, source_disk};
+ghost use Rattle.wire_run.specs.Watching.{fuse_in};
 
 use crate::fresh::{OTHER_FILES, Unmade, unformatted, unopened};
-use crate::setting::{
-    DEST_TAG, SOURCE_TAG, dest_name, dest_place, dest_source, source_peers, source_place,
-};
 use block_file::Volume;
 use dest_core::DestCore;
-use disk_model::Disk;
+use disk_model::{CrashDisk, Disk};
 use gss_mech::Mechanism;
 use outcome::Mem;
+use run_ends::{
+    DEST_TAG, SOURCE_TAG, dest_name, dest_place, dest_source, source_peers, source_place,
+};
 use source_core::SourceCore;
 use std::alloc::Global;
 use std::mem;
@@ -41,7 +44,7 @@ pub(crate) enum DestEnd<D: Disk, M> {
     Open(DestCore<D, M>),
 }
 
-impl<D: Disk + Drop, M: Mechanism> SourceEnd<D, M> {
+impl<D: CrashDisk + Drop, M: Mechanism> SourceEnd<D, M> {
     pub(crate) fn new(disk: Option<D>) -> SourceEnd<D, M>
         ensures { result ≡ source_with disk }
     {
@@ -75,10 +78,12 @@ impl<D: Disk + Drop, M: Mechanism> SourceEnd<D, M> {
         requires shape { IsShape files blocks }
         ensures made { IfOk result (SourceMakes D.Told D.faults D.size mech (record { files = files; blocks = blocks }) self.old self.new) }
         ensures away { OnErr result (self.new ≡ SourceEnd.Away) }
+        ensures unset { IfOk result (λ made. IfOk made (λ _. fuse_in D.fuse (source_disk self.new) ≡ Unset)) }
     {
         let SourceEnd::Disk(disk) = mem::replace(self, SourceEnd::Away) else {
             unreachable!()
         };
+        let disk = disarmed(disk, files, blocks);
         match open_source(alloc, disk, mech, files, blocks)? {
             Ok(core) => {
                 *self = SourceEnd::Open(core);
@@ -100,9 +105,10 @@ fn open_source<D: Disk + Drop, M: Mechanism>(
     blocks: u32,
 ) -> Mem<Result<SourceCore<D, M>, (D, Unmade)>>
     requires shape { IsShape files blocks }
-    ensures { IfOk result (λ answer. MatchResult answer
+    ensures made { IfOk result (λ answer. MatchResult answer
         (λ core. IsSourceMade D.Told D.faults D.size mech (record { files = files; blocks = blocks }) disk core)
         (λ fault. IsUnmade D.Told D.faults D.size (record { files = files; blocks = blocks }) disk fault.0 fault.1)) }
+    ensures unset { D.fuse disk ≡ Unset → IfOk result (λ answer. IfOk answer (λ core. D.fuse core.server.files.volume.disk ≡ Unset)) }
 {
     let peers = source_peers(alloc)?;
     let own = source_place(alloc)?;
@@ -122,7 +128,7 @@ fn open_source<D: Disk + Drop, M: Mechanism>(
     }
 }
 
-impl<D: Disk + Drop, M: Mechanism> DestEnd<D, M> {
+impl<D: CrashDisk + Drop, M: Mechanism> DestEnd<D, M> {
     pub(crate) fn new(disk: Option<D>) -> DestEnd<D, M>
         ensures { result ≡ dest_with disk }
     {
@@ -156,10 +162,12 @@ impl<D: Disk + Drop, M: Mechanism> DestEnd<D, M> {
         requires shape { IsShape files blocks }
         ensures made { IfOk result (DestMakes D.Told D.faults D.size mech (record { files = files; blocks = blocks }) self.old self.new) }
         ensures away { OnErr result (self.new ≡ DestEnd.Away) }
+        ensures unset { IfOk result (λ made. IfOk made (λ _. fuse_in D.fuse (dest_disk self.new) ≡ Unset)) }
     {
         let DestEnd::Disk(disk) = mem::replace(self, DestEnd::Away) else {
             unreachable!()
         };
+        let disk = disarmed(disk, files, blocks);
         match open_dest(alloc, disk, mech, files, blocks)? {
             Ok(core) => {
                 *self = DestEnd::Open(core);
@@ -181,9 +189,10 @@ fn open_dest<D: Disk + Drop, M: Mechanism>(
     blocks: u32,
 ) -> Mem<Result<DestCore<D, M>, (D, Unmade)>>
     requires shape { IsShape files blocks }
-    ensures { IfOk result (λ answer. MatchResult answer
+    ensures made { IfOk result (λ answer. MatchResult answer
         (λ core. IsDestMade D.Told D.faults D.size mech (record { files = files; blocks = blocks }) disk core)
         (λ fault. IsUnmade D.Told D.faults D.size (record { files = files; blocks = blocks }) disk fault.0 fault.1)) }
+    ensures unset { D.fuse disk ≡ Unset → IfOk result (λ answer. IfOk answer (λ core. D.fuse core.server.files.volume.disk ≡ Unset)) }
 {
     let source = dest_source(alloc)?;
     let principal = dest_name(alloc)?;
@@ -202,4 +211,20 @@ fn open_dest<D: Disk + Drop, M: Mechanism>(
         }
         Err((disk, fault)) => Ok(Err((disk, unopened(fault)))),
     }
+}
+
+/// A disk that has room for a volume, with no fuse set: it crashes first, as all that it held is written over. One that is too small stays as it is.
+fn disarmed<D: CrashDisk>(disk: D, files: u32, blocks: u32) -> D
+    requires shape { IsShape files blocks }
+    ensures short { D.size disk < blocks_of files blocks → result ≡ disk }
+    ensures unset { blocks_of files blocks ≤ D.size disk → D.fuse result ≡ Unset }
+    ensures size { D.size result ≡ D.size disk }
+    ensures faults { D.faults result ≡ D.faults disk }
+{
+    let mut disk = disk;
+    let need = 4 + 3 * u64::from(files) + 2 * (u64::from(files) * u64::from(blocks));
+    if need <= disk.blocks() {
+        disk.crash(0);
+    }
+    disk
 }

@@ -2,7 +2,7 @@ ghost use Rattle.std.specs.Prelude.{◌≡◌, ◌++◌, ◌∷◌, [], ℕ, Lis
 ghost use Rattle.streams.specs.Stream.{Taking};
 ghost use Rattle.wire_log.specs.Keeping.{reading};
 ghost use Rattle.wire_machine.specs.Runs.{numbered, Numbered};
-ghost use Rattle.wire_run.specs.Ends.{run_machines};
+ghost use Rattle.run_ends.specs.Ends.{run_machines};
 ghost use Rattle.wire_run.specs.Run.{RanHasCause, RanIs};
 ghost use Rattle.wire_run.specs.Running.{at_rest, mech_of, HasDisks, Running};
 ghost use Rattle.wire_run.specs.Trace.{events_at, EndPuts, Happen, Happens};

@@ -8,23 +8,21 @@
 mod acting;
 mod bytes;
 mod client_turn;
+mod cutting;
 mod ends;
 mod flowing;
 mod fresh;
 mod laws;
 mod lines;
 mod run;
-mod setting;
 mod settling;
 mod small;
 mod stage;
+mod stop_laws;
 mod system;
 
 pub use ends::Disks;
 pub use fresh::Unmade;
 pub use laws::{events_follow_events, events_make_runs};
 pub use run::Ran;
-pub use setting::{
-    DEST_TAG, SOURCE_TAG, dest_name, dest_place, dest_source, source_peers, source_place, user,
-};
 pub use system::{Stepped, System};

@@ -4,7 +4,7 @@ ghost use Rattle.wire_run.specs.Trace.{Puts};
 
 use crate::fresh::Unmade;
 use crate::system::{Stepped, System};
-use disk_model::Disk;
+use disk_model::CrashDisk;
 use gss_mech::Mechanism;
 use outcome::Mem;
 use std::alloc::Global;
@@ -28,15 +28,18 @@ pub enum Ran {
     /// A server's volume could not be made.
     Unmade(Unmade),
 
+    /// A server that stopped could not be opened anew; the lines before that were put.
+    Lost(Unmade),
+
     /// A record was taken by mistake; the lines before that were put.
     Mistaken(Mistake),
 }
 
-impl<D: Disk + Drop, M: Mechanism + Copy> System<D, M> {
+impl<D: CrashDisk + Drop, M: Mechanism + Copy> System<D, M> {
     ghost use Rattle.std.specs.Prelude.{◌≡◌, ◌≤◌, ◌⊎◌, length, IfOk, IsTrue, OnErr};
     ghost use Rattle.wire_log.specs.Keeping.{reading};
     ghost use Rattle.wire_machine.specs.Runs.{events_in, numbered};
-    ghost use Rattle.wire_run.specs.Ends.{run_machines};
+    ghost use Rattle.run_ends.specs.Ends.{run_machines};
     ghost use Rattle.wire_run.specs.Run.{RanHasCause, RanIs, RanOut};
     ghost use Rattle.wire_run.specs.Running.{at_rest, mech_of, HasDisks};
     ghost use Rattle.wire_run.specs.Trace.{turn_of, EndPuts, Happen, Happens, IsCut};
@@ -167,6 +170,7 @@ impl<D: Disk + Drop, M: Mechanism + Copy> System<D, M> {
                 Ok(put_text(out, text.as_bytes(), Some(Ran::Mistaken(mistake))))
             }
             Stepped::Unmade(cause) => Ok(Some(Ran::Unmade(cause))),
+            Stepped::Lost { cause, .. } => Ok(Some(Ran::Lost(cause))),
         }
     }
 

@@ -1,11 +1,16 @@
 //! What there is between two small steps.
 
+ghost use Rattle.std.specs.Prelude.{◌≡◌};
+ghost use Rattle.wire_run.specs.Watching.{no_stop, stop_at, with_stop};
+
 use crate::ends::{DestEnd, SourceEnd};
+use crate::fresh::Unmade;
 use client_core::Client;
 use disk_model::Disk;
-use nfs_base::End;
+use nfs_base::{End, Side};
 use outbox::Outbox;
 use streams::CountDraws;
+use volume_stops::Pending;
 use wire_lines::Speaker;
 use wire_log::Log;
 use wire_machine::{Choice, Mistake};
@@ -23,6 +28,58 @@ pub(crate) struct Stage<D: Disk, M> {
 
     /// All records up to this one were delivered.
     pub(crate) flowed: u64,
+
+    /// What a stop of each server is told by.
+    pub(crate) stops: Stops,
+}
+
+/// What a stop of a server is told by.
+#[derive(Clone, Copy)]
+pub(crate) struct Stop {
+    /// The commit that a crash may find unfinished.
+    pub(crate) pending: Option<Pending>,
+
+    /// Where a fuse is set at its disk: the pick of the crash.
+    pub(crate) armed: Option<u8>,
+}
+
+/// The same of both servers.
+#[derive(Clone, Copy)]
+pub(crate) struct Stops {
+    pub(crate) source: Stop,
+    pub(crate) dest: Stop,
+}
+
+impl Stop {
+    /// No commit is unfinished, and no fuse is set.
+    pub(crate) fn none() -> Stop
+        ensures { result ≡ no_stop }
+    {
+        Stop {
+            pending: None,
+            armed: None,
+        }
+    }
+}
+
+impl Stops {
+    pub(crate) fn at(&self, side: Side) -> Stop
+        ensures { result ≡ stop_at side self.now }
+    {
+        match side {
+            Side::Source => self.source,
+            Side::Dest => self.dest,
+        }
+    }
+
+    pub(crate) fn put(&mut self, side: Side, stop: Stop)
+        ensures { self.new ≡ with_stop side stop self.old }
+    {
+        match side {
+            Side::Source => self.source = stop,
+            Side::Dest => self.dest = stop,
+        }
+    }
 }
 
 /// Why a run ends with a small step.
@@ -30,6 +87,14 @@ pub(crate) struct Stage<D: Disk, M> {
 pub(crate) enum Fault {
     Mistaken(Mistake),
     TooLarge,
+}
+
+/// A server that stopped and couldn't be opened anew: its disk, and why.
+#[derive(Drop)]
+pub(crate) struct Lost<D> {
+    pub(crate) side: Side,
+    pub(crate) disk: D,
+    pub(crate) cause: Unmade,
 }
 
 /// What one end did in a small step.

@@ -5,13 +5,13 @@ ghost use Rattle.wire_run.specs.Stage.{is_shown};
 
 use crate::ends::{DestEnd, Disks, SourceEnd};
 use crate::fresh::Unmade;
-use crate::setting::{dest_place, source_place, user};
-use crate::stage::Stage;
+use crate::stage::{Lost, Stage, Stop, Stops};
 use client_core::Client;
-use disk_model::Disk;
+use disk_model::{CrashDisk, Disk};
 use gss_mech::Mechanism;
 use nfs_base::Side;
 use outcome::Mem;
+use run_ends::{dest_place, source_place, user};
 use std::alloc::Global;
 use std::marker::Model;
 use streams::CountDraws;
@@ -33,6 +33,9 @@ pub enum Stepped {
 
     /// The server's volume could not be made; the run is over.
     Unmade(Unmade),
+
+    /// A server that stopped could not be opened anew. It isn't there any more, and its disk is on its own; the run is over.
+    Lost { side: Side, cause: Unmade },
 }
 
 /// What became of a read of bytes that are to be shown.
@@ -75,19 +78,19 @@ impl<D: Disk, M> Model for System<D, M> {
 
     ghost view = { λ s. running_of D.size s.context s.stage };
 
-    ghost invariant = { λ s. IsSound D.Told s.context s.mech s.stage };
+    ghost invariant = { λ s. IsSound D.Told D.size D.fuse s.context s.mech s.stage };
 }
 
-impl<D: Disk + Drop, M: Mechanism + Copy> System<D, M> {
+impl<D: CrashDisk + Drop, M: Mechanism + Copy> System<D, M> {
     ghost use Rattle.nfs_base.specs.declared.side.Side.{Side};
     ghost use Rattle.std.specs.Prelude.{◌≡◌, ◌≤◌, ◌<◌, ◌↔◌, true, false, length, None, Some, IfOk, IsTrue, MatchOption};
     ghost use Rattle.wire_log.specs.Keeping.{reading};
     ghost use Rattle.wire_log.specs.Keeping as keeping;
     ghost use Rattle.wire_machine.specs.World.{posted_at};
-    ghost use Rattle.wire_run.specs.Ends.{run_machines};
-    ghost use Rattle.wire_run.specs.Running.{at_rest, context_after, disk_of, mech_of, HasDisks, Later, StepIs};
-    ghost use Rattle.wire_run.specs.System.{is_broken, shown_at, with_disk, HasFile, Holds, IsShown, IsSingle, IsSized, IsUnread};
-    ghost use Rattle.wire_run.specs.declared.setting.TheConstants.{SOURCE_TAG, DEST_TAG};
+    ghost use Rattle.run_ends.specs.Ends.{run_machines};
+    ghost use Rattle.wire_run.specs.Running.{at_rest, context_after, disk_of, is_there, mech_of, ArmsRight, HasDisks, Later, StepIs};
+    ghost use Rattle.wire_run.specs.System.{is_broken, lost_in, shown_at, with_disk, HasFile, Holds, IsShown, IsSingle, IsSized, IsUnread};
+    ghost use Rattle.run_ends.specs.declared.setting.TheConstants.{SOURCE_TAG, DEST_TAG};
     ghost use Rattle.wire_schedule.specs.Admission.{admits};
 
     /// Before the first event: no server is there.
@@ -113,6 +116,10 @@ impl<D: Disk + Drop, M: Mechanism + Copy> System<D, M> {
                 log: Log::new(alloc),
                 choices: Vec::new(alloc),
                 flowed: 0,
+                stops: Stops {
+                    source: Stop::none(),
+                    dest: Stop::none(),
+                },
             },
         })
     }
@@ -187,6 +194,7 @@ impl<D: Disk + Drop, M: Mechanism + Copy> System<D, M> {
         requires disks { HasDisks self.old }
         ensures is { IfOk result (StepIs D.Told (run_machines M.mic_of M.derived M.started M.accepted M.finished) reading D.faults D.size (mech_of self.old) self.old self.new event.now) }
         ensures context { IfOk result (λ stepped. self.new.context ≡ context_after self.old.context event.now stepped) }
+        ensures arms { ArmsRight self.old self.new event.now }
         ensures disks { IfOk result (λ stepped. HasDisks self.new) }
     {
         match event {
@@ -206,6 +214,7 @@ impl<D: Disk + Drop, M: Mechanism + Copy> System<D, M> {
         requires disks { HasDisks self.old }
         ensures is { IfOk result (StepIs D.Told (run_machines M.mic_of M.derived M.started M.accepted M.finished) reading D.faults D.size (mech_of self.old) self.old self.new (Event.Volume side files blocks)) }
         ensures context { IfOk result (λ stepped. self.new.context ≡ context_after self.old.context (Event.Volume side files blocks) stepped) }
+        ensures arms { ArmsRight self.old self.new (Event.Volume side files blocks) }
         ensures disks { IfOk result (λ stepped. HasDisks self.new) }
     {
         let next = self.context.after(&Event::Volume {
@@ -230,10 +239,14 @@ impl<D: Disk + Drop, M: Mechanism + Copy> System<D, M> {
         requires disks { HasDisks self.old }
         ensures is { IfOk result (StepIs D.Told (run_machines M.mic_of M.derived M.started M.accepted M.finished) reading D.faults D.size (mech_of self.old) self.old self.new (Event.Flow)) }
         ensures context { IfOk result (λ stepped. self.new.context ≡ context_after self.old.context (Event.Flow) stepped) }
+        ensures arms { ArmsRight self.old self.new (Event.Flow) }
         ensures disks { IfOk result (λ stepped. HasDisks self.new) }
     {
         self.context = self.context.after(&Event::Flow);
-        self.stage.flow(alloc)
+        match self.stage.flow(alloc)? {
+            Ok(stepped) => Ok(stepped),
+            Err(lost) => Ok(self.lose(lost)),
+        }
     }
 
     /// An event that is one small step.
@@ -243,9 +256,33 @@ impl<D: Disk + Drop, M: Mechanism + Copy> System<D, M> {
         requires disks { HasDisks self.old }
         ensures is { IfOk result (StepIs D.Told (run_machines M.mic_of M.derived M.started M.accepted M.finished) reading D.faults D.size (mech_of self.old) self.old self.new event.now) }
         ensures context { IfOk result (λ stepped. self.new.context ≡ context_after self.old.context event.now stepped) }
+        ensures arms { ArmsRight self.old self.new event.now }
         ensures disks { IfOk result (λ stepped. HasDisks self.new) }
     {
         self.context = self.context.after(event);
-        self.stage.once(alloc, event)
+        match self.stage.once(alloc, event)? {
+            Ok(stepped) => Ok(stepped),
+            Err(lost) => Ok(self.lose(lost)),
+        }
+    }
+
+    /// A server that was lost isn't there any more, and its disk is on its own.
+    fn lose(&mut self, lost: Lost<D>) -> Stepped
+        requires gone { is_there self.old lost.side ≡ false }
+        ensures result { result ≡ Stepped.Lost lost.side lost.cause }
+        ensures lost { self.new ≡ lost_in lost.side lost.disk self.old }
+    {
+        let Lost { side, disk, cause } = lost;
+        match side {
+            Side::Source => {
+                self.context.source = None;
+                self.stage.source = SourceEnd::Disk(disk);
+            }
+            Side::Dest => {
+                self.context.dest = None;
+                self.stage.dest = DestEnd::Disk(disk);
+            }
+        }
+        Stepped::Lost { side, cause }
     }
 }

@@ -1,7 +1,7 @@
 -- Each event of a schedule has one spelling.
 use Rattle.std.proofs.Common.{◌≡◌, ℕ, ◌+◌, ◌/◌, ◌%◌, ◌^◌, ◌<◌, ◌≤◌, ◌⊎◌, inl, inr, ◌==◌, ◌&&◌, List, [], ◌∷◌, Option, None, Some, Bool, true, false, cond, All, refl, sym, ap, ◌∙◌, arith, codes, decimal, ltb}
 use Rattle.std.specs.List.{join_with_byte}
-use Rattle.std.specs.Option.{option_map}
+use Rattle.std.specs.Option.{option_map, option_or}
 use Rattle.std.specs.Str.{bytes_eq, all_ascii_digits}
 use Rattle.std.proofs.lemmas.Bool.{and_parts, and_from, lt-ltb, ltb-true, ne_eqb, leb-true, cond_both, cases_Bool}
 use Rattle.std.proofs.lemmas.List.Elements.{All-nil, All-cons}
@@ -13,14 +13,14 @@ use Rattle.nfs_base.specs.declared.side.Side.TheVariants.{Source, Dest}
 use Rattle.nfs_base.specs.Text.{side_text}
 use Rattle.nfs_base.specs.declared.copy_spec.CopySpec.{CopySpec}
 use Rattle.wire_schedule.specs.declared.event.Event.{Event}
-use Rattle.wire_schedule.specs.declared.event.Event.TheVariants.{Volume, Write, Commit, Copy, Status, Cancel, Retry, Deliver, Flow, Work, Tick, Peek}
+use Rattle.wire_schedule.specs.declared.event.Event.TheVariants.{Volume, Write, Commit, Copy, Status, Cancel, Retry, Deliver, Flow, Work, Tick, Peek, Crash, CrashAfter}
 use Rattle.wire_schedule.specs.declared.directive.Directive.{Directive}
 use Rattle.wire_schedule.specs.declared.directive.Directive.TheVariants.{Once, Flows, Rounds}
 use Rattle.wire_schedule.specs.Admission.{is_within}
 use Rattle.wire_schedule.specs.Expansion.{keeps_limits}
 use Rattle.wire_schedule.specs.Words.{words_of}
 use Rattle.wire_schedule.specs.Numerals.{number_of, number_below, bytes_of, hex_digit, hex_text}
-use Rattle.wire_schedule.specs.Grammar.{side_of, consecutive_of, volume_of, write_of, commit_of, copy_spec_of, copy_of, status_of, cancel_of, deliver_of, work_of, tick_of, peek_of, event_of, flows_of, rounds_of, lone_of, more_of, directive_of}
+use Rattle.wire_schedule.specs.Grammar.{side_of, consecutive_of, volume_of, write_of, commit_of, copy_spec_of, copy_of, status_of, cancel_of, deliver_of, work_of, tick_of, peek_of, crash_now_of, crash_then_of, crash_after_of, crash_of, event_of, flows_of, rounds_of, lone_of, more_of, directive_of}
 use Rattle.wire_schedule.specs.Spelling.{consecutive_text, words_for, line_words, spelling, FitsSpec, EventFits, FitsFields}
 use Rattle.wire_schedule.proofs.NumeralLemmas.{plain_digits, number_of-decimal, decimal-number_of, number_below-decimal, decimal-number_below}
 use Rattle.wire_schedule.proofs.HexLemmas.{bytes_of-hex_text, hex_text-bytes_of}
@@ -93,6 +93,9 @@ plain_event (Work worker) fits = rw (plain_decimal worker (omega (arith, fits)))
 plain_event (Tick seconds) fits = rw (plain_decimal seconds (omega (arith, fits))) refl
 plain_event (Peek side file off len) fits =
     rw (plain_side side, plain_decimal file (omega (arith, fits.0)), plain_decimal off fits.1, plain_decimal len (omega (arith, fits.2))) refl
+plain_event (Crash side pick) fits = rw (plain_side side, plain_decimal pick (omega (arith, fits))) refl
+plain_event (CrashAfter side calls pick) fits =
+    rw (plain_side side, plain_decimal calls fits.0, plain_decimal pick (omega (arith, fits.1))) refl
 
 pub plain_words : (directive : Directive) → FitsFields directive → are_plain (line_words directive) ≡ true
 plain_words (Once event) fits = plain_event event fits
@@ -117,7 +120,7 @@ below_8 n small = number_below-decimal (2 ^ 8) n small (omega arith)
 
 -- the words of an event read as it
 read_event : (event : Event) → EventFits event → is_within event ≡ true → directive_of (words_for event) ≡ Some (Once event)
-unfolding directive_of lone_of more_of event_of volume_of write_of commit_of copy_of copy_spec_of status_of cancel_of deliver_of work_of tick_of peek_of
+unfolding directive_of lone_of more_of event_of volume_of write_of commit_of copy_of copy_spec_of status_of cancel_of deliver_of work_of tick_of peek_of crash_now_of crash_then_of crash_after_of crash_of
 read_event (Volume side files blocks) fits within = rw (side_of-text side, below_32 files fits.0, below_32 blocks fits.1) refl
 read_event (Write side file off bytes) fits within =
     rw (side_of-text side, below_32 file fits.0, number_of-decimal off fits.1, bytes_of-hex_text bytes fits.2 (and_parts _ _ within).0) refl
@@ -133,6 +136,8 @@ read_event (Work worker) fits within = rw (below_8 worker fits) refl
 read_event (Tick seconds) fits within = rw (below_32 seconds fits) refl
 read_event (Peek side file off len) fits within =
     rw (side_of-text side, below_32 file fits.0, number_of-decimal off fits.1, below_8 len fits.2) refl
+read_event (Crash side pick) fits within = rw (side_of-text side, below_8 pick fits) refl
+read_event (CrashAfter side calls pick) fits within = rw (side_of-text side, number_of-decimal calls fits.0, below_8 pick fits.1) refl
 
 -- the words of a line read as what it gives
 read_line : (directive : Directive) → FitsFields directive → keeps_limits directive ≡ true → directive_of (line_words directive) ≡ Some directive
@@ -154,6 +159,8 @@ no_words_for Flow none = cc none
 no_words_for (Work worker) none = cc none
 no_words_for (Tick seconds) none = cc none
 no_words_for (Peek side file off len) none = cc none
+no_words_for (Crash side pick) none = cc none
+no_words_for (CrashAfter side calls pick) none = cc none
 
 no_line_words : (directive : Directive) → [] ≡ line_words directive → ⊥
 no_line_words (Once event) none = no_words_for event none
@@ -333,6 +340,48 @@ peek_spells (x ∷ f ∷ o ∷ n ∷ []) event is =
     rw (sym same) (rw (side-side_of x side side_is, f_is.1, o_is.1, n_is.1) refl, (f_is.0, o_is.0, n_is.0))))))
 peek_spells words event is = absurd (cc is)
 
+crash_now_spells : SpellsAs (codes "crash") crash_now_of
+unfolding crash_now_of
+crash_now_spells (x ∷ p ∷ []) event is =
+    option_and_then_some _ (side_of x) event is (λ side side_is after_side.
+    option_and_then_some _ (number_below (2 ^ 8) p) event after_side (λ pick pick_is whole.
+    let p_is = decimal-number_below (2 ^ 8) p pick pick_is in
+    let same : Crash side pick ≡ event = same_Some _ _ whole in
+    rw (sym same) (rw (side-side_of x side side_is, p_is.1) refl, p_is.0)))
+crash_now_spells words event is = absurd (cc is)
+
+crash_then_spells : (x k p : List ℕ) (event : Event) → crash_then_of x k p ≡ Some event → Spells (codes "crash" ∷ x ∷ codes "after" ∷ k ∷ p ∷ []) event
+unfolding crash_then_of
+crash_then_spells x k p event is =
+    option_and_then_some _ (side_of x) event is (λ side side_is after_side.
+    option_and_then_some _ (number_of k) event after_side (λ calls calls_is after_calls.
+    option_and_then_some _ (number_below (2 ^ 8) p) event after_calls (λ pick pick_is whole.
+    let k_is = decimal-number_of k calls calls_is in
+    let p_is = decimal-number_below (2 ^ 8) p pick pick_is in
+    let same : CrashAfter side calls pick ≡ event = same_Some _ _ whole in
+    rw (sym same) (rw (side-side_of x side side_is, k_is.1, p_is.1) refl, (k_is.0, p_is.0)))))
+
+crash_after_spells : SpellsAs (codes "crash") crash_after_of
+unfolding crash_after_of
+crash_after_spells (x ∷ a ∷ k ∷ p ∷ []) event is = elim (choice a (codes "after") (crash_then_of x k p) None event is) [
+  | inl found ↦
+      let spells = crash_then_spells x k p event found.1 in
+      (ap (λ (word : List ℕ). codes "crash" ∷ x ∷ word ∷ k ∷ p ∷ []) found.0 ∙ spells.0, spells.1)
+  | inr none ↦ absurd (cc none)
+]
+crash_after_spells words event is = absurd (cc is)
+
+-- one of two ways to read
+either_spells : (kind : List ℕ) (words : List (List ℕ)) (first second : Option Event) (event : Event) → (first ≡ Some event → Spells (kind ∷ words) event)
+    → (second ≡ Some event → Spells (kind ∷ words) event) → option_or first second ≡ Some event → Spells (kind ∷ words) event
+either_spells kind words None second event so or_so is = or_so is
+either_spells kind words (Some other) second event so or_so is = so is
+
+crash_spells : SpellsAs (codes "crash") crash_of
+unfolding crash_of
+crash_spells words event is =
+    either_spells (codes "crash") words (crash_now_of words) (crash_after_of words) event (crash_now_spells words event) (crash_after_spells words event) is
+
 -- a kind of line, by its first word
 by_kind : {A : Type 0} (P : List ℕ → A → Type 0) (kind text : List ℕ) (chosen other : Option A) (value : A) → (chosen ≡ Some value → P text value) → (other ≡ Some value → P kind value) → cond (bytes_eq kind text) chosen other ≡ Some value → P kind value
 by_kind P kind text chosen other value so else_so is =
@@ -356,7 +405,8 @@ event_spells kind words event is =
     (by_kind spells kind (codes "work") _ _ event (work_spells words event)
     (by_kind spells kind (codes "tick") _ _ event (tick_spells words event)
     (by_kind spells kind (codes "peek") _ _ event (peek_spells words event)
-    (λ none. absurd (cc none))))))))))) is
+    (by_kind spells kind (codes "crash") _ _ event (crash_spells words event)
+    (λ none. absurd (cc none)))))))))))) is
 
 -- the same of a whole line
 abbrev LineSpells : List (List ℕ) → Directive → Type 0

@@ -5,7 +5,7 @@ use Rattle.std.proofs.lemmas.Bool.{and_from, and_parts}
 use Rattle.std.proofs.lemmas.List.Elements.{All-nil, All-cons, All-head, All-tail, All-append}
 use Rattle.std.proofs.lemmas.List.Splits.{slice_split_at}
 use Rattle.wire_schedule.specs.declared.event.Event.{Event}
-use Rattle.wire_schedule.specs.declared.event.Event.TheVariants.{Volume, Write, Commit, Copy, Status, Cancel, Retry, Deliver, Flow, Work, Tick, Peek}
+use Rattle.wire_schedule.specs.declared.event.Event.TheVariants.{Volume, Write, Commit, Copy, Status, Cancel, Retry, Deliver, Flow, Work, Tick, Peek, Crash, CrashAfter}
 use Rattle.wire_schedule.specs.declared.directive.Directive.{Directive}
 use Rattle.wire_schedule.specs.declared.directive.Directive.TheVariants.{Once, Flows, Rounds}
 use Rattle.wire_schedule.specs.declared.context.Context.{Context}
@@ -49,6 +49,8 @@ event_not_passed Flow = refl
 event_not_passed (Work worker) = refl
 event_not_passed (Tick seconds) = refl
 event_not_passed (Peek side file off len) = refl
+event_not_passed (Crash side pick) = refl
+event_not_passed (CrashAfter side calls pick) = refl
 
 not_passed : (directive : Directive) → is_passed (spelling directive) ≡ false
 not_passed (Once event) = event_not_passed event

@@ -4,7 +4,7 @@ use Rattle.std.specs.Option.{option_map_or}
 use Rattle.nfs_base.specs.declared.side.Side.{Side}
 use Rattle.nfs_base.specs.declared.side.Side.TheVariants.{Source, Dest}
 use Rattle.wire_schedule.specs.declared.event.Event.{Event}
-use Rattle.wire_schedule.specs.declared.event.Event.TheVariants.{Volume, Write, Commit, Copy, Status, Cancel, Retry, Deliver, Flow, Work, Tick, Peek}
+use Rattle.wire_schedule.specs.declared.event.Event.TheVariants.{Volume, Write, Commit, Copy, Status, Cancel, Retry, Deliver, Flow, Work, Tick, Peek, Crash, CrashAfter}
 use Rattle.wire_schedule.specs.declared.context.Context.{Context}
 
 -- copies go by a number from 1 to this
@@ -33,7 +33,7 @@ is_between low high n = nat_le low n && nat_le n high
 
 -- Whether an event keeps the limits that stand in its own line. A volume has 1 to 64 files of 1 to 16,384 blocks each,
 -- and no more than 16,384 blocks in all; a write has 1 to 65,536 bytes, a peek 1 to 64, and both end below 2^64; the clock
--- moves on by 1 to 1,000,000 seconds.
+-- moves on by 1 to 1,000,000 seconds; what a crash may leave goes by a number from 0 to 3.
 abbrev pub is_within : Event → Bool
 is_within (Volume side files blocks) = is_between 1 64 files && (is_between 1 16384 blocks && nat_le (files * blocks) 16384)
 is_within (Write side file off bytes) = is_between 1 65536 (length bytes) && nat_lt (off + length bytes) (2 ^ 64)
@@ -47,6 +47,8 @@ is_within Flow = true
 is_within (Work worker) = is_between 1 most_workers worker
 is_within (Tick seconds) = is_between 1 1000000 seconds
 is_within (Peek side file off len) = is_between 1 64 len && nat_lt (off + len) (2 ^ 64)
+is_within (Crash side pick) = nat_le pick 3
+is_within (CrashAfter side calls pick) = nat_le pick 3
 
 -- how many files a server's volume has, once there is one
 abbrev pub files_of : Context → Side → Option ℕ
@@ -85,6 +87,8 @@ is_in_order context Flow = is_ready context
 is_in_order context (Work worker) = is_ready context
 is_in_order context (Tick seconds) = is_ready context
 is_in_order context (Peek side file off len) = is_ready context && has_file context side file
+is_in_order context (Crash side pick) = is_ready context
+is_in_order context (CrashAfter side calls pick) = is_ready context
 
 -- whether the event may come next
 abbrev pub admits : Context → Event → Bool
@@ -109,6 +113,8 @@ after_kind context Flow = context
 after_kind context (Work worker) = context
 after_kind context (Tick seconds) = context
 after_kind context (Peek side file off len) = context
+after_kind context (Crash side pick) = context
+after_kind context (CrashAfter side calls pick) = context
 
 -- the events so far, with this one as the last
 abbrev pub after : Context → Event → Context

@@ -1,12 +1,12 @@
 -- The grammar of a schedule's lines. Own format.
 use Rattle.std.specs.Prelude.{ℕ, ◌^◌, Bool, true, false, Option, None, Some, List, [], ◌∷◌, codes, if◌then◌else◌}
-use Rattle.std.specs.Option.{option_map}
+use Rattle.std.specs.Option.{option_map, option_or}
 use Rattle.std.specs.Str.{bytes_eq}
 use Rattle.nfs_base.specs.declared.side.Side.{Side}
 use Rattle.nfs_base.specs.declared.side.Side.TheVariants.{Source, Dest}
 use Rattle.nfs_base.specs.declared.copy_spec.CopySpec.{CopySpec}
 use Rattle.wire_schedule.specs.declared.event.Event.{Event}
-use Rattle.wire_schedule.specs.declared.event.Event.TheVariants.{Volume, Write, Commit, Copy, Status, Cancel, Retry, Deliver, Flow, Work, Tick, Peek}
+use Rattle.wire_schedule.specs.declared.event.Event.TheVariants.{Volume, Write, Commit, Copy, Status, Cancel, Retry, Deliver, Flow, Work, Tick, Peek, Crash, CrashAfter}
 use Rattle.wire_schedule.specs.declared.directive.Directive.{Directive}
 use Rattle.wire_schedule.specs.declared.directive.Directive.TheVariants.{Once, Flows, Rounds}
 use Rattle.wire_schedule.specs.Numerals.{◌>>=◌, number_of, number_below, bytes_of}
@@ -111,6 +111,30 @@ peek_of (x ∷ f ∷ o ∷ n ∷ []) = do
   Some (Peek side file off len)
 peek_of words = None
 
+-- `crash X P`
+unfoldable pub crash_now_of : List (List ℕ) → Option Event
+crash_now_of (x ∷ p ∷ []) = do
+  side ← side_of x
+  pick ← number_below (2 ^ 8) p
+  Some (Crash side pick)
+crash_now_of words = None
+
+-- `crash X after K P`, by X, K and P
+unfoldable pub crash_then_of : (x k p : List ℕ) → Option Event
+crash_then_of x k p = do
+  side ← side_of x
+  calls ← number_of k
+  pick ← number_below (2 ^ 8) p
+  Some (CrashAfter side calls pick)
+
+unfoldable pub crash_after_of : List (List ℕ) → Option Event
+crash_after_of (x ∷ a ∷ k ∷ p ∷ []) = if bytes_eq a (codes "after") then crash_then_of x k p else None
+crash_after_of words = None
+
+-- one or the other
+unfoldable pub crash_of : List (List ℕ) → Option Event
+crash_of words = option_or (crash_now_of words) (crash_after_of words)
+
 -- the event of a line with more than one word, by the first and those after it
 unfoldable pub event_of : List ℕ → List (List ℕ) → Option Event
 event_of kind words =
@@ -124,7 +148,8 @@ event_of kind words =
     else (if bytes_eq kind (codes "work") then work_of words
     else (if bytes_eq kind (codes "tick") then tick_of words
     else (if bytes_eq kind (codes "peek") then peek_of words
-    else None)))))))))
+    else (if bytes_eq kind (codes "crash") then crash_of words
+    else None))))))))))
 
 -- `flow K`
 unfoldable pub flows_of : List (List ℕ) → Option Directive

@@ -4,7 +4,7 @@ use Rattle.std.specs.List.{join_with_byte, flat_map}
 use Rattle.nfs_base.specs.Text.{side_text}
 use Rattle.nfs_base.specs.declared.copy_spec.CopySpec.{CopySpec}
 use Rattle.wire_schedule.specs.declared.event.Event.{Event}
-use Rattle.wire_schedule.specs.declared.event.Event.TheVariants.{Volume, Write, Commit, Copy, Status, Cancel, Retry, Deliver, Flow, Work, Tick, Peek}
+use Rattle.wire_schedule.specs.declared.event.Event.TheVariants.{Volume, Write, Commit, Copy, Status, Cancel, Retry, Deliver, Flow, Work, Tick, Peek, Crash, CrashAfter}
 use Rattle.wire_schedule.specs.declared.directive.Directive.{Directive}
 use Rattle.wire_schedule.specs.declared.directive.Directive.TheVariants.{Once, Flows, Rounds}
 use Rattle.wire_schedule.specs.declared.directive.Entry.{Entry}
@@ -32,6 +32,8 @@ words_for Flow = codes "flow" ∷ []
 words_for (Work worker) = codes "work" ∷ decimal worker ∷ []
 words_for (Tick seconds) = codes "tick" ∷ decimal seconds ∷ []
 words_for (Peek side file off len) = codes "peek" ∷ side_text side ∷ decimal file ∷ decimal off ∷ decimal len ∷ []
+words_for (Crash side pick) = codes "crash" ∷ side_text side ∷ decimal pick ∷ []
+words_for (CrashAfter side calls pick) = codes "crash" ∷ side_text side ∷ codes "after" ∷ decimal calls ∷ decimal pick ∷ []
 
 -- the words of the line that gives this
 abbrev pub line_words : Directive → List (List ℕ)
@@ -65,6 +67,8 @@ EventFits Flow = Unit {0}
 EventFits (Work worker) = worker < 2 ^ 8
 EventFits (Tick seconds) = seconds < 2 ^ 32
 EventFits (Peek side file off len) = (file < 2 ^ 32) × (off < 2 ^ 64) × (len < 2 ^ 8)
+EventFits (Crash side pick) = pick < 2 ^ 8
+EventFits (CrashAfter side calls pick) = (calls < 2 ^ 64) × (pick < 2 ^ 8)
 
 -- the same of a line
 abbrev pub FitsFields : Directive → Type 0

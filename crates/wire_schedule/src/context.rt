@@ -90,7 +90,9 @@ impl Context {
             | Event::Flow
             | Event::Work { .. }
             | Event::Tick { .. }
-            | Event::Peek { .. } => Context { events, ..self },
+            | Event::Peek { .. }
+            | Event::Crash { .. }
+            | Event::CrashAfter { .. } => Context { events, ..self },
         }
     }
 
@@ -173,7 +175,9 @@ impl Context {
             | Event::Deliver { .. }
             | Event::Flow
             | Event::Work { .. }
-            | Event::Tick { .. } => self.is_ready(),
+            | Event::Tick { .. }
+            | Event::Crash { .. }
+            | Event::CrashAfter { .. } => self.is_ready(),
         }
     }
 

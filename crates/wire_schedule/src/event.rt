@@ -16,6 +16,9 @@ const MOST_WRITTEN: u64 = 65_536;
 /// How many bytes one event shows at most.
 const MOST_SHOWN: u64 = 64;
 
+/// The highest number of what a crash may leave.
+const MOST_PICK: u8 = 3;
+
 /// How many seconds the clock moves on at most in one event.
 const MOST_SECONDS: u64 = 1_000_000;
 
@@ -87,6 +90,20 @@ pub enum Event {
         off: u64,
         len: u8,
     },
+
+    /// A server's machine stops, and its disk is the pick of this number of what a crash may leave.
+    Crash {
+        side: Side,
+        pick: u8,
+    },
+
+    /// So many more writes and syncs of a server's disk pass; the next stops its machine, in the event that makes it, and its disk
+    /// is that pick.
+    CrashAfter {
+        side: Side,
+        calls: u64,
+        pick: u8,
+    },
 }
 
 impl Event {
@@ -113,6 +130,7 @@ impl Event {
                 let len = u64::from(*len);
                 is_between(1, MOST_SHOWN, len) && off.checked_add(len).is_some()
             }
+            Event::Crash { pick, .. } | Event::CrashAfter { pick, .. } => *pick <= MOST_PICK,
             Event::Commit { .. } | Event::Retry | Event::Deliver { .. } | Event::Flow => true,
         }
     }

@@ -1,4 +1,4 @@
-ghost use Rattle.wire_schedule.specs.Grammar.{cancel_of, commit_of, consecutive_of, copy_of, copy_spec_of, deliver_of, directive_of, event_of, flows_of, lone_of, more_of, peek_of, rounds_of, side_of, status_of, tick_of, volume_of, work_of, write_of};
+ghost use Rattle.wire_schedule.specs.Grammar.{cancel_of, commit_of, consecutive_of, copy_of, copy_spec_of, crash_after_of, crash_of, crash_then_of, crash_now_of, deliver_of, directive_of, event_of, flows_of, lone_of, more_of, peek_of, rounds_of, side_of, status_of, tick_of, volume_of, work_of, write_of};
 ghost use Rattle.wire_schedule.specs.Words.{words_of};
 ghost use Rattle.std.specs.Prelude.{◌≡◌, IfOk};
 
@@ -94,6 +94,8 @@ fn read_event(alloc: Global, kind: &[u8], words: &[u8]) -> Mem<Option<Event>>
         Ok(read_tick(words))
     } else if kind == b"peek".as_slice() {
         Ok(read_peek(words))
+    } else if kind == b"crash".as_slice() {
+        Ok(read_crash(words))
     } else {
         Ok(None)
     }
@@ -233,6 +235,54 @@ fn read_peek(words: &[u8]) -> Option<Event>
         file: number_u32(file)?,
         off: number(off)?,
         len: number_u8(len)?,
+    })
+}
+
+/// `crash X P`, or `crash X after K P`.
+#[tactic(auto, unfolding(crate::specs::Grammar::crash_of))]
+fn read_crash(words: &[u8]) -> Option<Event>
+    ensures { result ≡ crash_of (words_of words.now) }
+{
+    match read_crash_now(words) {
+        Some(event) => Some(event),
+        None => read_crash_after(words),
+    }
+}
+
+/// `crash X P`.
+#[tactic(auto, unfolding(crate::specs::Grammar::crash_now_of))]
+fn read_crash_now(words: &[u8]) -> Option<Event>
+    ensures { result ≡ crash_now_of (words_of words.now) }
+{
+    let (side, pick) = two(words)?;
+    Some(Event::Crash {
+        side: read_side(side)?,
+        pick: number_u8(pick)?,
+    })
+}
+
+/// `crash X after K P`.
+#[tactic(auto, unfolding(crate::specs::Grammar::crash_after_of))]
+fn read_crash_after(words: &[u8]) -> Option<Event>
+    ensures { result ≡ crash_after_of (words_of words.now) }
+{
+    let (side, after, calls, pick) = four(words)?;
+    if after == b"after".as_slice() {
+        read_crash_then(side, calls, pick)
+    } else {
+        None
+    }
+}
+
+/// Its words `X`, `K` and `P`.
+#[tactic(auto, unfolding(crate::specs::Grammar::crash_then_of))]
+fn read_crash_then(side: &[u8], calls: &[u8], pick: &[u8]) -> Option<Event>
+    ensures { result ≡ crash_then_of side.now calls.now pick.now }
+{
+    Some(Event::CrashAfter {
+        side: read_side(side)?,
+        calls: number(calls)?,
+        pick: number_u8(pick)?,
     })
 }
 

@@ -26,11 +26,13 @@ use Rattle.outbox.specs.declared.note.Dropped.{Dropped}
 use Rattle.outbox.specs.declared.note.Dropped.TheVariants as dropping
 use Rattle.outbox.specs.declared.note.Note.{Note}
 use Rattle.outbox.specs.declared.note.Note.TheVariants as notes
-use Rattle.wire_lines.specs.LineText.{call_text, dropped_text, end_text, label_text, noted_text, same_text, seal_text, sealed_text, shown_text, speaker_text}
+use Rattle.volume_stops.specs.declared.kept.Kept.{Kept}
+use Rattle.volume_stops.specs.declared.kept.Kept.TheVariants as keeping
+use Rattle.wire_lines.specs.LineText.{call_text, dropped_text, end_text, kept_text, label_text, noted_text, same_text, seal_text, sealed_text, shown_text, speaker_text}
 use Rattle.wire_lines.specs.declared.letters.Speaker.{Speaker}
 use Rattle.wire_lines.specs.declared.letters.Speaker.TheVariants as speakers
 use Rattle.wire_lines.specs.declared.line.Line.{Line}
-use Rattle.wire_lines.specs.declared.line.Line.TheVariants.{Sent, NoRecord, Note as Noted, Bytes, Mistaken, End as Ends}
+use Rattle.wire_lines.specs.declared.line.Line.TheVariants.{Sent, NoRecord, Note as Noted, Bytes, Crash, Mistaken, End as Ends}
 use Rattle.wire_tally.proofs.OneLine.{◌&◌, OneLine, hex_digits, is_one_line, literal, number, one_of, space}
 
 -- ---- the names of operations
@@ -150,10 +152,15 @@ seal_or_none : (s : Option Seal) → OneLine (sealed_text s)
 seal_or_none None = record { plain = refl }
 seal_or_none (Some s) = one_seal s
 
+kept : (k : Kept) → OneLine (kept_text k)
+kept keeping.Old = record { plain = refl }
+kept _ = record { plain = refl }
+
 pub shown : (line : Line) → OneLine (shown_text line)
 shown (Sent n from to l) = literal (codes "sent ") refl & number n & space & letter from & letter to & space & label l
 shown (NoRecord n) = literal (codes "none ") refl & number n
 shown (Noted by note) = noted by note
 shown (Bytes s file off bytes) = literal (codes "bytes ") refl & side s & space & number file & space & number off & space & hex_digits bytes
+shown (Crash s boot k) = literal (codes "crash ") refl & side s & space & number boot & space & kept k
 shown (Mistaken accepted s) = literal (codes "mistaken ") refl & one_seal accepted & space & seal_or_none s
 shown (Ends records) = literal (codes "end ") refl & number records

@@ -5,7 +5,7 @@ ghost use Rattle.nfscopy.specs.Ends.{HasDisks, MayOpen};
 ghost use Rattle.volume_format.specs.DiskWords.{disk_words};
 
 use block_file::Volume;
-use disk_model::{Disk, MemoryDisk};
+use disk_model::{CrashDisk, Disk, MemoryDisk};
 use gss_mech::Realm;
 use net_links::MemNet;
 use nfscopy::{asked_service, disks_suffice};
@@ -177,7 +177,7 @@ fn answered(
 }
 
 /// Calls the program for words that are of no server.
-fn call<R: Threads + Wait + Sync, D: Disk + Drop + Send>(
+fn call<R: Threads + Wait + Sync, D: CrashDisk + Drop + Send>(
     rt: &R,
     alloc: Global,
     words: &[String],
@@ -193,7 +193,7 @@ fn call<R: Threads + Wait + Sync, D: Disk + Drop + Send>(
 }
 
 /// Calls the program over an empty volume in each place.
-fn serve<R: Threads + Wait + Sync, D: Disk + Drop + Send>(
+fn serve<R: Threads + Wait + Sync, D: CrashDisk + Drop + Send>(
     rt: &R,
     alloc: Global,
     words: &[String],
@@ -230,7 +230,7 @@ fn no_disks<D>() -> Disks<D> {
 }
 
 /// Calls the program over these disks, and a net to which nobody comes.
-fn called<R: Threads + Wait + Sync, D: Disk + Drop + Send>(
+fn called<R: Threads + Wait + Sync, D: CrashDisk + Drop + Send>(
     rt: &R,
     alloc: Global,
     words: &[String],

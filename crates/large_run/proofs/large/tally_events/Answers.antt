@@ -6,7 +6,7 @@ use Rattle.large_run.proofs.Tallying.{Laws, counts_end, counts_none, counts_on, 
 use Rattle.large_run.proofs.large.tally_events.Goals as goal
 use Rattle.wire_log.specs.Keeping.{reading}
 use Rattle.wire_machine.specs.Runs.{numbered}
-use Rattle.wire_run.specs.Ends.{run_machines}
+use Rattle.run_ends.specs.Ends.{run_machines}
 use Rattle.wire_run.specs.Running.{Running}
 use Rattle.wire_schedule.specs.Expansion.{are_admitted}
 use Rattle.wire_schedule.specs.declared.context.Context.{Context}

@@ -4,7 +4,7 @@ use Rattle.large_run.specs.Tallying.{IsServed, Tallies}
 use Rattle.large_run.proofs.Tallying.{IsOfTexts}
 use Rattle.large_run.proofs.large.tally_events.Given as goal
 use Rattle.wire_log.specs.Keeping.{reading}
-use Rattle.wire_run.specs.Ends.{run_machines}
+use Rattle.run_ends.specs.Ends.{run_machines}
 use Rattle.wire_run.specs.Running.{HasDisks}
 use Rattle.wire_schedule.specs.Expansion.{are_admitted}
 

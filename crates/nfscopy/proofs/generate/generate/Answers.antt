@@ -3,7 +3,7 @@ use Rattle.std.proofs.KnownBytes.{Keeps-refl}
 use Rattle.std.proofs.lemmas.Grind.{common_steps}
 use Rattle.wire_run.specs.Running.{HasDisks, mech_of}
 use Rattle.nfscopy.proofs.Completing.{gen_completes}
-use Rattle.nfscopy.proofs.Generating.{asks_by, starved, summed_ends}
+use Rattle.nfscopy.proofs.Generating.{asks_by, quiet_by, starved, summed_ends}
 use Rattle.nfscopy.proofs.Keeping.{large_keeps}
 use Rattle.nfscopy.specs.declared.ends.GenEnd.TheVariants.{NoMemory}
 use Rattle.nfscopy.proofs.generate.generate.Goals as goal
@@ -25,7 +25,7 @@ returns-in-Ok-summed-clause-ends g c =
     gen_completes _ _ _ _ _ c.put_owed.result
     (summed_ends _ _ _ _ _ c.in-Ok.system c.sum_up-summed.new.system (search rules) (search rules) c.hand_back.ensures.source c.hand_back.ensures.dest
     had c.in-Ok-summed.ensures.there c.hand_back.ensures.source_holds c.hand_back.ensures.dest_holds
-    (λ side. asks_by c.args.plan named.0 side named.1) _ (ap mech_of c.in-Ok.ensures) c.in-Ok-summed.summed c.put_owed.result
+    (λ side. asks_by c.args.plan named.0 side named.1) (quiet_by c.args.plan (c.large_schedules_stop_nobody.ensures c.args.plan)) _ (ap mech_of c.in-Ok.ensures) c.in-Ok-summed.summed c.put_owed.result
     c.in-Ok-summed.ensures.sums c.put_owed.ensures.puts)
 
 pub returns-in-Ok-summed-clause-kept : goal.returns-in-Ok-summed-clause-kept

@@ -3,7 +3,7 @@ use Rattle.nfs_base.specs.declared.side.Side.TheVariants.{Source, Dest}
 use Rattle.wire_schedule.specs.Admission.{has_file}
 use Rattle.wire_schedule.specs.declared.context.Context.{Context}
 use Rattle.nfscopy.specs.declared.generate.Summed.TheVariants as summed
-use Rattle.nfscopy.proofs.Generating.{ended}
+use Rattle.nfscopy.proofs.Generating.{ended, never_lost}
 use Rattle.nfscopy.proofs.generate.sum_up.Goals as goal
 
 pub files_are_alike-requires-clause-source : goal.files_are_alike-requires-clause-source
@@ -25,3 +25,11 @@ returns-in-Mistaken-clause-sums g c =
 pub returns-in-Unmade-clause-sums : goal.returns-in-Unmade-clause-sums
 returns-in-Unmade-clause-sums g c =
     ended _ _ _ _ _ _ _ _ _ c.in_ok-ran.field-0 (summed.Unmade c.in-Unmade.cause) c.in_ok-ran.ensures.ran (search rules, refl)
+
+pub unreachable-requires : goal.unreachable-requires
+unreachable-requires g c =
+    never_lost _ _ _ _ _ _ _ _ _ c.in_ok-ran.field-0 c.in-Lost.field-0 c.in_ok-ran.ensures.ran (search rules) (c.large_schedules_stop_nobody.ensures c.args.plan)
+
+pub unreachable-unreachable : goal.unreachable-unreachable
+unreachable-unreachable g c =
+    never_lost _ _ _ _ _ _ _ _ _ c.in_ok-ran.field-0 c.in-Lost.field-0 c.in_ok-ran.ensures.ran (search rules) (c.large_schedules_stop_nobody.ensures c.args.plan)

@@ -1,7 +1,7 @@
 use Rattle.std.proofs.Common.{sym, subst}
 use Rattle.client_core.specs.State.{ClientState}
 use Rattle.run_checks.specs.RunLaws.{runs_right}
-use Rattle.wire_run.specs.Ends.{count_gives, machines, words_of}
+use Rattle.run_ends.specs.Ends.{count_gives, machines, words_of}
 use Rattle.wire_schedule.specs.Admission.{at_start}
 use Rattle.run_client.proofs.Along.{IsWithin, Laws, runs_within}
 use Rattle.run_client.proofs.Moments.{begins_within, may_go}

@@ -4,7 +4,7 @@ use Rattle.client_core.specs.State.{ClientState}
 use Rattle.client_core.specs.Telling.{mount_at}
 use Rattle.client_laws.specs.CallerLaws.{above_at}
 use Rattle.wire_model.specs.CallerLaws.{CallerStart}
-use Rattle.wire_run.specs.Ends.{count_gives, words_of}
+use Rattle.run_ends.specs.Ends.{count_gives, words_of}
 use Rattle.run_client.proofs.Lawful.{WireLaws, resting}
 use Rattle.run_client.proofs.Openings.{obeys_in, starts_in}
 use Rattle.run_client.proofs.clients.clients_are_lawful.Goals as goal

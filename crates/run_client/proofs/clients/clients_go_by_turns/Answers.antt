@@ -4,7 +4,7 @@ use Rattle.client_fits.specs.Known.{ClientIsFit}
 use Rattle.client_fits.specs.Ways.{WaysAreFit}
 use Rattle.client_laws.specs.CallerLaws.{StartsOwn}
 use Rattle.client_laws.specs.WholeTurns.{IsSettled}
-use Rattle.wire_run.specs.Ends.{count_gives, ways, words_of}
+use Rattle.run_ends.specs.Ends.{count_gives, ways, words_of}
 use Rattle.run_client.proofs.Turning.{Laws}
 use Rattle.run_client.proofs.Whole.{goes_along}
 use Rattle.run_client.proofs.clients.clients_go_by_turns.Goals as goal

@@ -1,4 +1,4 @@
-use Rattle.wire_run.specs.Ends.{count_gives, machines, words_of}
+use Rattle.run_ends.specs.Ends.{count_gives, machines, words_of}
 use Rattle.run_checks.specs.RunLaws.{runs_unmistaken}
 use Rattle.run_system.specs.System.{telling}
 use Rattle.run_client.specs.Along.{codes_of}

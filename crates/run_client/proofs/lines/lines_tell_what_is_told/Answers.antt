@@ -1,4 +1,4 @@
-use Rattle.wire_run.specs.Ends.{count_gives, words_of}
+use Rattle.run_ends.specs.Ends.{count_gives, words_of}
 use Rattle.run_client.proofs.Spoken.{lines_tell}
 use Rattle.run_client.proofs.lines.lines_tell_what_is_told.Goals as goal
 

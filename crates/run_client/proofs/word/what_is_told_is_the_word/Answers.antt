@@ -7,7 +7,7 @@ use Rattle.client_word.specs.Views.{says_exact, says_stable, word_seen}
 use Rattle.run_client.specs.Along.{act_at, client_at, part_by, second_at}
 use Rattle.run_client.proofs.Going.{seen_at}
 use Rattle.wire_model.specs.Word.{Word}
-use Rattle.wire_run.specs.Ends.{count_gives, words_of}
+use Rattle.run_ends.specs.Ends.{count_gives, words_of}
 use Rattle.run_client.proofs.Saying.{exact_says, exact_word, said_in_step, says_of, stable_says, stable_word}
 use Rattle.run_client.specs.Told.{tells_exact}
 use Rattle.run_client.proofs.word.what_is_told_is_the_word.Goals as goal

@@ -1,13 +1,13 @@
-use Rattle.std.proofs.Common.{ℕ, suc, sym, ap, subst}
+use Rattle.std.proofs.Common.{suc, sym, subst}
 use Rattle.std.specs.Prelude.{slice_get}
-use Rattle.client_core.specs.Endings.{Ways, ways_of}
+use Rattle.client_core.specs.Endings.{ways_of}
 use Rattle.client_core.specs.State.{ClientState}
 use Rattle.client_laws.specs.CallerLaws.{StartsOwn}
 use Rattle.client_steps.specs.declared.setting.Setting.{Setting}
 use Rattle.client_word.specs.Views.{IsSeenAt}
 use Rattle.run_client.specs.Along.{act_at, client_at, part_by, second_at}
 use Rattle.wire_meaning.specs.Meaning.{meaning}
-use Rattle.wire_run.specs.Ends.{count_gives, ways, words_of}
+use Rattle.run_ends.specs.Ends.{count_gives, words_of}
 use Rattle.wire_spelling.specs.Spelling.{spelling}
 use Rattle.run_client.proofs.Going.{acts_at, seen_at, system, worded}
 use Rattle.run_client.proofs.words.runs_keep_the_word.Goals as goal

@@ -2,14 +2,14 @@ use Rattle.std.proofs.Common.{◌∙◌}
 use Rattle.caller_laws.specs.Good.{Identity}
 use Rattle.dest_own.specs.Going.{jobs_in}
 use Rattle.nfs_base.specs.declared.seal.End.TheVariants.{Dest}
-use Rattle.wire_run.specs.Ends.{count_gives, words_of}
-use Rattle.wire_run.specs.Setting.{dest_name}
+use Rattle.run_ends.specs.Ends.{count_gives, words_of}
+use Rattle.run_ends.specs.Setting.{dest_name}
 use Rattle.run_dest.proofs.RunSteps.{AreKnown}
 use Rattle.run_dest.proofs.CallerRuns.{no_deeds, run_seen}
 use Rattle.run_dest.proofs.calls.runs_are_seen.Goals as goal
 
 pub returns : goal.returns
-returns g c mech first steps accepts whose own are =
+returns g c mech first steps accepts whose own are never =
     let k = g.M.Mechanism in
     let me : Identity = record { accepts = accepts; whose = whose; own = Dest } in
     let known : AreKnown (words_of k.mic_of k.derived k.started k.accepted k.finished count_gives) me mech = record {
@@ -47,4 +47,4 @@ returns g c mech first steps accepts whose own are =
         mech_is = c.mechanisms_stay.ensures.tick codes now s ∙ kept.mech_is;
       };
     } in
-    run_seen (words_of k.mic_of k.derived k.started k.accepted k.finished count_gives) accepts whose mech first steps known own are
+    run_seen (words_of k.mic_of k.derived k.started k.accepted k.finished count_gives) accepts whose mech first steps known own are never

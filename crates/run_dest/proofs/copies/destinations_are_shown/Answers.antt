@@ -1,5 +1,5 @@
 use Rattle.std.proofs.Common.{refl, slice_get}
-use Rattle.wire_run.specs.Ends.{count_gives, machines, words_of}
+use Rattle.run_ends.specs.Ends.{count_gives, machines, words_of}
 use Rattle.run_system.specs.System.{telling}
 use Rattle.wire_machine.specs.History.{at_moment}
 use Rattle.run_dest.proofs.DestGoes.{AreKnown}
@@ -42,20 +42,20 @@ returns g c =
       marked = c.histories_show_jobs.ensures.marked;
     } in
     record {
-      run = λ mech events first steps spell meaning seen purposes is are.
-          shows_as words known folds spell meaning seen purposes first steps (begins words known folds spell meaning first steps mech events is kept.begin) are;
-      step = λ mech events first steps spell meaning seen purposes is are.
-          shows_at words known folds spell meaning seen purposes first steps (begins words known folds spell meaning first steps mech events is kept.begin) are;
-      did = λ mech events first steps spell meaning is are k s made.
-          did_at words known folds spell meaning first steps (begins words known folds spell meaning first steps mech events is kept.begin) are k s made;
+      run = λ mech first steps spell meaning seen purposes is are never.
+          shows_as words known folds spell meaning seen purposes first steps (begins words known folds spell meaning first steps mech is kept.begin) are never;
+      step = λ mech first steps spell meaning seen purposes is are never.
+          shows_at words known folds spell meaning seen purposes first steps (begins words known folds spell meaning first steps mech is kept.begin) are never;
+      did = λ mech first steps spell meaning is are never k s made.
+          did_at words known folds spell meaning first steps (begins words known folds spell meaning first steps mech is kept.begin) are never k s made;
       quiet = λ first steps spell meaning place none.
           quiet_by words known folds spell meaning
           (at_moment (machines words) (telling (record { mic = k.mic_of; derived = k.derived })) spell meaning first steps place).world (slice_get steps place) none;
-      start = λ mech events first steps spell meaning seen purposes is.
-          starts words known folds spell meaning seen purposes first steps mech events is kept.begin c.opened_destinations_show_nothing.ensures.copies;
+      start = λ mech first steps spell meaning seen purposes is.
+          starts words known folds spell meaning seen purposes first steps mech is kept.begin c.opened_destinations_show_nothing.ensures.copies;
       last = λ first steps spell meaning seen purposes. reaches words known folds spell meaning seen purposes first steps;
-      kept = λ mech events first steps spell meaning is are k.
-          (seen_at words known folds spell meaning first steps (begins words known folds spell meaning first steps mech events is kept.begin) are k).kept;
-      opening = λ mech events first steps spell meaning is are k.
-          (seen_at words known folds spell meaning first steps (begins words known folds spell meaning first steps mech events is kept.begin) are k).boot;
+      kept = λ mech first steps spell meaning is are never k.
+          (seen_at words known folds spell meaning first steps (begins words known folds spell meaning first steps mech is kept.begin) are never k).kept;
+      opening = λ mech first steps spell meaning is are never k.
+          (seen_at words known folds spell meaning first steps (begins words known folds spell meaning first steps mech is kept.begin) are never k).boot;
     }

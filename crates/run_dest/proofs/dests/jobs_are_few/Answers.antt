@@ -1,6 +1,6 @@
 use Rattle.dest_core.specs.Serving.{given}
 use Rattle.wire_meaning.specs.Meaning.{meaning}
-use Rattle.wire_run.specs.Ends.{count_gives, words_of}
+use Rattle.run_ends.specs.Ends.{count_gives, words_of}
 use Rattle.wire_spelling.specs.Spelling.{spelling}
 use Rattle.run_dest.proofs.Numbers.{AreCounted, gives_one}
 use Rattle.run_dest.proofs.Premises.{calls_none}
@@ -9,7 +9,7 @@ use Rattle.run_dest.proofs.Whole.{few_at}
 use Rattle.run_dest.proofs.dests.jobs_are_few.Goals as goal
 
 pub returns : goal.returns
-returns g c mech events first steps accepts whose is are =
+returns g c mech first steps accepts whose is are never =
     let k = g.M.Mechanism in
     let words = words_of k.mic_of k.derived k.started k.accepted k.finished count_gives in
     let shown = c.destinations_are_shown.ensures in
@@ -26,5 +26,5 @@ returns g c mech events first steps accepts whose is are =
       reply = c.steps_give_one_entry.ensures.reply;
       tick = c.steps_give_one_entry.ensures.tick;
     } in
-    few_at words accepts whose first steps mech events is served (shown.did mech events first steps (spelling accepts whose) meaning is are)
+    few_at words accepts whose first steps mech is never served (shown.did mech first steps (spelling accepts whose) meaning is are never)
     c.contexts_rest.ensures.start counted

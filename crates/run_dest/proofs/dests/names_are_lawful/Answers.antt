@@ -1,9 +1,9 @@
 use Rattle.std.proofs.Common.{ℕ, List, Option}
 use Rattle.nfs_base.specs.declared.seal.End.{End}
-use Rattle.run_system.specs.System.{system_of}
+use Rattle.run_system.specs.System.{opening_of}
 use Rattle.wire_meaning.specs.Meaning.{meaning}
 use Rattle.wire_model.specs.System.{System}
-use Rattle.wire_run.specs.Ends.{count_gives, run_machines, words_of}
+use Rattle.run_ends.specs.Ends.{count_gives, run_machines, words_of}
 use Rattle.wire_spelling.specs.Spelling.{spelling}
 use Rattle.run_dest.proofs.Names.{IsNamed, StaysRight, Steps}
 use Rattle.run_dest.proofs.Premises.{calls_none}
@@ -36,9 +36,9 @@ returns g c =
       rest = λ k took speaker d t shows same sent right. (reports.rest accepts whose s k took speaker d t shows same sent right).0;
     } in
     record {
-      laws = λ mech events first steps accepts whose seen purposes is are own at.
+      laws = λ mech first steps accepts whose seen purposes is are never own at.
           let s : System =
-          system_of (run_machines k.mic_of k.derived k.started k.accepted k.finished) (record { mic = k.mic_of; derived = k.derived }) (spelling accepts whose) meaning seen first steps purposes in
+          opening_of (run_machines k.mic_of k.derived k.started k.accepted k.finished) (record { mic = k.mic_of; derived = k.derived }) (spelling accepts whose) meaning seen first steps purposes in
           let named : Steps words accepts whose s (IsNamed words accepts whose s) = record {
             record_ = called.record_ accepts whose s;
             work = called.work accepts whose s;
@@ -46,16 +46,16 @@ returns g c =
             tick = called.tick accepts whose s;
             rest = called.rest accepts whose s;
           } in
-          names words accepts whose first steps mech events is served (shown.did mech events first steps (spelling accepts whose) meaning is are)
-          c.contexts_rest.ensures.start s (shown.step mech events first steps (spelling accepts whose) meaning seen purposes is are) keep
-          (shown.opening mech events first steps (spelling accepts whose) meaning is are)
-          (c.jobs_are_few.ensures mech events first steps accepts whose is are) own c.reports_begin_right.ensures (stays accepts whose s) named at;
-      safe = λ mech events first steps accepts whose seen purposes is are own at.
+          names words accepts whose first steps mech is never served (shown.did mech first steps (spelling accepts whose) meaning is are never)
+          c.contexts_rest.ensures.start s (shown.step mech first steps (spelling accepts whose) meaning seen purposes is are never) keep
+          (shown.opening mech first steps (spelling accepts whose) meaning is are never)
+          (c.jobs_are_few.ensures mech first steps accepts whose is are never) own c.reports_begin_right.ensures (stays accepts whose s) named at;
+      safe = λ mech first steps accepts whose seen purposes is are never own at.
           let s : System =
-          system_of (run_machines k.mic_of k.derived k.started k.accepted k.finished) (record { mic = k.mic_of; derived = k.derived }) (spelling accepts whose) meaning seen first steps purposes in
+          opening_of (run_machines k.mic_of k.derived k.started k.accepted k.finished) (record { mic = k.mic_of; derived = k.derived }) (spelling accepts whose) meaning seen first steps purposes in
           called.stable s at (host words accepts whose first steps at)
-          (rights words accepts whose first steps mech events is served (shown.did mech events first steps (spelling accepts whose) meaning is are)
-          c.contexts_rest.ensures.start s (shown.step mech events first steps (spelling accepts whose) meaning seen purposes is are) keep
-          (shown.opening mech events first steps (spelling accepts whose) meaning is are)
-          (c.jobs_are_few.ensures mech events first steps accepts whose is are) own c.reports_begin_right.ensures (stays accepts whose s) at);
+          (rights words accepts whose first steps mech is never served (shown.did mech first steps (spelling accepts whose) meaning is are never)
+          c.contexts_rest.ensures.start s (shown.step mech first steps (spelling accepts whose) meaning seen purposes is are never) keep
+          (shown.opening mech first steps (spelling accepts whose) meaning is are never)
+          (c.jobs_are_few.ensures mech first steps accepts whose is are never) own c.reports_begin_right.ensures (stays accepts whose s) at);
     }

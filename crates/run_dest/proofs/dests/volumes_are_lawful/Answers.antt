@@ -1,7 +1,7 @@
-use Rattle.run_system.specs.System.{system_of}
+use Rattle.run_system.specs.System.{opening_of}
 use Rattle.wire_meaning.specs.Meaning.{meaning}
 use Rattle.wire_model.specs.System.{System}
-use Rattle.wire_run.specs.Ends.{count_gives, run_machines, words_of}
+use Rattle.run_ends.specs.Ends.{count_gives, run_machines, words_of}
 use Rattle.wire_spelling.specs.Spelling.{spelling}
 use Rattle.run_dest.proofs.Premises.{calls_none}
 use Rattle.run_dest.proofs.Records.{AreServed}
@@ -10,7 +10,7 @@ use Rattle.run_dest.proofs.Whole.{volumes}
 use Rattle.run_dest.proofs.dests.volumes_are_lawful.Goals as goal
 
 pub returns : goal.returns
-returns g c mech events first steps accepts whose seen purposes is are spelled at simple =
+returns g c mech first steps accepts whose seen purposes is are never spelled at simple =
     let k = g.M.Mechanism in
     let words = words_of k.mic_of k.derived k.started k.accepted k.finished count_gives in
     let shown = c.destinations_are_shown.ensures in
@@ -25,7 +25,7 @@ returns g c mech events first steps accepts whose seen purposes is are spelled a
     } in
     let orderly : AreOrderly words = record { record_ = asks.record_; work = asks.work; reply = asks.reply; tick = asks.tick } in
     let s : System =
-    system_of (run_machines k.mic_of k.derived k.started k.accepted k.finished) (record { mic = k.mic_of; derived = k.derived }) (spelling accepts whose) meaning seen first steps purposes in
+    opening_of (run_machines k.mic_of k.derived k.started k.accepted k.finished) (record { mic = k.mic_of; derived = k.derived }) (spelling accepts whose) meaning seen first steps purposes in
     let due : AreDue words accepts whose s = record {
       record_ = lands.record_ (spelling accepts whose) meaning s;
       work = lands.work (spelling accepts whose) meaning s;
@@ -37,6 +37,6 @@ returns g c mech events first steps accepts whose seen purposes is are spelled a
       tick = going.tick (spelling accepts whose) meaning s;
       rest = going.rest s;
     } in
-    volumes words accepts whose first steps mech events is served (shown.did mech events first steps (spelling accepts whose) meaning is are)
-    c.contexts_rest.ensures.start s (shown.step mech events first steps (spelling accepts whose) meaning seen purposes is are) orderly due go_on
-    (λ at. (shown.kept mech events first steps (spelling accepts whose) meaning is are at).sound) spelled asks.begin at simple
+    volumes words accepts whose first steps mech is never served (shown.did mech first steps (spelling accepts whose) meaning is are never)
+    c.contexts_rest.ensures.start s (shown.step mech first steps (spelling accepts whose) meaning seen purposes is are never) orderly due go_on
+    (λ at. (shown.kept mech first steps (spelling accepts whose) meaning is are never at).sound) spelled asks.begin at simple

@@ -1,18 +1,18 @@
 use Rattle.std.specs.Prelude.{slice_get}
 use Rattle.nfs_base.specs.declared.seal.End.TheVariants.{Dest}
 use Rattle.run_dest.proofs.Going.{goes_on}
-use Rattle.run_system.specs.System.{system_of, telling}
+use Rattle.run_system.specs.System.{opening_of, telling}
 use Rattle.wire_machine.specs.History.{acts_at, at_moment}
-use Rattle.wire_run.specs.Ends.{count_gives, machines, words_of}
+use Rattle.run_ends.specs.Ends.{count_gives, machines, words_of}
 use Rattle.run_dest.proofs.goes.destinations_go_on.Goals as goal
 
 pub returns : goal.returns
-returns g c mech events first steps spell meaning seen purposes is are k spelled =
+returns g c mech first steps spell meaning seen purposes is are never k spelled =
     let t = g.M.Mechanism in
     let words = words_of t.mic_of t.derived t.started t.accepted t.finished count_gives in
     let shown = c.destinations_are_shown.ensures in
-    goes_on words spell meaning (system_of (machines words) (record { mic = t.mic_of; derived = t.derived }) spell meaning seen first steps purposes) k
+    goes_on words spell meaning (opening_of (machines words) (record { mic = t.mic_of; derived = t.derived }) spell meaning seen first steps purposes) k
     (at_moment (machines words) (telling (record { mic = t.mic_of; derived = t.derived })) spell meaning first steps k) (slice_get steps k)
     (acts_at (machines words) (telling (record { mic = t.mic_of; derived = t.derived })) spell meaning first steps Dest k).executed
-    (shown.step mech events first steps spell meaning seen purposes is are k) (shown.quiet first steps spell meaning k) spelled
-    (shown.did mech events first steps spell meaning is are k)
+    (shown.step mech first steps spell meaning seen purposes is are never k) (shown.quiet first steps spell meaning k) spelled
+    (shown.did mech first steps spell meaning is are never k)

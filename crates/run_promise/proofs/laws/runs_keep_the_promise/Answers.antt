@@ -1,4 +1,4 @@
-use Rattle.std.proofs.Common.{◌≡◌, ℕ, suc, List, Option, Some, refl, sym, ap, subst, ◌∙◌}
+use Rattle.std.proofs.Common.{◌≡◌, ℕ, List, Option, Some, subst}
 use Rattle.caller_laws.specs.Good.{Identity}
 use Rattle.caller_laws.specs.Tokens.{principal_in}
 use Rattle.client_core.specs.Endings.{ways_of}
@@ -22,8 +22,8 @@ use Rattle.wire_log.specs.Keeping.{reading}
 use Rattle.wire_machine.specs.Runs as runs
 use Rattle.wire_meaning.specs.Meaning.{meaning}
 use Rattle.wire_model.specs.System.{history}
-use Rattle.wire_run.specs.Ends.{count_gives, machines, ways, words_of}
-use Rattle.wire_run.specs.Setting.{dest_name, dest_place, source_place, user}
+use Rattle.run_ends.specs.Ends.{count_gives, machines, ways, words_of}
+use Rattle.run_ends.specs.Setting.{dest_name, dest_place, source_place, user}
 use Rattle.wire_schedule.specs.Admission.{at_start}
 use Rattle.run_promise.proofs.laws.runs_keep_the_promise.Goals as goal
 
@@ -50,13 +50,12 @@ returns g c = λ mech events first steps end accepted is_first goes.
     let s = seen_by words mech first steps along.purposes in
     let source =
     c.sources_are_lawful.ensures mech events first steps accepts whose client_view along.purposes is_first (shapes_few sides.Source at_start events accepted) are in
-    let as_caller = c.destinations_go_as_callers.ensures mech events first steps accepts whose is_first are dest_owns c.tokens_agree.ensures.in_bytes.codes tokens in
-    let names = c.names_are_lawful.ensures in
+    let owes = c.runs_owe_all.ensures mech events first steps accepts whose client_view along.purposes is_first are dest_owns c.tokens_agree.ensures.in_bytes.codes tokens in
     let parts : AreLawful spell meaning s = record {
       source = source;
       dest = c.destinations_are_lawful_servers.ensures mech events first steps accepts whose client_view along.purposes is_first are;
       source_calls = c.sources_call_nobody.ensures first steps accepts whose client_view along.purposes source;
-      dest_calls = c.destinations_are_lawful_callers.ensures mech events first steps accepts whose client_view along.purposes is_first as_caller;
+      dest_calls = owes.calls;
       client_at_source = record {
         start = c.clients_are_lawful.ensures.start spell meaning client_view setting first steps along.purposes sides.Source is_first.client;
         laws = c.clients_are_lawful.ensures.laws meaning client_view client first steps along sides.Source;
@@ -66,18 +65,10 @@ returns g c = λ mech events first steps end accepted is_first goes.
         laws = c.clients_are_lawful.ensures.laws meaning client_view client first steps along sides.Dest;
       };
       unmistaken = λ owner. c.wires_are_unmistaken.ensures spell meaning client_view first steps along.purposes owner events end is_first.log is_first.steps goes;
-      volume =
-          c.volumes_are_lawful.ensures mech events first steps accepts whose client_view along.purposes is_first are
-          (λ k. c.what_is_awaited_is_spelled.ensures _ (as_caller k).fit);
-      copies_start = c.destinations_are_shown.ensures.start mech events first steps spell meaning client_view along.purposes is_first;
-      copies =
-          c.copies_are_lawful.ensures mech events first steps accepts whose client_view along.purposes is_first are
-          (λ k. c.what_is_awaited_is_spelled.ensures _ (as_caller k).fit)
-          (λ k. names.safe mech events first steps accepts whose client_view along.purposes is_first are
-          (λ l. c.names_are_lawful-2.ensures.own _ _ (as_caller l).settled.good (as_caller l).settled.server) (suc k));
-      names =
-          names.laws mech events first steps accepts whose client_view along.purposes is_first are
-          (λ l. c.names_are_lawful-2.ensures.own _ _ (as_caller l).settled.good (as_caller l).settled.server);
+      volume = owes.volume;
+      copies_start = owes.start;
+      copies = owes.copies;
+      names = owes.names;
       word_start = c.runs_keep_the_word.ensures.start client first steps setting along is_first.client;
       word = λ k.
           c.runs_keep_the_word.ensures.laws client first steps setting along k is_first.client

@@ -5,7 +5,7 @@ use Rattle.wire_machine.specs.History.{history as run_history}
 use Rattle.wire_model.specs.Meaning.{Meaning}
 use Rattle.wire_model.specs.Spelling.{Spelling}
 use Rattle.wire_model.specs.System.{history}
-use Rattle.wire_run.specs.Running.{RunMachines, RunStep, RunWorld}
+use Rattle.run_ends.specs.Ends.{RunMachines, RunStep, RunWorld}
 use Rattle.run_system.proofs.laws.systems_show_histories.Goals as goal
 use Rattle.run_system.specs.System.{ClientView, system_of, telling}
 

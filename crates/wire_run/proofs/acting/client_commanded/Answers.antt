@@ -1,7 +1,7 @@
 use Rattle.client_core.specs.declared.client.TheConstants.{MOST_STEPS}
 use Rattle.std.proofs.Common.{None}
 use Rattle.wire_machine.specs.Steps.{command_of}
-use Rattle.wire_run.specs.Ends.{count_gives, words_of}
+use Rattle.run_ends.specs.Ends.{count_gives, words_of}
 use Rattle.wire_run.proofs.Acts.{handled, same_result}
 use Rattle.wire_run.proofs.Client.{commanded_once, commands_take_none}
 use Rattle.wire_run.proofs.acting.client_commanded.Goals as goal

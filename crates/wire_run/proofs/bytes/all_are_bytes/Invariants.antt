@@ -1,5 +1,5 @@
 use Rattle.std.proofs.Common.{take}
-use Rattle.wire_run.specs.Handling.{AreBytes}
+use Rattle.run_ends.specs.Handling.{AreBytes}
 use Rattle.wire_run.proofs.bytes.all_are_bytes.Given as goal
 
 abbrev pub invariant-loop-outgoing : goal.invariant-loop-outgoing

@@ -2,14 +2,14 @@ use Rattle.std.proofs.Common.{◌≡◌, ℕ, ◌+◌, ◌*◌, List, ap, sym, �
 use Rattle.copy_privs.specs.declared.peer.Peer.{Peer}
 use Rattle.nfs_base.specs.declared.net_loc.NetLoc.{NetLoc}
 use Rattle.source_core.specs.Core.{IsNew}
-use Rattle.wire_run.specs.Setting.{source_peers, source_place}
-use Rattle.wire_run.specs.Fresh.{Shape}
-use Rattle.wire_run.specs.declared.setting.TheConstants.{SOURCE_TAG}
+use Rattle.run_ends.specs.Setting.{source_peers, source_place}
+use Rattle.run_ends.specs.First.{Shape}
+use Rattle.run_ends.specs.declared.setting.TheConstants.{SOURCE_TAG}
 use Rattle.wire_run.proofs.Making.{formatted_files, read_formatted, source_fresh}
 use Rattle.wire_run.proofs.ends.open_source.Goals as goal
 
-pub returns-then-files : goal.returns-then-files
-returns-then-files g c =
+pub returns-then-files-clause-made : goal.returns-then-files-clause-made
+returns-then-files-clause-made g c =
     let shape : Shape = record { files = c.args.files; blocks = c.args.blocks } in
     let core = c.in-Ok-2.core in
     let faults = rw c.in-Ok.is at c.in_ok-disk.ensures.faults in
@@ -37,8 +37,8 @@ returns-then-files g c =
           source_fresh g.D.Disk.size c.args.mech shape core new (volume ∙ is.opened) (tag ∙ is.tag_is);
     }
 
-pub returns-else-files : goal.returns-else-files
-returns-else-files g c =
+pub returns-else-files-clause-made : goal.returns-else-files-clause-made
+returns-else-files-clause-made g c =
     let core = c.in-Ok-2.core in
     let faults = rw c.in-Ok.is at c.in_ok-disk.ensures.faults in
     let faults2 = rw c.in-Ok-2.is at c.in_ok-core.ensures.faults in
@@ -60,3 +60,8 @@ returns-else-files g c =
       later = le_trans faults (le_trans faults2 (le_of_eq (ap g.D.Disk.faults (sym disk))));
       as_large = ap g.D.Disk.size disk ∙ (size2 ∙ size);
     }
+
+pub returns-then-files-clause-unset : goal.returns-then-files-clause-unset
+returns-then-files-clause-unset g c = λ none.
+    let made = rw c.in-Ok.is at (c.in_ok-disk.ensures.unset none) in
+    rw c.in-Ok-2.is at (c.in_ok-core.ensures.unset made)

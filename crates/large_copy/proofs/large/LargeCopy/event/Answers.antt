@@ -1,4 +1,4 @@
-use Rattle.std.proofs.Common.{◌≡◌, ◌-◌, get_or, sym, arith}
+use Rattle.std.proofs.Common.{◌≡◌, get_or, sym, arith}
 use Rattle.wire_schedule.specs.declared.directive.Directive.TheVariants.{Once}
 use Rattle.wire_schedule.specs.declared.event.Event.{Event}
 use Rattle.large_copy.specs.Large.{large_events, large_lines}

@@ -1,9 +1,10 @@
 use Rattle.session_server.specs.declared.host.TheConstants.{MOST_STEPS}
-use Rattle.wire_run.specs.Ends.{count_gives, words_of}
+use Rattle.run_ends.specs.Ends.{count_gives, words_of}
 use Rattle.wire_run.specs.Stage.{HasFitPlans}
 use Rattle.wire_run.proofs.Acts.{dest_few, unheard}
-use Rattle.wire_run.proofs.Keeping.{dest_there}
+use Rattle.wire_run.proofs.Cores.{dest_there}
 use Rattle.std.proofs.Common.{sym, subst, ◌∙◌}
+use Rattle.wire_run.proofs.Calling.{dest_rested}
 use Rattle.wire_run.proofs.ends.DestEnd.hear.Goals as goal
 
 pub returns-else-there-clause-acts : goal.returns-else-there-clause-acts
@@ -13,3 +14,7 @@ returns-else-there-clause-acts g c =
     g.D.Disk.faults g.D.Disk.size c.args.worker c.args.bytes.now c.args.now c.args.self.now d.core c.no_outbox.result d.is
     (dest_few MOST_STEPS c.args.self.now d.core d.is c.requires.few) c.are_bytes.ensures (sym c.is_worker-there.ensures ∙ c.if-there.false)
     (subst HasFitPlans d.is c.has_fit_plans.ensures) c.no_outbox.ensures
+
+pub returns-else-there-clause-calls : goal.returns-else-there-clause-calls
+returns-else-there-clause-calls g c =
+    dest_rested g.D.Disk.Told g.D.Disk.size g.D.Disk.fuse g.D.Disk.timeline g.D.Disk.faults c.args.self.now c.no_outbox.result c.rests.ensures c.no_outbox.ensures

@@ -1,8 +1,9 @@
 use Rattle.std.proofs.Common.{Some, refl}
 use Rattle.session_server.specs.declared.host.TheConstants.{MOST_STEPS}
 use Rattle.wire_machine.specs.Ends as acts
-use Rattle.wire_run.specs.Ends.{run_machines}
+use Rattle.run_ends.specs.Ends.{run_machines}
 use Rattle.wire_run.proofs.Acts.{handled, same_result, dest_served, dest_acts, dest_few}
+use Rattle.wire_run.proofs.Calling.{dest_called}
 use Rattle.wire_run.proofs.ends.DestEnd.take.Goals as goal
 
 pub returns-clause-acts : goal.returns-clause-acts
@@ -15,3 +16,9 @@ returns-clause-acts g c =
     (acts.DestTakes 0 c.args.bytes.now) c.args.now c.args.self.now _ c.in-Open.core c.on_record.new.self c.args.draws.now c.on_record.new.draws c.on_record.result c.in-Open.is refl
     (λ t. dest_served c.on_record.result _ _ _ _ (handled c.on_record.result c.in-Open.core.steps MOST_STEPS (Some c.args.bytes.now) few c.are_bytes.ensures c.of_bytes-out.ensures.bytes) c.on_record.ensures.short (c.on_record.ensures.turn t) c.landed.ensures.plans)
     c.on_record.ensures.ran c.on_record.ensures.counted)
+
+pub returns-clause-calls : goal.returns-clause-calls
+returns-clause-calls g c =
+    same_result c.on_record.result c.of_bytes-out.result _ c.of_bytes-out.ensures.same
+    (dest_called g.D.Disk.Told g.D.Disk.size g.D.Disk.fuse g.D.Disk.timeline g.D.Disk.faults c.args.self.now _ c.in-Open.core c.on_record.new.self c.on_record.result c.in-Open.is refl
+    c.boot.ensures.stands c.boot.ensures.certain c.on_record.ensures.ran)

@@ -1,10 +1,12 @@
-use Rattle.std.proofs.Common.{None, refl}
+use Rattle.std.proofs.Common.{None, ap, refl}
+use Rattle.block_file.specs.Opened.{Opened}
 use Rattle.wire_machine.specs.Ends as acts
-use Rattle.wire_run.specs.Ends.{run_machines}
+use Rattle.run_ends.specs.Ends.{run_machines}
 use Rattle.dest_core.specs.Stepping.{tick_step}
 use Rattle.session_server.specs.Host.{host_of}
 use Rattle.session_server.specs.declared.host.TheConstants.{MOST_STEPS}
 use Rattle.wire_run.proofs.Acts.{all_draws, and_same, dest_few, dest_rests, handled, same_result, dest_served, stepped_fails}
+use Rattle.wire_run.proofs.Calling.{dest_fuse, dest_quiet, stepped_used}
 use Rattle.wire_run.proofs.ends.DestEnd.tick.Goals as goal
 
 pub returns-clause-acts : goal.returns-clause-acts
@@ -18,3 +20,14 @@ returns-clause-acts g c =
     c.tick.ensures.volume
     (stepped_fails c.tick.result (host_of g.D.Disk.size c.tick.new.self) (tick_step (record { mic = g.M.Mechanism.mic_of; derived = g.M.Mechanism.derived }) c.args.now (host_of g.D.Disk.size c.in-Open.core)) c.tick.ensures.is refl)
     c.tick.ensures.counted))
+
+pub returns-clause-calls : goal.returns-clause-calls
+returns-clause-calls g c =
+    same_result c.tick.result c.of_bytes-out.result _ c.of_bytes-out.ensures.same
+    (dest_quiet g.D.Disk.Told g.D.Disk.size g.D.Disk.fuse g.D.Disk.timeline g.D.Disk.faults c.args.self.now _ c.in-Open.core c.tick.new.self c.tick.result c.in-Open.is refl
+    c.boot.ensures.stands c.boot.ensures.certain c.tick.ensures.volume
+    (stepped_used c.tick.result (host_of g.D.Disk.size c.tick.new.self) (tick_step (record { mic = g.M.Mechanism.mic_of; derived = g.M.Mechanism.derived }) c.args.now (host_of g.D.Disk.size c.in-Open.core)) c.tick.ensures.is refl))
+
+pub returns-clause-fuse : goal.returns-clause-fuse
+returns-clause-fuse g c =
+    dest_fuse g.D.Disk.fuse c.args.self.now c.in-Open.core c.tick.new.self c.in-Open.is (ap (λ (v : Opened _). g.D.Disk.fuse v.disk) c.tick.ensures.volume)

@@ -1,13 +1,20 @@
 use Rattle.std.proofs.Common.{refl}
 use Rattle.wire_run.proofs.Acts.{source_peeks, source_peeks_none}
+use Rattle.wire_run.proofs.Calling.{source_fuse}
 use Rattle.wire_run.proofs.ends.SourceEnd.peek.Goals as goal
 
-pub returns-then-files-file : goal.returns-then-files-file
-returns-then-files-file g c =
+pub returns-then-files-file-clause-peeks : goal.returns-then-files-file-clause-peeks
+returns-then-files-file-clause-peeks g c =
     source_peeks_none g.D.Disk.Told g.D.Disk.faults g.D.Disk.size c.args.file c.args.off c.files.result c.args.out.now c.args.self.now c.in-Open.core c.in-Open.is c.files.ensures c.if-files-file.true
 
-pub returns : goal.returns
-returns g c =
+pub returns-clause-peeks : goal.returns-clause-peeks
+returns-clause-peeks g c =
     source_peeks g.D.Disk.Told g.D.Disk.faults g.D.Disk.size c.args.file c.args.off c.args.out.now c.peek.new.out c.peek.result c.peeked.result c.peeked.ensures
     c.args.self.now _ c.in-Open.core c.peek.new.self c.in-Open.is refl
     c.peek.ensures.broken c.peek.ensures.bytes c.peek.ensures.still c.peek.ensures.counted c.peek.ensures.faults c.peek.ensures.cause c.peek.ensures.size
+
+pub returns-then-files-file-clause-fuse : goal.returns-then-files-file-clause-fuse
+returns-then-files-file-clause-fuse g c = source_fuse g.D.Disk.fuse c.args.self.now c.in-Open.core c.in-Open.core c.in-Open.is refl
+
+pub returns-clause-fuse : goal.returns-clause-fuse
+returns-clause-fuse g c = source_fuse g.D.Disk.fuse c.args.self.now c.in-Open.core c.peek.new.self c.in-Open.is c.peek.ensures.fuse

@@ -1,8 +1,10 @@
 use Rattle.std.proofs.Common.{Option, None, Some, ℕ, ◌≡◌, refl, arith, ap}
 use Rattle.client_core.specs.State.{ClientState}
 use Rattle.wire_machine.specs.Ends as acts
-use Rattle.wire_run.specs.Ends.{run_machines}
+use Rattle.run_ends.specs.Ends.{count_gives, run_machines, words_of}
 use Rattle.wire_run.proofs.Keeping.{dest_keeps_by, dest_open, dest_still, looked_keeps, one_dest, one_source, same_dest, source_keeps_by, source_open, starved}
+use Rattle.wire_run.proofs.Watched.{dest_looks, dest_same, keeps_stops, source_looks, source_same, stops_same}
+use Rattle.wire_run.specs.Watching.{no_side}
 use Rattle.wire_run.proofs.stage.Stage.all_tick.Goals as goal
 
 none_other : (j : ℕ) → ◌≡◌ {A = Option ℕ} None (Some j) → ⊥
@@ -57,3 +59,31 @@ returns-clause-keeps g c =
 
 pub returns-clause-begun : goal.returns-clause-begun
 returns-clause-begun g c = λ j none. (c.in_ok-client.ensures.acts c.args.self.now.draws).begun j (none_other j) none
+
+pub returns-in_err-source-clause-stops : goal.returns-in_err-source-clause-stops
+returns-in_err-source-clause-stops g c = stops_same g.D.Disk.Told g.D.Disk.size g.D.Disk.fuse no_side c.args.self.now _ c.requires.watched c.in_err-source.ensures.err refl refl
+
+pub returns-in_err-dest-clause-stops : goal.returns-in_err-dest-clause-stops
+returns-in_err-dest-clause-stops g c =
+    keeps_stops g.D.Disk.Told g.D.Disk.size g.D.Disk.fuse no_side c.args.self.now _
+    (source_looks g.D.Disk.Told g.D.Disk.size g.D.Disk.fuse (words_of g.M.Mechanism.mic_of g.M.Mechanism.derived g.M.Mechanism.started g.M.Mechanism.accepted g.M.Mechanism.finished count_gives) g.D.Disk.timeline g.D.Disk.faults c.args.self.now.clock c.args.self.now.source c.tick.new.self c.args.self.now.draws c.args.self.now.draws c.in_ok-source.source
+    (c.in_ok-source.ensures.acts c.args.self.now.draws) c.in_ok-source.ensures.calls c.tick.ensures.fuse)
+    (dest_same g.D.Disk.Told g.D.Disk.size g.D.Disk.fuse c.args.self.now.dest c.tick-2.new.self c.in_err-dest.ensures.err) refl c.requires.watched
+
+pub returns-in_err-client-clause-stops : goal.returns-in_err-client-clause-stops
+returns-in_err-client-clause-stops g c =
+    keeps_stops g.D.Disk.Told g.D.Disk.size g.D.Disk.fuse no_side c.args.self.now _
+    (source_looks g.D.Disk.Told g.D.Disk.size g.D.Disk.fuse (words_of g.M.Mechanism.mic_of g.M.Mechanism.derived g.M.Mechanism.started g.M.Mechanism.accepted g.M.Mechanism.finished count_gives) g.D.Disk.timeline g.D.Disk.faults c.args.self.now.clock c.args.self.now.source c.tick.new.self c.args.self.now.draws c.args.self.now.draws c.in_ok-source.source
+    (c.in_ok-source.ensures.acts c.args.self.now.draws) c.in_ok-source.ensures.calls c.tick.ensures.fuse)
+    (dest_looks g.D.Disk.Told g.D.Disk.size g.D.Disk.fuse (words_of g.M.Mechanism.mic_of g.M.Mechanism.derived g.M.Mechanism.started g.M.Mechanism.accepted g.M.Mechanism.finished count_gives) g.D.Disk.timeline g.D.Disk.faults c.args.self.now.clock c.args.self.now.dest c.tick-2.new.self c.args.self.now.draws c.args.self.now.draws c.in_ok-dest.dest
+    (c.in_ok-dest.ensures.acts c.args.self.now.draws) c.in_ok-dest.ensures.calls c.tick-2.ensures.fuse)
+    refl c.requires.watched
+
+pub returns-clause-stops : goal.returns-clause-stops
+returns-clause-stops g c =
+    keeps_stops g.D.Disk.Told g.D.Disk.size g.D.Disk.fuse no_side c.args.self.now _
+    (source_looks g.D.Disk.Told g.D.Disk.size g.D.Disk.fuse (words_of g.M.Mechanism.mic_of g.M.Mechanism.derived g.M.Mechanism.started g.M.Mechanism.accepted g.M.Mechanism.finished count_gives) g.D.Disk.timeline g.D.Disk.faults c.args.self.now.clock c.args.self.now.source c.tick.new.self c.args.self.now.draws c.args.self.now.draws c.in_ok-source.source
+    (c.in_ok-source.ensures.acts c.args.self.now.draws) c.in_ok-source.ensures.calls c.tick.ensures.fuse)
+    (dest_looks g.D.Disk.Told g.D.Disk.size g.D.Disk.fuse (words_of g.M.Mechanism.mic_of g.M.Mechanism.derived g.M.Mechanism.started g.M.Mechanism.accepted g.M.Mechanism.finished count_gives) g.D.Disk.timeline g.D.Disk.faults c.args.self.now.clock c.args.self.now.dest c.tick-2.new.self c.args.self.now.draws c.args.self.now.draws c.in_ok-dest.dest
+    (c.in_ok-dest.ensures.acts c.args.self.now.draws) c.in_ok-dest.ensures.calls c.tick-2.ensures.fuse)
+    refl c.requires.watched

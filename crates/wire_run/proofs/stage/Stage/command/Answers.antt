@@ -1,10 +1,12 @@
 use Rattle.std.proofs.Common.{refl}
 use Rattle.std.specs.String.{string_bytes}
 use Rattle.wire_log.specs.Keeping.{reading}
-use Rattle.wire_run.specs.Ends.{count_gives, words_of}
+use Rattle.run_ends.specs.Ends.{count_gives, words_of}
 use Rattle.wire_machine.specs.Steps.{command_of}
 use Rattle.wire_run.proofs.Arrivals.{command_begun, command_comes, command_kept}
 use Rattle.wire_run.proofs.Keeping.{starved}
+use Rattle.wire_run.proofs.Watched.{stops_same}
+use Rattle.wire_run.specs.Watching.{no_side}
 use Rattle.wire_run.proofs.stage.Stage.command.Goals as goal
 
 pub returns-in_err-out-clause-keeps : goal.returns-in_err-out-clause-keeps
@@ -25,3 +27,10 @@ pub returns-clause-begun : goal.returns-clause-begun
 returns-clause-begun g c =
     command_begun g.D.Disk.Told (words_of g.M.Mechanism.mic_of g.M.Mechanism.derived g.M.Mechanism.started g.M.Mechanism.accepted g.M.Mechanism.finished count_gives) reading g.D.Disk.faults g.D.Disk.size
     c.args.event.now c.args.self.now.clock c.args.self.now.client c.client_commanded.new.client c.settle.new.self.client c.args.self.now.draws c.client_commanded.new.draws c.in_ok-out.out c.requires.command.there c.in_ok-out.ensures.acts c.settle.ensures.keeps.client
+
+pub returns-in_err-out-clause-stops : goal.returns-in_err-out-clause-stops
+returns-in_err-out-clause-stops g c = stops_same g.D.Disk.Told g.D.Disk.size g.D.Disk.fuse no_side c.args.self.now _ c.requires.fair.watched refl refl refl
+
+pub returns-clause-stops : goal.returns-clause-stops
+returns-clause-stops g c =
+    stops_same g.D.Disk.Told g.D.Disk.size g.D.Disk.fuse no_side c.args.self.now c.settle.new.self c.requires.fair.watched c.settle.ensures.keeps.source c.settle.ensures.keeps.dest c.settle.ensures.keeps.stops

@@ -1,7 +1,7 @@
 use Rattle.std.proofs.Common.{List, sym, subst, drop, IsTrue, ◌+◌}
 use Rattle.wire_log.specs.Keeping.{reading}
 use Rattle.wire_machine.specs.Runs.{events_in}
-use Rattle.wire_run.specs.Ends.{run_machines}
+use Rattle.run_ends.specs.Ends.{run_machines}
 use Rattle.wire_run.specs.Trace.{IsCut}
 use Rattle.wire_run.proofs.Tracing.{disks_along}
 use Rattle.wire_run.proofs.Turns.{context_on, entries_cut, entries_end, entries_go, entry_admitted, on_err}

@@ -1,7 +1,7 @@
 use Rattle.std.proofs.Common.{None, IsTrue, drop, take}
 use Rattle.wire_log.specs.Keeping.{reading}
 use Rattle.wire_machine.specs.Runs.{events_in}
-use Rattle.wire_run.specs.Ends.{run_machines}
+use Rattle.run_ends.specs.Ends.{run_machines}
 use Rattle.wire_run.specs.Running.{HasDisks}
 use Rattle.wire_run.specs.Trace.{Happen}
 use Rattle.wire_run.proofs.system.System.run_all.Given as goal

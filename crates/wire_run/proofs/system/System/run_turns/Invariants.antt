@@ -1,7 +1,7 @@
 use Rattle.std.proofs.Common.{◌-◌, None, IsTrue}
 use Rattle.wire_log.specs.Keeping.{reading}
 use Rattle.wire_machine.specs.Runs.{numbered}
-use Rattle.wire_run.specs.Ends.{run_machines}
+use Rattle.run_ends.specs.Ends.{run_machines}
 use Rattle.wire_run.specs.Running.{HasDisks}
 use Rattle.wire_run.specs.Trace.{Happen, turn_of}
 use Rattle.wire_run.proofs.system.System.run_turns.Given as goal

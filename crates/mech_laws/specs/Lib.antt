@@ -1,0 +1,3 @@
+pub mod DestRules
+pub mod Mechanisms
+pub mod SourceRules

@@ -1,0 +1,13 @@
+//! The machines of a run: a source, a destination and a client, each by its own definitions, and the world in which a run begins.
+//!
+//! There is no code here but for who the ends are and where the servers are found ([`user`], [`source_place`] and the others), which is
+//! the same in every run. `specs/Ends.antt` says what each machine may do in an act, and how a server goes on that stopped in one;
+//! `specs/Opening.antt` what a server is that was just opened, and `specs/First.antt` the first world of a schedule. The small steps,
+//! the lines and the histories of such machines are those of `wire_machine`.
+#![tactic(auto)]
+
+mod setting;
+
+pub use setting::{
+    DEST_TAG, SOURCE_TAG, dest_name, dest_place, dest_source, source_peers, source_place, user,
+};

@@ -1,0 +1,9 @@
+pub mod Along
+pub mod Behind
+pub mod Known
+pub mod Lasting
+pub mod Losing
+pub mod Moments
+pub mod New
+pub mod Segments
+pub mod Stopping

@@ -1,0 +1,9 @@
+pub mod Cuts
+pub mod DestRuns
+mod Premises
+pub mod ServerSteps
+pub mod SourceCalls
+pub mod SourceRuns
+pub mod SourceSteps
+pub mod Steady
+pub mod WorkCalls

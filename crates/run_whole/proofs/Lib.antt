@@ -1,0 +1,4 @@
+pub mod Begun
+pub mod Carried
+pub mod Keeping
+pub mod Stopped
