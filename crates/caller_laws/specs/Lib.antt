@@ -1,8 +1,11 @@
-pub mod View
-pub mod Moves
-pub mod Good
-pub mod Lawful
+pub mod Answers
 pub mod Duties
+pub mod Fitting
+pub mod Good
 pub mod Joining
 pub mod JoiningLaws
+pub mod Lawful
+pub mod Moves
+pub mod OneStep
 pub mod Tokens
+pub mod View

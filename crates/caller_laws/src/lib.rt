@@ -7,9 +7,12 @@
 //! takes an INIT as from the end that sent it (`specs/Tokens.antt`).
 #![tactic(auto)]
 
+pub mod answers;
+pub mod fitting;
 mod groups;
 mod joining;
 mod laws;
+pub mod one_step;
 mod tokens;
 
 pub use groups::{callers_own_their_contexts, calls_are_awaited, numbers_only_grow};

@@ -1,14 +1,22 @@
 -- What a client is told as an answer is taken, as the wire of its server sees it, as the reply that its mount awaited.
 use Rattle.std.proofs.Common.{◌≡◌, ◌∙◌, ℕ, Bool, true, false, List, Option, Some, None, refl, sym, ap, inl, inr}
 use Rattle.std.specs.Prelude.{◌==◌, option_map}
-use Rattle.answer_laws.specs.Awaited.{IsAwaited}
+use Rattle.caller_laws.specs.Answers.Awaited.{IsAwaited}
 use Rattle.caller_laws.specs.Good.{Identity}
+use Rattle.caller_laws.specs.OneStep.Counting.{Counted}
 use Rattle.caller_laws.specs.View.{awaited_in, face, handle_named, purpose_of, what_asked, what_under, Face}
 use Rattle.client_core.specs.Backs.{back_added, free_number}
 use Rattle.client_core.specs.Endings.{IsStep, Ways, acting_at, desk_at, ended_by}
 use Rattle.client_core.specs.Records.{IsJudged, heard}
 use Rattle.client_core.specs.State.{ClientState, second_at}
 use Rattle.client_core.specs.Telling.{mount_at}
+use Rattle.client_laws.proofs.Fitting.{quiet_deed}
+use Rattle.client_laws.proofs.MountCalls.{goes_on}
+use Rattle.client_laws.proofs.MountHears.{Comes, IsFoundAs, does, finds}
+use Rattle.client_laws.proofs.MountMoves.{unsure}
+use Rattle.client_laws.specs.Answered.{IsAnswerTaken}
+use Rattle.client_laws.specs.CallerLaws.{StartsOwn}
+use Rattle.client_laws.specs.Turns.{Hears, IsTurn}
 use Rattle.client_site.specs.Falling.{all_places}
 use Rattle.client_site.specs.Taking.{found_at}
 use Rattle.client_site.specs.declared.taking.Found.{Found}
@@ -40,14 +48,6 @@ use Rattle.wire_model.specs.Wire.{Purpose}
 use Rattle.wire_spelling.specs.Calls.{xid_in}
 use Rattle.wire_spelling.specs.Replies.{is_reply}
 use Rattle.wire_xdr.specs.Cursor.{IsBytes}
-use Rattle.client_laws.proofs.Fitting.{quiet_deed}
-use Rattle.client_laws.proofs.MountCalls.{goes_on}
-use Rattle.mount_runs.specs.Counting.{Counted}
-use Rattle.client_laws.proofs.MountMoves.{unsure}
-use Rattle.client_laws.proofs.MountHears.{Comes, IsFoundAs, does, finds}
-use Rattle.client_laws.specs.Answered.{IsAnswerTaken}
-use Rattle.client_laws.specs.CallerLaws.{StartsOwn}
-use Rattle.client_laws.specs.Turns.{Hears, IsTurn}
 
 -- ---- in a turn
 

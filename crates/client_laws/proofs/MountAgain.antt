@@ -2,6 +2,12 @@
 use Rattle.std.proofs.Common.{◌≡◌, ℕ, ◌+◌, ◌≤◌, Bool, true, false, List, [], ◌∷◌, refl, arith}
 use Rattle.std.specs.Prelude.{not}
 use Rattle.caller_laws.specs.Good.{Identity}
+use Rattle.caller_laws.specs.OneStep.Counting.{Counted}
+use Rattle.client_laws.proofs.Going.{Rise, behind_dest, behind_first, behind_second, behind_third, copies_rise, dest_within, end_of, first_within, from_low, last_within, rises_first, rises_last, rises_second, rises_third, second_within, source_within, third_within, to_next}
+use Rattle.client_laws.proofs.MountCalls.{again, same}
+use Rattle.client_laws.proofs.MountMoves.{Own, Post, no_calls, runs_then, same_seal}
+use Rattle.client_laws.proofs.MountParts.{ArePlaces, copies_are, first_place}
+use Rattle.client_laws.proofs.RunKinds.{Kind, OnceMore, once_more}
 use Rattle.client_steps.specs.Acting.{Acting}
 use Rattle.client_steps.specs.Commands as commands
 use Rattle.client_steps.specs.Commands.{copies_again}
@@ -12,12 +18,6 @@ use Rattle.mount.specs.Taking.{Means}
 use Rattle.nfs_base.specs.declared.side.Side.{Side}
 use Rattle.nfs_base.specs.declared.side.Side.TheVariants.{Source, Dest}
 use Rattle.outbox.specs.declared.label.CallLabel.{CallLabel}
-use Rattle.client_laws.proofs.Going.{Rise, behind_dest, behind_first, behind_second, behind_third, copies_rise, dest_within, end_of, first_within, from_low, last_within, rises_first, rises_last, rises_second, rises_third, second_within, source_within, third_within, to_next}
-use Rattle.client_laws.proofs.RunKinds.{Kind, OnceMore, once_more}
-use Rattle.mount_runs.specs.Counting.{Counted}
-use Rattle.client_laws.proofs.MountMoves.{Own, Post, no_calls, runs_then, same_seal}
-use Rattle.client_laws.proofs.MountParts.{ArePlaces, copies_are, first_place}
-use Rattle.client_laws.proofs.MountCalls.{again, same}
 
 module _ (who : Identity) (means : Means) (boot : ℕ) (post : Post means.mic) (counted : Counted) (side : Side) where
   abbrev R : Kind → Desk → Desk → Type 0

@@ -3,8 +3,13 @@ use Rattle.std.proofs.Common.{◌≡◌, ◌⊎◌, inl, inr, ◌∙◌, ℕ, �
 use Rattle.std.specs.Prelude.{◌&&◌, IfSome, nat_le, nat_lt, not}
 use Rattle.std.proofs.lemmas.List.{append-nil}
 use Rattle.std.proofs.lemmas.Bool.{leb-true, ltb-true}
+use Rattle.caller_laws.specs.Fitting.Asking.{BackChannelFits, SlotCallIsFit}
+use Rattle.caller_laws.specs.Fitting.Bounds.{FixedFits, TextFits}
+use Rattle.caller_laws.specs.Fitting.Moving.{SendIsFit, SendsFit}
 use Rattle.caller_laws.specs.Good.{Identity, IsOwnToken}
 use Rattle.caller_laws.specs.Moves.{Again, Begin, InSlot, Make, Reclaim, SetUp, Send, Sends}
+use Rattle.caller_laws.specs.OneStep.Counting.{Counted}
+use Rattle.caller_laws.specs.View.{Above}
 use Rattle.client_copies.specs.Copies.{is_overdue, asking as asking_of, is_ready, due, side_of}
 use Rattle.client_copies.specs.Table.{copy_at, said_of, told_at}
 use Rattle.client_copies.specs.declared.copy.Asking.{Asking}
@@ -17,14 +22,28 @@ use Rattle.client_copies.specs.declared.copy.Step.{Step}
 use Rattle.client_copies.specs.declared.copy.Step.TheVariants as steps
 use Rattle.client_copies.specs.declared.event.Event.{Event}
 use Rattle.client_copies.specs.declared.event.Event.TheVariants as events
+use Rattle.client_laws.proofs.Asking.{Stays, is_gentle, stays_same, stays_then, stays_told, still_asked}
+use Rattle.client_laws.proofs.Changed.{said_copies}
+use Rattle.client_laws.proofs.Fitting.{Free, Wants, WantsQuery, fits_freed, fits_queried, fits_sent, fits_told, free_due, free_none, free_ready, is_plain, is_quiet, wants_copy, wants_first, wants_last, wants_plain}
+use Rattle.client_laws.proofs.MountMoves.{Post, Puts, any, chain, here_or_other, IsOther, kept_when, sent_then, IsKept, Own, Runs, and_is, free_is, kept, mount_in, no_calls, none, put_copies, not_is, put, reshaped, runs_then, same_seal, silent_stays, slot_purpose, slot_stays, three_are}
+use Rattle.client_laws.proofs.MountParts.{ArePlaces, copies_are, first_place, IsReady, ready_open, ready_notify, ready_copy, ready_last, ready_query, ready_work, never, ready_is, other_slot, kept_noted, kept_said, kept_back, kept_there, back_copies, there_copies, down_is, falls_here}
+use Rattle.client_laws.proofs.RunKinds.{Anew, Both, IsOf, Joins, Kind, MayRest, OnceMore, SetsUp, Silent, anew_twice, both_of, is_fresh, is_loud, setup_anew, setup_setup, silent_anew, silent_silent}
+use Rattle.client_laws.specs.Bounds.AskLaws as asking_fits
+use Rattle.client_laws.specs.Bounds.CallLaws.{xid_small}
+use Rattle.client_laws.specs.Bounds.DeskLaws.{site_fits}
+use Rattle.client_laws.specs.Bounds.GoLaws as going_fits
+use Rattle.client_laws.specs.Bounds.GoLaws.{ActingIsFit, due_fits, file_small, queue_at_fits}
+use Rattle.client_laws.specs.Bounds.Known.{CopyIsFit, DeskIsFit, FileIsFit, SettingIsFit, WorkIsFit}
+use Rattle.client_laws.specs.Bounds.StepLaws.{ticked_of_fits}
+use Rattle.client_laws.specs.CallerLaws.{PurposesFit, purpose_after, purpose_for, ready_in}
 use Rattle.client_site.specs.Sending.{is_down, may_begin, may_go}
 use Rattle.client_site.specs.declared.site.OpenFile.{OpenFile}
 use Rattle.client_site.specs.declared.site.Site.{Site}
-use Rattle.caller_laws.specs.View.{Above}
 use Rattle.client_steps.specs.Acting as acts
 use Rattle.client_steps.specs.Acting.{Acting, GoesOn as GoesOnBy, GoesOnAt, IsDrawnOn, downs_told, queue_at, with_desk}
 use Rattle.client_steps.specs.Calling as calling
 use Rattle.client_steps.specs.Commands as commands
+use Rattle.client_steps.specs.Commands.{query_call, query_with}
 use Rattle.client_steps.specs.Commands.{ticked}
 use Rattle.client_steps.specs.CopySteps as copying
 use Rattle.client_steps.specs.CopySteps.{all_copies}
@@ -36,12 +55,13 @@ use Rattle.client_steps.specs.declared.setting.Setting.{Setting}
 use Rattle.copy_privs.specs.Forms.{privilege_name, privilege_spell}
 use Rattle.copy_privs.specs.declared.privilege.Privilege.{Privilege}
 use Rattle.mount.specs.State.{Mounted, is_setting_up, setup_in}
-use Rattle.mount.specs.declared.machine.SendAt.{SendAt}
 use Rattle.mount.specs.Taking.{Means}
-use Rattle.mount.specs.declared.machine.Sent.{Sent}
-use Rattle.mount.specs.declared.calling.Under.{Under}
 use Rattle.mount.specs.declared.calling.Under.TheVariants as unders
+use Rattle.mount.specs.declared.calling.Under.{Under}
+use Rattle.mount.specs.declared.machine.SendAt.{SendAt}
+use Rattle.mount.specs.declared.machine.Sent.{Sent}
 use Rattle.mount.specs.declared.state.TheConstants.{PLACES}
+use Rattle.nfs_base.specs.declared.limits.TheConstants.{NAME_LIMIT}
 use Rattle.nfs_base.specs.declared.limits.TheConstants.{PRIVILEGE_LIMIT}
 use Rattle.nfs_base.specs.declared.side.Side.{Side}
 use Rattle.nfs_base.specs.declared.side.Side.TheVariants.{Source, Dest}
@@ -56,32 +76,12 @@ use Rattle.session_calls.specs.declared.sole_call.BackChannel.{BackChannel}
 use Rattle.streams.specs.declared.draws.Drawn.{Drawn}
 use Rattle.streams.specs.declared.draws.Drawn.TheVariants.{Got, Failed}
 use Rattle.wire_model.specs.Wire.{Purpose, ForCopy, ForFirst, ForLast, ForStatus}
+use Rattle.wire_xdr.specs.Cursor.{IsBytes}
 use Rattle.write_queue.specs.Queue.{due as queue_due, file_of, refusals}
 use Rattle.write_queue.specs.Steps.{after}
 use Rattle.write_queue.specs.declared.work.Line.{Line}
 use Rattle.write_queue.specs.declared.work.QueueEvent.{QueueEvent}
 use Rattle.write_queue.specs.declared.work.Work.{Work}
-use Rattle.client_laws.proofs.Asking.{Stays, is_gentle, stays_same, stays_then, stays_told, still_asked}
-use Rattle.client_laws.proofs.Changed.{said_copies}
-use Rattle.client_laws.proofs.Fitting.{Free, Wants, WantsQuery, fits_freed, fits_queried, fits_sent, fits_told, free_due, free_none, free_ready, is_plain, is_quiet, wants_copy, wants_first, wants_last, wants_plain}
-use Rattle.client_laws.proofs.RunKinds.{Anew, Both, IsOf, Joins, Kind, MayRest, OnceMore, SetsUp, Silent, anew_twice, both_of, is_fresh, is_loud, setup_anew, setup_setup, silent_anew, silent_silent}
-use Rattle.client_steps.specs.Commands.{query_call, query_with}
-use Rattle.mount_fits.specs.Asking.{BackChannelFits, SlotCallIsFit}
-use Rattle.mount_fits.specs.Bounds.{FixedFits, TextFits}
-use Rattle.mount_fits.specs.Moving.{SendIsFit, SendsFit}
-use Rattle.nfs_base.specs.declared.limits.TheConstants.{NAME_LIMIT}
-use Rattle.wire_xdr.specs.Cursor.{IsBytes}
-use Rattle.client_fits.specs.AskLaws as asking_fits
-use Rattle.client_fits.specs.CallLaws.{xid_small}
-use Rattle.client_fits.specs.DeskLaws.{site_fits}
-use Rattle.client_fits.specs.GoLaws as going_fits
-use Rattle.client_fits.specs.GoLaws.{ActingIsFit, due_fits, file_small, queue_at_fits}
-use Rattle.client_fits.specs.Known.{CopyIsFit, DeskIsFit, FileIsFit, SettingIsFit, WorkIsFit}
-use Rattle.client_fits.specs.StepLaws.{ticked_of_fits}
-use Rattle.mount_runs.specs.Counting.{Counted}
-use Rattle.client_laws.proofs.MountMoves.{Post, Puts, any, chain, here_or_other, IsOther, kept_when, sent_then, IsKept, Own, Runs, and_is, free_is, kept, mount_in, no_calls, none, put_copies, not_is, put, reshaped, runs_then, same_seal, silent_stays, slot_purpose, slot_stays, three_are}
-use Rattle.client_laws.specs.CallerLaws.{PurposesFit, purpose_after, purpose_for, ready_in}
-use Rattle.client_laws.proofs.MountParts.{ArePlaces, copies_are, first_place, IsReady, ready_open, ready_notify, ready_copy, ready_last, ready_query, ready_work, never, ready_is, other_slot, kept_noted, kept_said, kept_back, kept_there, back_copies, there_copies, down_is, falls_here}
 
 module _ (who : Identity) (means : Means) (boot : ℕ) (post : Post means.mic) where
   site_falls : (side there : Side) (d : Desk) → Runs who means boot post any Silent side [] same_seal d (acts.site_falls there d)

@@ -2,51 +2,51 @@
 use Rattle.std.proofs.Common.{◌≡◌, ◌∙◌, ℕ, ◌⊎◌, Bool, true, false, List, [], ◌∷◌, Option, Some, None, refl, sym, ap, subst, inl, inr, arith}
 use Rattle.std.specs.Prelude.{◌==◌}
 use Rattle.std.proofs.lemmas.List.{append-nil}
+use Rattle.caller_laws.specs.Fitting.Bounds.{TextFits}
 use Rattle.caller_laws.specs.Good.{Identity}
 use Rattle.caller_laws.specs.Moves.{Takes}
+use Rattle.caller_laws.specs.OneStep.Counting.{Counted}
+use Rattle.caller_laws.specs.OneStep.Order.{is_root}
+use Rattle.caller_laws.specs.OneStep.RootLaws.{rooted_up}
 use Rattle.client_copies.specs.Table.{Copies, accepted_at, told_at}
-use Rattle.client_copies.specs.declared.event.Event.{Event}
 use Rattle.client_copies.specs.declared.copy.ClientCopy.{ClientCopy}
+use Rattle.client_copies.specs.declared.event.Event.{Event}
+use Rattle.client_laws.proofs.Changed.{said_copies}
+use Rattle.client_laws.proofs.Fitting.{IsQuiet, fits_accepted, fits_told, is_quiet, quiet_deed}
+use Rattle.client_laws.proofs.MountCalls.{Goes, IsUp, goes_down, queue, quietly, same, stays, tells}
+use Rattle.client_laws.proofs.MountMoves.{Post, any, IsOther, Runs, kept, mount_in, none, other_apart, rests, runs_then, same_seal}
+use Rattle.client_laws.proofs.MountParts.{kept_said, kept_there, there_copies}
+use Rattle.client_laws.proofs.MountSetups.{opens, setup_goes_on, setup_stays}
+use Rattle.client_laws.proofs.RunKinds as kinds
+use Rattle.client_laws.proofs.RunKinds.{Kind, MayRest, SetsUp, Silent, silent_silent}
+use Rattle.client_laws.specs.Bounds.DeedLaws.{taken_fits}
+use Rattle.client_laws.specs.Bounds.Known.{DeskIsFit}
+use Rattle.client_laws.specs.CallerLaws.{PurposesFit, above_by}
 use Rattle.client_site.specs.Falling.{all_places}
 use Rattle.client_site.specs.Sending.{is_down}
 use Rattle.client_site.specs.Taking.{found_at, found_by}
 use Rattle.client_site.specs.declared.site.Site.{Site}
 use Rattle.client_site.specs.declared.taking.Found.{Found}
 use Rattle.client_steps.specs.Acting.{Acting, on_desk, with_desk}
-use Rattle.client_steps.specs.Desks.{site_at, with_site, told_to}
 use Rattle.client_steps.specs.Answers.{copy_deed}
 use Rattle.client_steps.specs.CopySteps.{copy_in}
+use Rattle.client_steps.specs.Desks.{site_at, with_site, told_to}
 use Rattle.client_steps.specs.Replies.{answered, deed_at, deed_of, done, first_deed, started, taken, under_seal}
 use Rattle.client_steps.specs.declared.deeds.Deed.{Deed}
 use Rattle.client_steps.specs.declared.deeds.Deed.TheVariants as deeds
 use Rattle.client_steps.specs.declared.desk.Desk.{Desk}
 use Rattle.mount.specs.State.{Mounted, setup_in}
+use Rattle.mount.specs.Taking.{Means, taken_at}
 use Rattle.mount.specs.declared.taking.Told as mount_told
 use Rattle.mount.specs.declared.taking.Told.TheVariants as told_as
-use Rattle.mount.specs.Taking.{Means, taken_at}
+use Rattle.nfs_base.specs.declared.limits.TheConstants.{NAME_LIMIT}
 use Rattle.nfs_base.specs.declared.seal.Seal.{Seal}
-use Rattle.nfs_base.specs.declared.state_id.StateId.{StateId}
 use Rattle.nfs_base.specs.declared.side.Side.{Side}
 use Rattle.nfs_base.specs.declared.side.Side.TheVariants.{Source, Dest}
+use Rattle.nfs_base.specs.declared.state_id.StateId.{StateId}
 use Rattle.outbox.specs.declared.note.Dropped.TheVariants.{Unmatched}
 use Rattle.outbox.specs.declared.note.Note.TheVariants as notes
-use Rattle.client_laws.proofs.Changed.{said_copies}
-use Rattle.client_laws.proofs.Fitting.{IsQuiet, fits_accepted, fits_told, is_quiet, quiet_deed}
-use Rattle.client_laws.proofs.RunKinds as kinds
-use Rattle.client_laws.proofs.RunKinds.{Kind, MayRest, SetsUp, Silent, silent_silent}
-use Rattle.client_fits.specs.DeedLaws.{taken_fits}
-use Rattle.client_fits.specs.Known.{DeskIsFit}
-use Rattle.mount_fits.specs.Bounds.{TextFits}
-use Rattle.nfs_base.specs.declared.limits.TheConstants.{NAME_LIMIT}
 use Rattle.wire_xdr.specs.Cursor.{IsBytes}
-use Rattle.client_laws.proofs.MountCalls.{Goes, IsUp, goes_down, queue, quietly, same, stays, tells}
-use Rattle.client_laws.proofs.MountSetups.{opens, setup_goes_on, setup_stays}
-use Rattle.client_laws.proofs.MountParts.{kept_said, kept_there, there_copies}
-use Rattle.mount_runs.specs.Counting.{Counted}
-use Rattle.client_laws.proofs.MountMoves.{Post, any, IsOther, Runs, kept, mount_in, none, other_apart, rests, runs_then, same_seal}
-use Rattle.mount_runs.specs.RootLaws.{rooted_up}
-use Rattle.client_laws.specs.CallerLaws.{PurposesFit, above_by}
-use Rattle.mount_runs.specs.Order.{is_root}
 
 -- ---- a record is the reply to what is awaited at a place, or to nothing
 

@@ -5,11 +5,19 @@ use Rattle.std.specs.List.{AllByRecursion, flat_map}
 use Rattle.std.proofs.lemmas.Bool.{ltb-true}
 use Rattle.std.proofs.lemmas.Grind.{flat_map-append}
 use Rattle.std.proofs.lemmas.List.{append-nil, append_assoc}
+use Rattle.caller_laws.specs.Fitting.Moving.{GivesBytes, SendsFit}
 use Rattle.caller_laws.specs.Good.{Identity}
 use Rattle.caller_laws.specs.Lawful.{Suits}
 use Rattle.caller_laws.specs.Moves.{Rests, Send, Sends, out_of, sent_by}
+use Rattle.caller_laws.specs.OneStep.Runs.{MountStep}
 use Rattle.caller_laws.specs.View.{Above}
 use Rattle.client_copies.specs.Table.{Copies}
+use Rattle.client_laws.proofs.Asking.{Stays, stays_same, stays_then}
+use Rattle.client_laws.proofs.Changed.{all_behind}
+use Rattle.client_laws.proofs.MountRuns.{AllFit, acts_append, fit_append, run_append}
+use Rattle.client_laws.proofs.RunKinds.{Anew, IsOf, Joins, Kind, MayRest, anew_twice, count_append, is_loud, numbers_append, numbers_to_append, rest_is}
+use Rattle.client_laws.specs.CallerLaws.{AllAsk, AsksIn, IsMountRun, PurposesFit, above_by, acts_in, call_if, calls_to, goes_to, is_call, purpose_after, taken_in}
+use Rattle.client_laws.specs.Order.{count_behind, numbers_in, numbers_to}
 use Rattle.client_site.specs.Sending.{at_site, may_go, sent_if}
 use Rattle.client_site.specs.declared.site.Site.{Site}
 use Rattle.client_steps.specs.Desks.{going, next_xid, put_out, send_at, sent_out, site_at, with_site}
@@ -30,14 +38,6 @@ use Rattle.outbox.specs.declared.label.Label.TheVariants as labels
 use Rattle.outbox.specs.declared.outgoing.Outgoing.{Outgoing}
 use Rattle.wire_model.specs.Wire as wire
 use Rattle.wire_model.specs.Wire.{Acts, Purpose}
-use Rattle.client_laws.proofs.Asking.{Stays, stays_same, stays_then}
-use Rattle.client_laws.proofs.RunKinds.{Anew, IsOf, Joins, Kind, MayRest, anew_twice, count_append, is_loud, numbers_append, numbers_to_append, rest_is}
-use Rattle.client_laws.proofs.Changed.{all_behind}
-use Rattle.client_laws.proofs.MountRuns.{AllFit, acts_append, fit_append, run_append}
-use Rattle.mount_fits.specs.Moving.{GivesBytes, SendsFit}
-use Rattle.mount_runs.specs.Runs.{MountStep}
-use Rattle.client_laws.specs.CallerLaws.{AllAsk, AsksIn, IsMountRun, PurposesFit, above_by, acts_in, call_if, calls_to, goes_to, is_call, purpose_after, taken_in}
-use Rattle.client_laws.specs.Order.{count_behind, numbers_in, numbers_to}
 
 abbrev pub mount_in : Side → Desk → Mounted
 mount_in side d = (site_at side d).mount

@@ -5,6 +5,8 @@ use Rattle.std.specs.List.{AllByRecursion, flat_map}
 use Rattle.caller_laws.specs.Good.{Identity}
 use Rattle.caller_laws.specs.Lawful.{GoesOn}
 use Rattle.caller_laws.specs.Moves.{Falls, GivesUp}
+use Rattle.caller_laws.specs.OneStep.Order.{AreLosing}
+use Rattle.caller_laws.specs.OneStep.Runs.{MountStep}
 use Rattle.caller_laws.specs.View.{Above}
 use Rattle.client_copies.specs.Copies.{is_ready, due, is_stable}
 use Rattle.client_copies.specs.Table.{Copies, copy_at}
@@ -21,6 +23,11 @@ use Rattle.client_copies.specs.declared.copy.Step.{Step}
 use Rattle.client_copies.specs.declared.copy.Step.TheVariants as steps
 use Rattle.client_copies.specs.declared.told.Said.{Said}
 use Rattle.client_copies.specs.declared.told.Said.TheVariants.{Nothing, One, Two}
+use Rattle.client_laws.proofs.MountMoves.{IsKept, Ran, mount_in}
+use Rattle.client_laws.proofs.MountRuns.{AllFit}
+use Rattle.client_laws.proofs.RunKinds.{Silent}
+use Rattle.client_laws.specs.CallerLaws.{AllAsk, AsksOf, IsMountRun, above_by, acts_in, is_safe, is_said_stable, knows_first, purpose_for, ready_in, taken_in}
+use Rattle.client_laws.specs.Order.{numbers_in}
 use Rattle.client_site.specs.Falling.{all_places, given_up_at}
 use Rattle.client_site.specs.Sending.{is_down}
 use Rattle.client_site.specs.declared.site.OpenFile.{OpenFile}
@@ -45,15 +52,8 @@ use Rattle.session_calls.specs.declared.slot_call.SlotCall.{SlotCall}
 use Rattle.session_client.specs.declared.setup.Setup.{Setup}
 use Rattle.session_client.specs.declared.setup.Setup.TheVariants as setups
 use Rattle.wire_model.specs.Wire.{Acts, Purpose}
-use Rattle.write_queue.specs.declared.work.Work.{Work}
 use Rattle.write_queue.specs.declared.work.Work.TheVariants as works
-use Rattle.client_laws.proofs.RunKinds.{Silent}
-use Rattle.client_laws.proofs.MountMoves.{IsKept, Ran, mount_in}
-use Rattle.client_laws.proofs.MountRuns.{AllFit}
-use Rattle.mount_runs.specs.Runs.{MountStep}
-use Rattle.client_laws.specs.CallerLaws.{AllAsk, AsksOf, IsMountRun, above_by, acts_in, is_safe, is_said_stable, knows_first, purpose_for, ready_in, taken_in}
-use Rattle.mount_runs.specs.Order.{AreLosing}
-use Rattle.client_laws.specs.Order.{numbers_in}
+use Rattle.write_queue.specs.declared.work.Work.{Work}
 
 -- ---- places
 

@@ -1,18 +1,18 @@
 -- Runs of a mount's steps: they can be joined, and from a mount that is as it should be each step obeys the laws.
 use Rattle.std.proofs.Common.{◌≡◌, List, [], ◌∷◌, ◌++◌, sym, ap, subst}
+use Rattle.caller_laws.specs.Fitting.Fitting.{MountIsFit}
+use Rattle.caller_laws.specs.Fitting.Moving.{GivesBytes, MoveIsFit}
+use Rattle.caller_laws.specs.Fitting.StepLaws.{moved_fits, spelled_at}
 use Rattle.caller_laws.specs.Good.{Identity, IsGood}
 use Rattle.caller_laws.specs.Lawful.{IsStep, Obeys}
 use Rattle.caller_laws.specs.Moves.{Falls, Forgets, GivesUp, Move, Rests, Sends, Takes, done}
-use Rattle.gss_ctx.specs.Seals.{Mic}
+use Rattle.caller_laws.specs.OneStep.Runs.{AreSpelled, IsSpelled, MountStep}
 use Rattle.caller_laws.specs.View.{Above}
+use Rattle.client_laws.specs.CallerLaws.{AllObey, IsMountRun, acts_in}
+use Rattle.gss_ctx.specs.Seals.{Mic}
 use Rattle.mount.specs.State.{Mounted}
 use Rattle.mount.specs.Taking.{Means}
 use Rattle.wire_model.specs.Wire.{Acts}
-use Rattle.mount_fits.specs.Fitting.{MountIsFit}
-use Rattle.mount_fits.specs.Moving.{GivesBytes, MoveIsFit}
-use Rattle.mount_fits.specs.StepLaws.{moved_fits, spelled_at}
-use Rattle.mount_runs.specs.Runs.{AreSpelled, IsSpelled, MountStep}
-use Rattle.client_laws.specs.CallerLaws.{AllObey, IsMountRun, acts_in}
 
 pub run_append : (who : Identity) (means : Means) (xs ys : List MountStep) (a : Above) (m : Mounted) (b : Above) (n : Mounted) (c : Above) (o : Mounted)
     → IsMountRun who means xs a m b n → IsMountRun who means ys b n c o → IsMountRun who means (xs ++ ys) a m c o

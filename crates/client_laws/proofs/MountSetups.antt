@@ -1,8 +1,18 @@
 -- How a setup goes on at a server, and what the answer to an OPEN does.
 use Rattle.std.proofs.Common.{◌≡◌, ◌⊎◌, inl, inr, ◌∙◌, ℕ, Bool, true, false, List, Option, None, refl, sym, ap}
 use Rattle.std.specs.Prelude.{◌==◌}
+use Rattle.caller_laws.specs.Fitting.Bounds.{TextFits}
 use Rattle.caller_laws.specs.Good.{Identity}
+use Rattle.caller_laws.specs.OneStep.Counting.{Counted}
 use Rattle.client_copies.specs.declared.event.Event.TheVariants as events
+use Rattle.client_laws.proofs.Going.{back_setup, reclaimed_setup, stepped_setup}
+use Rattle.client_laws.proofs.MountCalls as calls
+use Rattle.client_laws.proofs.MountMoves.{Post, here_or_other, IsKept, Own, mount_in, no_calls, other_apart}
+use Rattle.client_laws.proofs.MountParts.{kept_there, there_copies, made_copies, kept_made}
+use Rattle.client_laws.proofs.RunKinds.{Joins, Kind, MayRest, SetsUp, Silent, setup_setup, silent_silent}
+use Rattle.client_laws.specs.Bounds.CallLaws.{back_fits}
+use Rattle.client_laws.specs.Bounds.DeskLaws.{site_fits}
+use Rattle.client_laws.specs.Bounds.Known.{DeskIsFit}
 use Rattle.client_site.specs.Sending as sites
 use Rattle.client_site.specs.Sending.{is_down}
 use Rattle.client_site.specs.declared.site.OpenFile.{OpenFile}
@@ -15,21 +25,11 @@ use Rattle.client_steps.specs.declared.desk.Desk.{Desk}
 use Rattle.file_ops.specs.declared.operation.TheConstants.{OP_CREATE_SESSION}
 use Rattle.mount.specs.State.{setup_in}
 use Rattle.mount.specs.Taking.{Means}
+use Rattle.nfs_base.specs.declared.limits.TheConstants.{NAME_LIMIT}
 use Rattle.nfs_base.specs.declared.side.Side.{Side}
 use Rattle.outbox.specs.declared.label.CallLabel.TheVariants as labels
 use Rattle.session_client.specs.declared.setup.Setup.{Setup}
 use Rattle.session_client.specs.declared.setup.Setup.TheVariants as setups
-use Rattle.client_laws.proofs.Going.{back_setup, reclaimed_setup, stepped_setup}
-use Rattle.client_laws.proofs.RunKinds.{Joins, Kind, MayRest, SetsUp, Silent, setup_setup, silent_silent}
-use Rattle.mount_fits.specs.Bounds.{TextFits}
-use Rattle.nfs_base.specs.declared.limits.TheConstants.{NAME_LIMIT}
-use Rattle.client_fits.specs.CallLaws.{back_fits}
-use Rattle.client_fits.specs.DeskLaws.{site_fits}
-use Rattle.client_fits.specs.Known.{DeskIsFit}
-use Rattle.mount_runs.specs.Counting.{Counted}
-use Rattle.client_laws.proofs.MountMoves.{Post, here_or_other, IsKept, Own, mount_in, no_calls, other_apart}
-use Rattle.client_laws.proofs.MountParts.{kept_there, there_copies, made_copies, kept_made}
-use Rattle.client_laws.proofs.MountCalls as calls
 
 module _ (who : Identity) (means : Means) (boot : ℕ) (post : Post means.mic) (counted : Counted) (side : Side) where
   abbrev R : Kind → Desk → Desk → Type 0

@@ -3,9 +3,17 @@ use Rattle.std.proofs.Common.{◌≡◌, ◌∙◌, ℕ, ◌+◌, ◌<◌, Bool,
 use Rattle.std.specs.Prelude.{◌&&◌, nat_lt}
 use Rattle.std.specs.List.{AllByRecursion, flat_map}
 use Rattle.std.proofs.lemmas.Bool.{ltb-true}
+use Rattle.call_replies.specs.ReplyLaws.{denial_reply_is, failure_reply_is, init_reply_is, result_reply_is}
+use Rattle.call_replies.specs.SaysLaws.{IsSaid, IsSpoken, auth_fits, garbage_fits, judged_says}
+use Rattle.call_replies.specs.SealLaws.{accepted_owner, inited_owner, under_owner, unsealed}
+use Rattle.call_replies.specs.Sealed.{IsSealedBy}
 use Rattle.callbacks.specs.Callbacks.{Outcome, evaluated}
 use Rattle.callbacks.specs.declared.evaluation.Told.{Told}
+use Rattle.caller_laws.specs.Fitting.Moving.{GivesBytes}
 use Rattle.caller_laws.specs.Good.{Identity}
+use Rattle.caller_laws.specs.OneStep.Counting.{Counted}
+use Rattle.caller_laws.specs.OneStep.Order.{IsOrdered}
+use Rattle.caller_laws.specs.OneStep.Runs.{MountStep}
 use Rattle.client_copies.specs.Table.{Copies, with_begun}
 use Rattle.client_copies.specs.declared.copy.Query.{Query}
 use Rattle.client_copies.specs.declared.table.TheConstants.{MOST_COPIES}
@@ -16,8 +24,30 @@ use Rattle.client_core.specs.Endings.{IsStep, Ways, acting_at, desk_at, ended_by
 use Rattle.client_core.specs.Records.{IsJudged, IsWhat, heard}
 use Rattle.client_core.specs.State.{ClientState, second_at}
 use Rattle.client_core.specs.Telling.{mount_at}
+use Rattle.client_laws.proofs.Asking.{stays_same}
+use Rattle.client_laws.proofs.Changed.{said_copies}
+use Rattle.client_laws.proofs.Fitting.{fits_begun, fits_evaluated}
+use Rattle.client_laws.proofs.MountAgain.{retried}
+use Rattle.client_laws.proofs.MountCalls.{DrawsFit, Goes, IsUp, asked, goes_on, goes_on_up, tells, ticks}
+use Rattle.client_laws.proofs.MountHears.{Comes, Heard, Hearing, hears, kept_seal}
+use Rattle.client_laws.proofs.MountMoves.{Post, any, IsKept, Runs, kept, mount_in, none, reshaped, rests, runs_then, same_seal}
+use Rattle.client_laws.proofs.MountParts.{copies_are, kept_said}
+use Rattle.client_laws.proofs.MountRuns.{AllFit}
+use Rattle.client_laws.proofs.RunKinds as kinds
+use Rattle.client_laws.proofs.RunKinds.{Anew, Both, IsOf, Kind, OnceMore, SetsUp, Silent, GoesInOrder, Whole, again_ordered, anew_ordered, hears_anew, hears_both, setup_anew, silent_anew, silent_both, silent_silent, whole_of, whole_ordered}
+use Rattle.client_laws.specs.Bounds.CopyLaws.{begun_fits, evaluated_fits, queued_fits}
+use Rattle.client_laws.specs.Bounds.DeedLaws.{replied_fits}
+use Rattle.client_laws.specs.Bounds.DeskLaws.{all_said_fits, copied_fits}
+use Rattle.client_laws.specs.Bounds.GoLaws.{ActingIsFit, queue_at_fits, with_queue_fits}
+use Rattle.client_laws.specs.Bounds.Known.{ClientIsFit, DeskIsFit, PartsAreFit, SettingIsFit, SpecIsFit}
+use Rattle.client_laws.specs.CallerLaws.{PurposesFit, IsMountRun, StartsOwn, above_by, acts_in, call_if, calls_to, goes_to, is_call, taken_in}
+use Rattle.client_laws.specs.Fits.{TurnIsFit}
+use Rattle.client_laws.specs.MountTurns.{IsMountTurn, IsOut, IsOwnAnswer, IsStrange, IsTaken, TakesBytes}
+use Rattle.client_laws.specs.Order.{count_behind, counted_if, number_if, numbers_in, numbers_to}
+use Rattle.client_laws.specs.Turns.{IsTurn, MayTurn, Turn, Asks, Begins, Hears, Retries, Ticks, Works}
 use Rattle.client_site.specs.declared.site.Site.{Site}
 use Rattle.client_steps.specs.Acting.{Acting, GoesOn, on_desk}
+use Rattle.client_steps.specs.Acting.{queue_at}
 use Rattle.client_steps.specs.Commands as commands
 use Rattle.client_steps.specs.Commands.{ticked}
 use Rattle.client_steps.specs.CopySteps.{all_copies}
@@ -26,6 +56,7 @@ use Rattle.client_steps.specs.Replies.{taken, under_seal}
 use Rattle.client_steps.specs.declared.desk.Desk.{Desk}
 use Rattle.copy_privs.specs.Told.{privilege_told}
 use Rattle.gss_ctx.specs.Table.{ContextTable}
+use Rattle.gss_mech.specs.Tokens.{IsSized}
 use Rattle.mount.specs.State.{Mounted}
 use Rattle.mount.specs.Taking.{Means}
 use Rattle.nfs_base.specs.declared.copy_spec.CopySpec.{CopySpec}
@@ -38,58 +69,27 @@ use Rattle.outbox.specs.declared.note.Dropped.TheVariants.{Unread}
 use Rattle.outbox.specs.declared.outgoing.Outbox.{Outbox}
 use Rattle.outbox.specs.declared.outgoing.Outgoing.{Outgoing}
 use Rattle.rpc_calls.specs.Answers.{accepted_seal}
+use Rattle.rpc_calls.specs.Judging.{judged_of}
 use Rattle.rpc_calls.specs.Making.{made_seal}
 use Rattle.rpc_calls.specs.declared.call.Call.{Call}
 use Rattle.rpc_calls.specs.declared.call.Judged.{Judged}
 use Rattle.rpc_calls.specs.declared.call.Judged.TheVariants as judged
-use Rattle.rpc_calls.specs.declared.call.Under.{Under}
-use Rattle.rpc_calls.specs.declared.call.What.{What}
-use Rattle.rpc_calls.specs.declared.call.What.TheVariants as whats
-use Rattle.rpc_calls.specs.declared.contexts.InitAnswer.{InitAnswer}
-use Rattle.gss_mech.specs.Tokens.{IsSized}
-use Rattle.rpc_calls.specs.Judging.{judged_of}
 use Rattle.rpc_calls.specs.declared.call.TheConstants.Program as programs
+use Rattle.rpc_calls.specs.declared.call.Under.{Under}
+use Rattle.rpc_calls.specs.declared.call.What.TheVariants as whats
+use Rattle.rpc_calls.specs.declared.call.What.{What}
+use Rattle.rpc_calls.specs.declared.contexts.InitAnswer.{InitAnswer}
 use Rattle.rpc_calls.specs.declared.numbers.TheConstants.{RPCSEC_GSS_PRIVILEGE_PROBLEM}
 use Rattle.rpc_msg.specs.Heads as heads
-use Rattle.rpc_msg.specs.declared.reply.Stat.{Stat}
-use Rattle.wire_spelling.specs.ReadLaws.{xid_small}
-use Rattle.wire_spelling.specs.Replies.{is_reply}
 use Rattle.rpc_msg.specs.declared.reply.Denial.{Denial}
 use Rattle.rpc_msg.specs.declared.reply.Denial.TheVariants.{Auth, Mismatch}
+use Rattle.rpc_msg.specs.declared.reply.Stat.{Stat}
 use Rattle.rpc_msg.specs.declared.reply.Stat.TheVariants.{Garbage}
 use Rattle.streams.specs.declared.draws.Drawn.{Drawn}
 use Rattle.streams.specs.declared.draws.Drawn.TheVariants.{Got, Failed}
 use Rattle.wire_model.specs.Wire.{Acts, Purpose}
-use Rattle.call_replies.specs.ReplyLaws.{denial_reply_is, failure_reply_is, init_reply_is, result_reply_is}
-use Rattle.call_replies.specs.SaysLaws.{IsSaid, IsSpoken, auth_fits, garbage_fits, judged_says}
-use Rattle.call_replies.specs.Sealed.{IsSealedBy}
-use Rattle.call_replies.specs.SealLaws.{accepted_owner, inited_owner, under_owner, unsealed}
-use Rattle.client_laws.proofs.Asking.{stays_same}
-use Rattle.client_laws.proofs.Changed.{said_copies}
-use Rattle.client_laws.proofs.Fitting.{fits_begun, fits_evaluated}
-use Rattle.client_laws.proofs.RunKinds as kinds
-use Rattle.client_laws.proofs.RunKinds.{Anew, Both, IsOf, Kind, OnceMore, SetsUp, Silent, GoesInOrder, Whole, again_ordered, anew_ordered, hears_anew, hears_both, setup_anew, silent_anew, silent_both, silent_silent, whole_of, whole_ordered}
-use Rattle.client_laws.proofs.MountAgain.{retried}
-use Rattle.client_fits.specs.CopyLaws.{begun_fits, evaluated_fits, queued_fits}
-use Rattle.client_fits.specs.DeedLaws.{replied_fits}
-use Rattle.client_fits.specs.DeskLaws.{all_said_fits, copied_fits}
-use Rattle.client_fits.specs.GoLaws.{ActingIsFit, queue_at_fits, with_queue_fits}
-use Rattle.client_fits.specs.Known.{ClientIsFit, DeskIsFit, PartsAreFit, SettingIsFit, SpecIsFit}
-use Rattle.client_steps.specs.Acting.{queue_at}
-use Rattle.mount_fits.specs.Moving.{GivesBytes}
-use Rattle.client_laws.proofs.MountRuns.{AllFit}
-use Rattle.client_laws.specs.Fits.{TurnIsFit}
-use Rattle.client_laws.proofs.MountCalls.{DrawsFit, Goes, IsUp, asked, goes_on, goes_on_up, tells, ticks}
-use Rattle.client_laws.proofs.MountParts.{copies_are, kept_said}
-use Rattle.mount_runs.specs.Counting.{Counted}
-use Rattle.client_laws.proofs.MountMoves.{Post, any, IsKept, Runs, kept, mount_in, none, reshaped, rests, runs_then, same_seal}
-use Rattle.mount_runs.specs.Runs.{MountStep}
-use Rattle.client_laws.specs.CallerLaws.{PurposesFit, IsMountRun, StartsOwn, above_by, acts_in, call_if, calls_to, goes_to, is_call, taken_in}
-use Rattle.client_laws.specs.MountTurns.{IsMountTurn, IsOut, IsOwnAnswer, IsStrange, IsTaken, TakesBytes}
-use Rattle.mount_runs.specs.Order.{IsOrdered}
-use Rattle.client_laws.specs.Order.{count_behind, counted_if, number_if, numbers_in, numbers_to}
-use Rattle.client_laws.specs.Turns.{IsTurn, MayTurn, Turn, Asks, Begins, Hears, Retries, Ticks, Works}
-use Rattle.client_laws.proofs.MountHears.{Comes, Heard, Hearing, hears, kept_seal}
+use Rattle.wire_spelling.specs.ReadLaws.{xid_small}
+use Rattle.wire_spelling.specs.Replies.{is_reply}
 
 reply_owner : (table : ContextTable ℕ) (under : Option Under) → IsSealedBy table.owner (reply_seal table under)
 reply_owner table None = unsealed table.owner

@@ -6,7 +6,15 @@ use Rattle.std.proofs.lemmas.List.Elements.{Contains-append_cases, Contains-appe
 use Rattle.caller_laws.specs.Good.{Identity, IsGood}
 use Rattle.caller_laws.specs.Lawful.{IsStep}
 use Rattle.caller_laws.specs.Moves.{Falls, Forgets, GivesUp, Move, Rests, Send, Sends, Takes, done, out_of, sent_by}
+use Rattle.caller_laws.specs.OneStep.Runs.{AreSpelled, MountStep, whole}
 use Rattle.caller_laws.specs.View.{Above}
+use Rattle.client_laws.proofs.SealedFor.{sealed_for}
+use Rattle.client_laws.proofs.WholeRuns.{Knows}
+use Rattle.client_laws.specs.CallerLaws.{IsMountRun, call_if, calls_to, goes_to, is_call}
+use Rattle.client_laws.specs.MountTurns.{IsOut}
+use Rattle.client_laws.specs.Order.{count_behind, counted_if, number_if, numbers_in, numbers_of, numbers_to}
+use Rattle.client_laws.specs.Turns.{Turn}
+use Rattle.client_laws.specs.WholeTurns.{sent_of}
 use Rattle.gss_ctx.specs.Seals.{Mic}
 use Rattle.mount.specs.State.{Mounted}
 use Rattle.mount.specs.Taking.{Means}
@@ -19,14 +27,6 @@ use Rattle.nfs_base.specs.declared.side.Side.TheVariants.{Source, Dest}
 use Rattle.outbox.specs.declared.outgoing.Outgoing.{Outgoing}
 use Rattle.wire_model.specs.Wire.{Sent}
 use Rattle.wire_spelling.specs.Calls.{xid_in}
-use Rattle.client_laws.proofs.SealedFor.{sealed_for}
-use Rattle.client_laws.proofs.WholeRuns.{Knows}
-use Rattle.mount_runs.specs.Runs.{AreSpelled, MountStep, whole}
-use Rattle.client_laws.specs.CallerLaws.{IsMountRun, call_if, calls_to, goes_to, is_call}
-use Rattle.client_laws.specs.MountTurns.{IsOut}
-use Rattle.client_laws.specs.Order.{count_behind, counted_if, number_if, numbers_in, numbers_of, numbers_to}
-use Rattle.client_laws.specs.Turns.{Turn}
-use Rattle.client_laws.specs.WholeTurns.{sent_of}
 
 abbrev pub xids : List Sent → List ℕ
 xids sent = map (λ (one : Sent). xid_in one.bytes) sent

@@ -6,16 +6,16 @@ use Rattle.std.proofs.lemmas.Bool.{and_parts}
 use Rattle.std.proofs.lemmas.List.{append_assoc}
 use Rattle.caller_laws.specs.Good.{Identity}
 use Rattle.caller_laws.specs.Moves.{done, Again, Begin, BeginAnew, Falls, Finish, Forgets, GivesUp, InSlot, Make, Move, Reclaim, Rests, Sends, SetUp, Takes}
+use Rattle.caller_laws.specs.OneStep.Order.{AreAgain, AreAnew, AreLosing, IsEarlyLate, IsOrdered, IsTake, MayAgain, is_anew, is_losing, next_place}
+use Rattle.caller_laws.specs.OneStep.Runs.{MountStep}
 use Rattle.caller_laws.specs.View.{Above}
+use Rattle.client_laws.proofs.Changed.{all_behind, all_wider}
+use Rattle.client_laws.specs.CallerLaws.{IsMountRun, goes_to, is_call}
+use Rattle.client_laws.specs.Order.{NoneBeginsAnew, begins_anew, count_behind, counted_if, number_if, numbers_in, numbers_of, numbers_to}
 use Rattle.mount.specs.State.{Mounted}
 use Rattle.mount.specs.Taking.{Means}
 use Rattle.nfs_base.specs.declared.side.Side.{Side}
 use Rattle.outbox.specs.declared.outgoing.Outgoing.{Outgoing}
-use Rattle.client_laws.proofs.Changed.{all_behind, all_wider}
-use Rattle.mount_runs.specs.Order.{AreAgain, AreAnew, AreLosing, IsEarlyLate, IsOrdered, IsTake, MayAgain, is_anew, is_losing, next_place}
-use Rattle.mount_runs.specs.Runs.{MountStep}
-use Rattle.client_laws.specs.CallerLaws.{IsMountRun, goes_to, is_call}
-use Rattle.client_laws.specs.Order.{NoneBeginsAnew, begins_anew, count_behind, counted_if, number_if, numbers_in, numbers_of, numbers_to}
 
 -- A record is taken, which tells the root or doesn't; nothing goes out, and what is awaited may be lost; calls of a setup go out, or
 -- any but once more, and nothing is lost; what is awaited goes out once more, at places from a lowest on and below another; first

@@ -1,25 +1,25 @@
 -- From a fit client what a turn asks can be spelled, and the client behind it is fit.
 use Rattle.std.proofs.Common.{ℕ, ◌<◌, sym, subst}
+use Rattle.caller_laws.specs.Fitting.Fitting.{MountIsFit}
 use Rattle.caller_laws.specs.Good.{Identity}
+use Rattle.caller_laws.specs.OneStep.Counting.{Counted}
 use Rattle.client_core.specs.Endings.{Ways}
 use Rattle.client_core.specs.State.{ClientState}
 use Rattle.client_core.specs.Telling.{mount_at}
-use Rattle.client_fits.specs.Known.{ClientIsFit}
-use Rattle.client_fits.specs.StepLaws.{asks_fit, begins_fit, hears_fit, retries_fit, ticks_fit, works_fit}
-use Rattle.client_fits.specs.Ways.{WaysAreFit}
-use Rattle.mount_fits.specs.Fitting.{MountIsFit}
-use Rattle.nfs_base.specs.declared.side.Side.{Side}
-use Rattle.nfs_base.specs.declared.side.Side.TheVariants.{Source, Dest}
-use Rattle.outbox.specs.declared.outgoing.Outbox.{Outbox}
-use Rattle.streams.specs.declared.draws.Drawn.{Drawn}
-use Rattle.mount_runs.specs.Counting.{Counted}
 use Rattle.client_laws.proofs.MountRuns.{fit_spelled}
 use Rattle.client_laws.proofs.MountTurns.{IsFitTurn, Sure, turn_runs}
+use Rattle.client_laws.specs.Bounds.Known.{ClientIsFit}
+use Rattle.client_laws.specs.Bounds.StepLaws.{asks_fit, begins_fit, hears_fit, retries_fit, ticks_fit, works_fit}
+use Rattle.client_laws.specs.Bounds.Ways.{WaysAreFit}
 use Rattle.client_laws.specs.CallerLaws.{StartsOwn}
 use Rattle.client_laws.specs.Fits.{TurnIsFit}
 use Rattle.client_laws.specs.MountTurns.{TakesBytes}
 use Rattle.client_laws.specs.Turns.{IsTurn, MayTurn, Turn, Asks, Begins, Hears, Retries, Ticks, Works}
 use Rattle.client_laws.specs.WholeTurns.{IsSpelledTurn, Purposes}
+use Rattle.nfs_base.specs.declared.side.Side.{Side}
+use Rattle.nfs_base.specs.declared.side.Side.TheVariants.{Source, Dest}
+use Rattle.outbox.specs.declared.outgoing.Outbox.{Outbox}
+use Rattle.streams.specs.declared.draws.Drawn.{Drawn}
 
 mount_fits : {M : Type 0} (side : Side) (c : ClientState M) → ClientIsFit c → MountIsFit (mount_at side c)
 mount_fits Source c h = h.parts.at_source.mount

@@ -7,8 +7,14 @@ use Rattle.caller_laws.specs.Good.{Identity, IsGood}
 use Rattle.caller_laws.specs.Joining.{joined}
 use Rattle.caller_laws.specs.Lawful.{IsStep, May, Suits}
 use Rattle.caller_laws.specs.Moves.{Again, Begin, BeginAnew, Falls, Finish, Forgets, GivesUp, InSlot, Make, Move, Reclaim, Rests, Send, Sends, SetUp, Takes, done}
+use Rattle.caller_laws.specs.OneStep.Order.{AreAgain, AreAnew, AreLosing, IsOrdered, IsTake, MayAgain, is_anew, is_losing, next_place}
+use Rattle.caller_laws.specs.OneStep.Runs.{AreSpelled, IsOneStep, IsRun, MountStep, whole}
 use Rattle.caller_laws.specs.View.{Above, caller_of}
 use Rattle.client_copies.specs.Table.{Copies}
+use Rattle.client_laws.proofs.Changed.{all_behind, all_wider}
+use Rattle.client_laws.proofs.MountMoves.{outs_of, slot_purpose, takes_of}
+use Rattle.client_laws.proofs.TakenFrom.{taken_owner}
+use Rattle.client_laws.specs.CallerLaws.{AllAsk, AsksIn, IsMountRun, acts_in, purpose_after, purpose_for, ready_in, taken_by, taken_in}
 use Rattle.mount.specs.State.{Mounted}
 use Rattle.mount.specs.Taking.{Means}
 use Rattle.mount.specs.declared.machine.SendAt.{SendAt}
@@ -22,12 +28,6 @@ use Rattle.wire_model.specs.Wire.{Acts, Call, Caller, Purpose, Sent, What}
 use Rattle.wire_spelling.specs.Calls.{xid_in}
 use Rattle.wire_spelling.specs.Replies.{is_reply}
 use Rattle.wire_spelling.specs.Spelling.{spelling}
-use Rattle.mount_runs.specs.Order.{AreAgain, AreAnew, AreLosing, IsOrdered, IsTake, MayAgain, is_anew, is_losing, next_place}
-use Rattle.mount_runs.specs.Runs.{AreSpelled, IsOneStep, IsRun, MountStep, whole}
-use Rattle.client_laws.proofs.Changed.{all_behind, all_wider}
-use Rattle.client_laws.proofs.MountMoves.{outs_of, slot_purpose, takes_of}
-use Rattle.client_laws.proofs.TakenFrom.{taken_owner}
-use Rattle.client_laws.specs.CallerLaws.{AllAsk, AsksIn, IsMountRun, acts_in, purpose_after, purpose_for, ready_in, taken_by, taken_in}
 
 -- ---- what is ready in the end
 

@@ -2,14 +2,23 @@
 use Rattle.std.proofs.Common.{◌≡◌, ◌∙◌, ◌⊎◌, inl, inr, ℕ, ◌<◌, ◌≤◌, Bool, true, false, List, [], ◌∷◌, Option, Some, None, refl, sym, ap, subst, arith}
 use Rattle.std.specs.Prelude.{Contains, ◌||◌}
 use Rattle.caller_laws.specs.Good.{Identity, IsGood}
+use Rattle.caller_laws.specs.OneStep.Runs.{whole}
 use Rattle.caller_laws.specs.View.{caller_of}
 use Rattle.client_core.specs.Endings.{Ways}
 use Rattle.client_core.specs.State.{ClientState}
 use Rattle.client_core.specs.Telling.{mount_at}
+use Rattle.client_laws.proofs.MountMoves.{takes_of}
+use Rattle.client_laws.proofs.Numbered.{AreNumbered, IsSeen, called, calls_seen, counted_in, numbered_from, numbered_once, out_of_all, run_numbers, run_sealed, seen_in, xids}
+use Rattle.client_laws.proofs.WholeRuns.{IsOneRun, Knows, one_run, outs_whole, taken_whole, whole_owner}
+use Rattle.client_laws.specs.CallerLaws.{above_at, acts_in, calls_to, goes_to, is_call, taken_by, taken_in}
+use Rattle.client_laws.specs.MountTurns.{HearsAt, HearsElsewhere, IsOut, TakesBytes}
+use Rattle.client_laws.specs.Order.{count_behind, numbers_to}
+use Rattle.client_laws.specs.Turns.{Hears, Turn}
+use Rattle.client_laws.specs.WholeTurns.{IsLawfulTurn, IsSettled, IsSpelledAtBoth, IsTurnAtBoth, Purposes, acts_of, sent_of, took_in}
 use Rattle.client_site.specs.Sites.{end_of}
+use Rattle.gss_mech.specs.Tokens.{IsSized}
 use Rattle.nfs_base.specs.declared.seal.End.{End}
 use Rattle.nfs_base.specs.declared.seal.End.TheVariants as ends
-use Rattle.gss_mech.specs.Tokens.{IsSized}
 use Rattle.nfs_base.specs.declared.seal.Seal.{Seal}
 use Rattle.nfs_base.specs.declared.side.Side.{Side}
 use Rattle.nfs_base.specs.declared.side.Side.TheVariants.{Source, Dest}
@@ -17,20 +26,11 @@ use Rattle.outbox.specs.declared.outgoing.Outbox.{Outbox}
 use Rattle.outbox.specs.declared.outgoing.Outgoing.{Outgoing}
 use Rattle.wire_model.specs.CallerLaws.{CallerLaws, IsSent, LearnsChild, LearnsRoot, Takes}
 use Rattle.wire_model.specs.Spelling.{Context}
-use Rattle.wire_model.specs.Wire.{Acts, Awaited, Caller, Sent, What}
 use Rattle.wire_model.specs.Wire as wire
-use Rattle.wire_spelling.specs.Replies.{is_reply}
+use Rattle.wire_model.specs.Wire.{Acts, Awaited, Caller, Sent, What}
 use Rattle.wire_spelling.specs.Calls.{xid_in}
+use Rattle.wire_spelling.specs.Replies.{is_reply}
 use Rattle.wire_spelling.specs.Spelling.{spelling}
-use Rattle.client_laws.proofs.MountMoves.{takes_of}
-use Rattle.client_laws.proofs.Numbered.{AreNumbered, IsSeen, called, calls_seen, counted_in, numbered_from, numbered_once, out_of_all, run_numbers, run_sealed, seen_in, xids}
-use Rattle.client_laws.proofs.WholeRuns.{IsOneRun, Knows, one_run, outs_whole, taken_whole, whole_owner}
-use Rattle.mount_runs.specs.Runs.{whole}
-use Rattle.client_laws.specs.CallerLaws.{above_at, acts_in, calls_to, goes_to, is_call, taken_by, taken_in}
-use Rattle.client_laws.specs.MountTurns.{HearsAt, HearsElsewhere, IsOut, TakesBytes}
-use Rattle.client_laws.specs.Order.{count_behind, numbers_to}
-use Rattle.client_laws.specs.Turns.{Hears, Turn}
-use Rattle.client_laws.specs.WholeTurns.{IsLawfulTurn, IsSettled, IsSpelledAtBoth, IsTurnAtBoth, Purposes, acts_of, sent_of, took_in}
 
 one_end : (a b : Side) → end_of a ≡ end_of b → a ≡ b
 one_end Source Source e = refl

@@ -4,11 +4,12 @@ use Rattle.std.specs.List.{AllByRecursion, flat_map}
 use Rattle.caller_laws.specs.Good.{Identity, IsOwnToken}
 use Rattle.caller_laws.specs.Lawful.{GoesOn, May, Obeys}
 use Rattle.caller_laws.specs.Moves.{InSlot, Move, Sends, done}
+use Rattle.caller_laws.specs.OneStep.Runs.{IsSpelled, MountStep}
 use Rattle.caller_laws.specs.View.{Above}
 use Rattle.client_copies.specs.Copies.{is_stable}
 use Rattle.client_copies.specs.Table.{Copies, copy_at}
-use Rattle.client_copies.specs.Words.{Phase, phase_of}
 use Rattle.client_copies.specs.Words as phases
+use Rattle.client_copies.specs.Words.{Phase, phase_of}
 use Rattle.client_copies.specs.declared.copy.ClientCopy.{ClientCopy}
 use Rattle.client_copies.specs.declared.copy.First.{First}
 use Rattle.client_copies.specs.declared.copy.Query.{Query}
@@ -30,8 +31,8 @@ use Rattle.nfs_base.specs.declared.state_id.StateId.{StateId}
 use Rattle.outbox.specs.declared.label.Label.{Label}
 use Rattle.outbox.specs.declared.label.Label.TheVariants as labels
 use Rattle.outbox.specs.declared.outgoing.Outgoing.{Outgoing}
-use Rattle.outbox.specs.declared.outgoing.To.{To}
 use Rattle.outbox.specs.declared.outgoing.To.TheVariants as receivers
+use Rattle.outbox.specs.declared.outgoing.To.{To}
 use Rattle.session_calls.specs.declared.slot_call.CopyRange.{CopyRange}
 use Rattle.session_calls.specs.declared.slot_call.FileCall.TheVariants as asks
 use Rattle.session_calls.specs.declared.slot_call.SlotCall.{SlotCall}
@@ -40,7 +41,6 @@ use Rattle.session_client.specs.declared.asked.Asked.{Asked}
 use Rattle.streams.specs.declared.draws.Drawn.{Drawn}
 use Rattle.streams.specs.declared.draws.Drawn.TheVariants.{Got}
 use Rattle.wire_model.specs.Wire.{Acts, ForCopy, ForFirst, ForLast, ForOther, ForStatus, Purpose, Sent}
-use Rattle.mount_runs.specs.Runs.{IsSpelled, MountStep}
 
 -- ---- what the client adds to a mount
 

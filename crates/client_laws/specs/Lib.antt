@@ -1,13 +1,15 @@
 pub mod Answered
+pub mod Bounds
 pub mod CallerLaws
 pub mod Causes
 pub mod Changes
 pub mod Fits
 pub mod Lives
-pub mod Sound
-pub mod SoundLaws
 pub mod MountTurns
 pub mod Order
+pub mod Sound
+pub mod SoundLaws
+pub mod Speaking
 pub mod TableLaws
 pub mod Telling
 pub mod TurnLaws

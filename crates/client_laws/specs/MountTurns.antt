@@ -2,9 +2,14 @@
 use Rattle.std.specs.Prelude.{ℕ, ◌≡◌, ◌⊎◌, ◌||◌, true, false, List, [], ◌∷◌, Option, Some}
 use Rattle.std.specs.List.{AllByRecursion, flat_map}
 use Rattle.caller_laws.specs.Good.{Identity}
+use Rattle.caller_laws.specs.OneStep.Order.{IsOrdered}
+use Rattle.caller_laws.specs.OneStep.Runs.{MountStep}
 use Rattle.client_core.specs.Endings.{Ways}
 use Rattle.client_core.specs.State.{ClientState}
 use Rattle.client_core.specs.Telling.{mount_at}
+use Rattle.client_laws.specs.CallerLaws.{AllAsk, IsMountRun, PurposesFit, above_at, acts_in, calls_to, goes_to, is_call, taken_in}
+use Rattle.client_laws.specs.Order.{NoneBeginsAnew, count_behind, numbers_in, numbers_to}
+use Rattle.client_laws.specs.Turns.{Hears, Turn}
 use Rattle.gss_ctx.specs.Seals.{Mic}
 use Rattle.gss_mech.specs.Tokens.{IsSized}
 use Rattle.nfs_base.specs.declared.seal.End.{End}
@@ -16,11 +21,6 @@ use Rattle.outbox.specs.declared.outgoing.Outgoing.{Outgoing}
 use Rattle.wire_model.specs.Wire.{Acts, Purpose}
 use Rattle.wire_spelling.specs.Replies.{is_reply}
 use Rattle.wire_xdr.specs.Cursor.{IsBytes}
-use Rattle.mount_runs.specs.Order.{IsOrdered}
-use Rattle.mount_runs.specs.Runs.{MountStep}
-use Rattle.client_laws.specs.CallerLaws.{AllAsk, IsMountRun, PurposesFit, above_at, acts_in, calls_to, goes_to, is_call, taken_in}
-use Rattle.client_laws.specs.Order.{NoneBeginsAnew, count_behind, numbers_in, numbers_to}
-use Rattle.client_laws.specs.Turns.{Hears, Turn}
 
 -- the record of the turn comes from the other server
 pub record HearsElsewhere (side : Side) (turn : Turn) : Type 0 where

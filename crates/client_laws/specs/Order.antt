@@ -2,13 +2,13 @@
 use Rattle.std.specs.Prelude.{ℕ, ◌≡◌, ◌+◌, ◌&&◌, ◌++◌, Bool, true, false, List, [], ◌∷◌, map}
 use Rattle.std.specs.List.{AllByRecursion}
 use Rattle.caller_laws.specs.Moves.{BeginAnew, Move, Sends, done}
+use Rattle.caller_laws.specs.OneStep.Runs.{MountStep}
+use Rattle.client_laws.specs.CallerLaws.{goes_to, is_call}
 use Rattle.mount.specs.State.{Mounted}
 use Rattle.mount.specs.Taking.{Means}
 use Rattle.nfs_base.specs.declared.side.Side.{Side}
 use Rattle.outbox.specs.declared.outgoing.Outgoing.{Outgoing}
 use Rattle.wire_model.specs.Wire.{Sent}
-use Rattle.mount_runs.specs.Runs.{MountStep}
-use Rattle.client_laws.specs.CallerLaws.{goes_to, is_call}
 
 -- A client never begins a mount anew by the token that it has. The first is said of a call, the second of a run.
 abbrev pub begins_anew : Move → Bool

@@ -1,11 +1,15 @@
 -- A turn of the client as both wires see it: all that it took and sent in it, at either server.
 use Rattle.std.specs.Prelude.{ℕ, ◌≡◌, List, map, Option, Some, None}
 use Rattle.caller_laws.specs.Good.{Identity, IsGood}
+use Rattle.caller_laws.specs.OneStep.Runs.{AreSpelled}
 use Rattle.caller_laws.specs.View.{caller_of}
 use Rattle.client_core.specs.Endings.{Ways}
 use Rattle.client_core.specs.State.{ClientState}
 use Rattle.client_core.specs.Telling.{mount_at}
-use Rattle.client_fits.specs.Known.{ClientIsFit}
+use Rattle.client_laws.specs.Bounds.Known.{ClientIsFit}
+use Rattle.client_laws.specs.CallerLaws.{above_at}
+use Rattle.client_laws.specs.MountTurns.{IsMountTurn}
+use Rattle.client_laws.specs.Turns.{Hears, Turn}
 use Rattle.client_site.specs.Sites.{end_of}
 use Rattle.nfs_base.specs.declared.seal.End.TheVariants as ends
 use Rattle.nfs_base.specs.declared.side.Side.{Side}
@@ -14,10 +18,6 @@ use Rattle.outbox.specs.declared.outgoing.Outgoing.{Outgoing}
 use Rattle.wire_model.specs.CallerLaws.{CallerLaws}
 use Rattle.wire_model.specs.Wire.{Acts, Purpose, Sent}
 use Rattle.wire_spelling.specs.Spelling.{spelling}
-use Rattle.mount_runs.specs.Runs.{AreSpelled}
-use Rattle.client_laws.specs.CallerLaws.{above_at}
-use Rattle.client_laws.specs.MountTurns.{IsMountTurn}
-use Rattle.client_laws.specs.Turns.{Hears, Turn}
 
 abbrev pub took_in : Turn → Option (List ℕ)
 took_in (Hears side message now) = Some message

@@ -2,6 +2,9 @@ ghost use Rattle.std.specs.Prelude.{◌≡◌, ℕ, List, Some, false};
 ghost use Rattle.caller_laws.specs.Good.{Identity};
 ghost use Rattle.client_core.specs.Endings.{Ways, desk_at, ways_of};
 ghost use Rattle.client_core.specs.State.{ClientState};
+ghost use Rattle.client_laws.specs.Answered.{IsAnswerTaken};
+ghost use Rattle.client_laws.specs.CallerLaws.{StartsOwn};
+ghost use Rattle.client_laws.specs.Turns.{Hears, IsTurn};
 ghost use Rattle.client_site.specs.declared.taking.Found.{Found};
 ghost use Rattle.client_steps.specs.Replies.{taken};
 ghost use Rattle.mount.specs.declared.taking.Told.TheVariants as told;
@@ -10,12 +13,9 @@ ghost use Rattle.nfs_compound.specs.declared.reply.Reply.{Reply};
 ghost use Rattle.outbox.specs.declared.outgoing.Outbox.{Outbox};
 ghost use Rattle.wire_model.specs.Wire.{Purpose};
 ghost use Rattle.wire_xdr.specs.Cursor.{IsBytes};
-ghost use Rattle.client_laws.specs.Answered.{IsAnswerTaken};
-ghost use Rattle.client_laws.specs.CallerLaws.{StartsOwn};
-ghost use Rattle.client_laws.specs.Turns.{Hears, IsTurn};
 
-use answer_laws::{answers_are_awaited, replies_are_judged};
-use mount_runs::sends_are_counted;
+use caller_laws::answers::{answers_are_awaited, replies_are_judged};
+use caller_laws::one_step::sends_are_counted;
 use streams::Draws;
 
 /// Where a record tells a client an answer, the wire of its server sees that it takes the reply to the call that its mount awaited

@@ -1,10 +1,14 @@
 ghost use Rattle.std.specs.Prelude.{◌≡◌, ◌<◌, ℕ, List, Option, Some};
 ghost use Rattle.caller_laws.specs.Good.{Identity, IsGood};
+ghost use Rattle.caller_laws.specs.OneStep.Runs.{AreSpelled, MountStep};
 ghost use Rattle.caller_laws.specs.Tokens.{known_by};
 ghost use Rattle.caller_laws.specs.View.{Above, caller_of};
 ghost use Rattle.client_core.specs.Endings.{Ways};
 ghost use Rattle.client_core.specs.State.{ClientState, new_client};
 ghost use Rattle.client_core.specs.Telling.{mount_at};
+ghost use Rattle.client_laws.specs.CallerLaws.{AllObey, IsMountRun, PurposesFit, StartsOwn, above_at};
+ghost use Rattle.client_laws.specs.MountTurns.{IsMountTurn};
+ghost use Rattle.client_laws.specs.Turns.{IsTurn, MayTurn, Turn};
 ghost use Rattle.client_steps.specs.declared.setting.Setting.{Setting};
 ghost use Rattle.gss_mech.specs.Tokens.{IsNonce};
 ghost use Rattle.mount.specs.State.{Mounted};
@@ -14,14 +18,10 @@ ghost use Rattle.outbox.specs.declared.outgoing.Outbox.{Outbox};
 ghost use Rattle.streams.specs.declared.draws.Drawn.TheVariants.{Got};
 ghost use Rattle.wire_model.specs.CallerLaws.{CallerStart};
 ghost use Rattle.wire_model.specs.Wire.{Purpose};
-ghost use Rattle.mount_runs.specs.Runs.{AreSpelled, MountStep};
-ghost use Rattle.client_laws.specs.CallerLaws.{AllObey, IsMountRun, PurposesFit, StartsOwn, above_at};
-ghost use Rattle.client_laws.specs.MountTurns.{IsMountTurn};
-ghost use Rattle.client_laws.specs.Turns.{IsTurn, MayTurn, Turn};
 
+use caller_laws::one_step::sends_are_counted;
 use caller_laws::{mounts_begin_lawful, steps_are_lawful, tokens_are_their_senders};
 use gss_mech::Mechanism;
-use mount_runs::sends_are_counted;
 use streams::Draws;
 
 /// What a client does at the source in a step, and at the destination, is a run of its mount's steps there, each of which it may

@@ -2,18 +2,18 @@ ghost use Rattle.std.specs.Prelude.{◌<◌, ℕ};
 ghost use Rattle.caller_laws.specs.Good.{Identity};
 ghost use Rattle.client_core.specs.Endings.{Ways, ways_of};
 ghost use Rattle.client_core.specs.State.{ClientState};
-ghost use Rattle.client_fits.specs.Known.{ClientIsFit};
-ghost use Rattle.client_fits.specs.Ways.{WaysAreFit};
-ghost use Rattle.client_steps.specs.declared.setting.Setting.{Setting};
-ghost use Rattle.outbox.specs.declared.outgoing.Outbox.{Outbox};
+ghost use Rattle.client_laws.specs.Bounds.Known.{ClientIsFit};
+ghost use Rattle.client_laws.specs.Bounds.Ways.{WaysAreFit};
 ghost use Rattle.client_laws.specs.CallerLaws.{StartsOwn};
 ghost use Rattle.client_laws.specs.Fits.{TurnIsFit};
 ghost use Rattle.client_laws.specs.Turns.{IsTurn, MayTurn, Turn};
 ghost use Rattle.client_laws.specs.WholeTurns.{IsGoodTurn, IsSettled, IsSpelledTurn, Purposes};
+ghost use Rattle.client_steps.specs.declared.setting.Setting.{Setting};
+ghost use Rattle.outbox.specs.declared.outgoing.Outbox.{Outbox};
 
 use crate::whole::{clients_stay_settled, turns_are_lawful};
+use caller_laws::one_step::sends_are_counted;
 use gss_mech::Mechanism;
-use mount_runs::sends_are_counted;
 use streams::Draws;
 
 /// From a client that is fit, what a turn asks can be spelled at both servers, where what it is told to do is within bounds and what

@@ -9,11 +9,13 @@
 #![tactic(auto)]
 
 mod answered;
+pub mod bounds;
 mod callers;
 mod counting;
 mod fits;
 mod keeping;
 mod order;
+pub mod speaking;
 mod whole;
 mod word;
 

@@ -2,16 +2,16 @@ ghost use Rattle.std.specs.Prelude.{◌≡◌, ℕ, List};
 ghost use Rattle.caller_laws.specs.Good.{Identity};
 ghost use Rattle.client_core.specs.Endings.{Ways, ways_of};
 ghost use Rattle.client_core.specs.State.{ClientState, new_client};
-ghost use Rattle.client_steps.specs.declared.setting.Setting.{Setting};
-ghost use Rattle.nfs_base.specs.declared.side.Side.{Side};
-ghost use Rattle.outbox.specs.declared.outgoing.Outbox.{Outbox};
 ghost use Rattle.client_laws.specs.MountTurns.{TakesBytes};
 ghost use Rattle.client_laws.specs.Turns.{IsTurn, Turn};
 ghost use Rattle.client_laws.specs.WholeTurns.{IsLawfulTurn, IsSettled, IsSpelledAtBoth, IsTurnAtBoth, Purposes};
+ghost use Rattle.client_steps.specs.declared.setting.Setting.{Setting};
+ghost use Rattle.nfs_base.specs.declared.side.Side.{Side};
+ghost use Rattle.outbox.specs.declared.outgoing.Outbox.{Outbox};
 
+use caller_laws::one_step::{calls_have_their_xids, runs_are_lawful, servers_stay};
 use caller_laws::{mounts_begin_lawful, steps_are_lawful};
 use gss_mech::{Mechanism, tokens_agree};
-use mount_runs::{calls_have_their_xids, runs_are_lawful, servers_stay};
 use streams::Draws;
 
 /// In each turn the client owes each of its servers what every caller owes, in all that it took and sent: the calls to the other

@@ -1,2 +1,10 @@
+pub mod Calls
+pub mod Copies
 pub mod Deeds
 pub mod Going
+pub mod Histories
+pub mod Landings
+pub mod Names
+pub mod Own
+pub mod Sound
+pub mod View

@@ -7,36 +7,12 @@ use Rattle.std.specs.List.{list_any}
 use Rattle.std.specs.Option.{option_map_or}
 use Rattle.copy_model.specs.Volume.{Volume, file_at}
 use Rattle.large_copy.specs.Large.{blocks_of, is_crash, large_events, large_schedule}
-use Rattle.large_run.specs.Alike as found
-use Rattle.large_run.specs.Large.{RunsLarge}
-use Rattle.large_run.specs.declared.large.Large.{Large}
 use Rattle.nfs_base.specs.declared.side.Side.{Side}
 use Rattle.nfs_base.specs.declared.side.Side.TheVariants.{Source, Dest}
-use Rattle.outcome.specs.Causes.{Rose, RoseBy}
-use Rattle.wire_machine.specs.Check.{Reading}
-use Rattle.wire_machine.specs.Runs.{numbered}
-use Rattle.wire_machine.specs.declared.choice.Choice.{Choice}
-use Rattle.wire_machine.specs.declared.mistake.Mistake.{Mistake}
-use Rattle.wire_run.specs.Run.{Did, RanHasCause, RanIs, asks_for, is_stop, stops_in, stops_server, volume_in}
-use Rattle.wire_run.specs.Running.{HasDisks, Later, Running, disk_of, faults_in}
-use Rattle.run_ends.specs.Ends.{RunMachines}
-use Rattle.wire_run.specs.System.{Holds, shown_at}
-use Rattle.wire_run.specs.declared.fresh.Unmade.{Unmade}
-use Rattle.wire_run.specs.declared.fresh.Unmade.TheVariants as unmade
-use Rattle.wire_run.specs.declared.run.Ran.{Ran}
-use Rattle.wire_run.specs.declared.run.Ran.TheVariants as ran
-use Rattle.run_ends.specs.declared.setting.TheConstants.{SOURCE_TAG, DEST_TAG}
-use Rattle.wire_schedule.specs.Expansion.{events_of_all}
-use Rattle.wire_schedule.specs.ScheduleText.{entry}
-use Rattle.wire_schedule.specs.declared.directive.Directive.TheVariants.{Once}
-use Rattle.wire_schedule.specs.declared.directive.Entry.{Entry}
-use Rattle.wire_schedule.specs.declared.event.Event.{Event}
-use Rattle.wire_schedule.specs.declared.event.Event.TheVariants as kinds
-use Rattle.wire_tally.specs.Tally.{no_tally, tallied}
+use Rattle.nfscopy.proofs.Ending.{held, moved, no_did, small_at}
 use Rattle.nfscopy.specs.Ends.{CopyWords, Ends, EndsAs, ServiceWords}
 use Rattle.nfscopy.specs.ExitStatus.{gen_status}
 use Rattle.nfscopy.specs.GenEnds.{Counts, GenCarriesOut, GenEndIs, GenEnds, IsUnread, MayDiffer, Owes, gen_events}
-use Rattle.volume_format.specs.DiskWords.{DiskWords}
 use Rattle.nfscopy.specs.Outside.{DiskRose, Outside, disk_at}
 use Rattle.nfscopy.specs.RunEnds.{Blamed, RunWords, RunsKeep}
 use Rattle.nfscopy.specs.Summing.{IsSummary, IsSummed, Owing, OwedPut, Sums, owing_for}
@@ -47,7 +23,31 @@ use Rattle.nfscopy.specs.declared.ends.GenEnd.TheVariants as ends
 use Rattle.nfscopy.specs.declared.generate.Summed.{Summed}
 use Rattle.nfscopy.specs.declared.generate.Summed.TheVariants as summed
 use Rattle.nfscopy.specs.declared.summary.Summary.{Summary}
-use Rattle.nfscopy.proofs.Ending.{held, moved, no_did, small_at}
+use Rattle.outcome.specs.Causes.{Rose, RoseBy}
+use Rattle.run_ends.specs.Ends.{RunMachines}
+use Rattle.run_ends.specs.declared.setting.TheConstants.{SOURCE_TAG, DEST_TAG}
+use Rattle.volume_format.specs.DiskWords.{DiskWords}
+use Rattle.wire_machine.specs.Check.{Reading}
+use Rattle.wire_machine.specs.Runs.{numbered}
+use Rattle.wire_machine.specs.declared.choice.Choice.{Choice}
+use Rattle.wire_machine.specs.declared.mistake.Mistake.{Mistake}
+use Rattle.wire_run.specs.LargeRuns.Alike as found
+use Rattle.wire_run.specs.LargeRuns.Large.{RunsLarge}
+use Rattle.wire_run.specs.Run.{Did, RanHasCause, RanIs, asks_for, is_stop, stops_in, stops_server, volume_in}
+use Rattle.wire_run.specs.Running.{HasDisks, Later, Running, disk_of, faults_in}
+use Rattle.wire_run.specs.System.{Holds, shown_at}
+use Rattle.wire_run.specs.declared.fresh.Unmade.TheVariants as unmade
+use Rattle.wire_run.specs.declared.fresh.Unmade.{Unmade}
+use Rattle.wire_run.specs.declared.large_runs.large.Large.{Large}
+use Rattle.wire_run.specs.declared.run.Ran.{Ran}
+use Rattle.wire_run.specs.declared.run.Ran.TheVariants as ran
+use Rattle.wire_schedule.specs.Expansion.{events_of_all}
+use Rattle.wire_schedule.specs.ScheduleText.{entry}
+use Rattle.wire_schedule.specs.declared.directive.Directive.TheVariants.{Once}
+use Rattle.wire_schedule.specs.declared.directive.Entry.{Entry}
+use Rattle.wire_schedule.specs.declared.event.Event.{Event}
+use Rattle.wire_schedule.specs.declared.event.Event.TheVariants as kinds
+use Rattle.wire_tally.specs.Tally.{no_tally, tallied}
 
 -- ---- counts of faults
 

@@ -6,11 +6,11 @@ use Rattle.nfscopy.specs.GenEnds.{gen_events}
 use Rattle.nfscopy.specs.Input.{asked, most_bytes, parsed}
 use Rattle.nfscopy.specs.Notice.{too_much_text}
 use Rattle.nfscopy.specs.RunEnds.{KeepsIf, RunWords, RunsKeep}
-use Rattle.run_client.specs.Accepted.{AreAccepted}
+use Rattle.run_ends.specs.Ends.{RunStep, RunWorld}
+use Rattle.run_ends.specs.First.{IsFirst}
+use Rattle.run_promise.specs.Client.Accepted.{AreAccepted}
 use Rattle.run_promise.specs.Promise.{KeepsPromise}
 use Rattle.wire_machine.specs.Runs.{End, Numbered, Runs, events_in, numbered}
-use Rattle.run_ends.specs.First.{IsFirst}
-use Rattle.run_ends.specs.Ends.{RunStep, RunWorld}
 use Rattle.wire_schedule.specs.Admission.{after, at_start}
 use Rattle.wire_schedule.specs.Expansion.{events_of, events_of_all}
 use Rattle.wire_schedule.specs.ScheduleText.{schedule_of}

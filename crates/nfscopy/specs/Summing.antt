@@ -1,17 +1,7 @@
 -- What stands between the run of a large copy and what is put of it. Own definitions.
 use Rattle.std.specs.Prelude.{◌≡◌, ◌⊎◌, ℕ, true, false, Option, None, Some, List, length}
 use Rattle.std.specs.String.{string_bytes}
-use Rattle.large_run.specs.Alike.{AreAlike, LeavesAll, MayDiffer}
-use Rattle.large_run.specs.Large.{RunsLarge}
-use Rattle.large_run.specs.declared.large.Large.{Large}
-use Rattle.wire_machine.specs.Check.{Reading}
-use Rattle.wire_run.specs.Running.{Later, Running}
-use Rattle.run_ends.specs.Ends.{RunMachines}
-use Rattle.wire_run.specs.declared.fresh.Unmade.TheVariants as unmade
-use Rattle.wire_run.specs.declared.run.Ran.TheVariants as ran
-use Rattle.volume_format.specs.Lines.{not_volume_text, small_text}
 use Rattle.nfscopy.specs.Notice.{mistaken_text, too_much_text}
-use Rattle.volume_format.specs.Puts.{AllPut, FrontPut, NonePut}
 use Rattle.nfscopy.specs.Summary.{summary_text}
 use Rattle.nfscopy.specs.declared.ends.GenEnd.{GenEnd}
 use Rattle.nfscopy.specs.declared.ends.GenEnd.TheVariants as ends
@@ -19,6 +9,16 @@ use Rattle.nfscopy.specs.declared.generate.Owed.{Owed}
 use Rattle.nfscopy.specs.declared.generate.Summed.{Summed}
 use Rattle.nfscopy.specs.declared.generate.Summed.TheVariants as summed
 use Rattle.nfscopy.specs.declared.summary.Summary.{Summary}
+use Rattle.run_ends.specs.Ends.{RunMachines}
+use Rattle.volume_format.specs.Lines.{not_volume_text, small_text}
+use Rattle.volume_format.specs.Puts.{AllPut, FrontPut, NonePut}
+use Rattle.wire_machine.specs.Check.{Reading}
+use Rattle.wire_run.specs.LargeRuns.Alike.{AreAlike, LeavesAll, MayDiffer}
+use Rattle.wire_run.specs.LargeRuns.Large.{RunsLarge}
+use Rattle.wire_run.specs.Running.{Later, Running}
+use Rattle.wire_run.specs.declared.fresh.Unmade.TheVariants as unmade
+use Rattle.wire_run.specs.declared.large_runs.large.Large.{Large}
+use Rattle.wire_run.specs.declared.run.Ran.TheVariants as ran
 
 -- ---- the run, summed up
 

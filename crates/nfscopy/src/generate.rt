@@ -1,11 +1,11 @@
 ghost use Rattle.std.specs.Prelude.{◌≡◌, ◌≤◌, ℕ, List, Option, true, is_some, IfOk};
 ghost use Rattle.nfscopy.specs.GenEnds.{gen_events, GenCarriesOut, GenEnds};
 ghost use Rattle.nfscopy.specs.Outside.{outside};
-ghost use Rattle.volume_format.specs.DiskWords.{disk_words};
 ghost use Rattle.nfscopy.specs.RunEnds.{run_words, RunsKeep};
 ghost use Rattle.nfscopy.specs.Summing.{owing_for, OwedPut, Owes, Sums};
-ghost use Rattle.wire_log.specs.Keeping.{reading};
 ghost use Rattle.run_ends.specs.Ends.{run_machines};
+ghost use Rattle.volume_format.specs.DiskWords.{disk_words};
+ghost use Rattle.wire_log.specs.Keeping.{reading};
 ghost use Rattle.wire_run.specs.Running.{at_rest, mech_of, HasDisks};
 
 use crate::ends::GenEnd;
@@ -17,14 +17,14 @@ use large_copy::{
     LargeCopy, large_copies_have_files, large_schedules_have_texts, large_schedules_name_disks,
     large_schedules_stop_nobody,
 };
-use large_run::{Large, files_are_alike, run_large};
 use outcome::{Mem, NoMemory};
-use run_client::schedules_are_accepted;
+use run_promise::client::schedules_are_accepted;
 use run_promise::runs_keep_the_promise;
 use std::alloc::Global;
 use streams::{Sink, put_all};
 use volume_format::{not_volume_line, small_line};
 use wire_machine::Mistake;
+use wire_run::large_runs::{Large, files_are_alike, run_large};
 use wire_run::{Disks, Ran, System, Unmade};
 
 /// What a large copy came to.

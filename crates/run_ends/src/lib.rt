@@ -6,7 +6,9 @@
 //! the lines and the histories of such machines are those of `wire_machine`.
 #![tactic(auto)]
 
+pub mod mechanisms;
 mod setting;
+pub mod stops;
 
 pub use setting::{
     DEST_TAG, SOURCE_TAG, dest_name, dest_place, dest_source, source_peers, source_place, user,

@@ -4,9 +4,9 @@ use Rattle.std.specs.Prelude.{IfSome, nat_le, ◌&&◌}
 use Rattle.std.proofs.lemmas.Bool.{and_parts, leb-true}
 use Rattle.nfs_base.specs.declared.side.Side.{Side}
 use Rattle.nfs_base.specs.declared.side.Side.TheVariants.{Dest, Source}
-use Rattle.run_client.specs.Accepted.{AreAccepted}
-use Rattle.wire_machine.specs.Runs.{Numbered}
 use Rattle.run_ends.specs.First.{Shape, shape_by, shape_of, shape_or}
+use Rattle.run_promise.specs.Client.Accepted.{AreAccepted}
+use Rattle.wire_machine.specs.Runs.{Numbered}
 use Rattle.wire_schedule.specs.Admission.{after, is_in_order, is_within}
 use Rattle.wire_schedule.specs.declared.context.Context.{Context}
 use Rattle.wire_schedule.specs.declared.event.Event.{Event}

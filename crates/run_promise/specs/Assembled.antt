@@ -3,8 +3,8 @@ use Rattle.std.specs.Prelude.{◌≡◌, ℕ, suc, refl}
 use Rattle.nfs_base.specs.declared.seal.End.{End}
 use Rattle.nfs_base.specs.declared.seal.End.TheVariants.{Client, Dest, Source}
 use Rattle.nfs_base.specs.declared.side.Side.{Side}
-use Rattle.run_dest.specs.Kept.{IsLawfulCaller}
-use Rattle.run_servers.specs.Lawful.{IsLawfulDest, IsLawfulSource, IsSilentCaller}
+use Rattle.run_promise.specs.Dest.Kept.{IsLawfulCaller}
+use Rattle.run_promise.specs.Serving.Lawful.{IsLawfulDest, IsLawfulSource, IsSilentCaller}
 use Rattle.wire_model.specs.CallerLaws.{CallerLaws, CallerStart}
 use Rattle.wire_model.specs.Check.{IsUnmistaken}
 use Rattle.wire_model.specs.CopyLaws.{CopiesLaws, CopiesStart, VolumeLaws}

@@ -1,4 +1,10 @@
 pub mod Accepted
 pub mod Assembled
+pub mod Client
+pub mod Dest
+pub mod Opening
+pub mod Owing
 pub mod Promise
+pub mod Serving
 pub mod Setting
+pub mod System

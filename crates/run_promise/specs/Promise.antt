@@ -10,10 +10,12 @@ use Rattle.nfs_base.specs.declared.seal.End.{End}
 use Rattle.nfs_base.specs.declared.seal.End.TheVariants.{Client, Dest}
 use Rattle.outbox.specs.declared.note.Note.{Note}
 use Rattle.outbox.specs.declared.note.Note.TheVariants as notes
-use Rattle.run_system.specs.System.{system_of, telling}
-use Rattle.run_client.specs.Lines.{told_in_lines}
-use Rattle.run_client.specs.Told.{notes_along, notes_at, tells_exact}
-use Rattle.run_client.specs.View.{client_view}
+use Rattle.run_ends.specs.Ends.{RunStep, RunWorld, Words, machines}
+use Rattle.run_ends.specs.Setting.{dest_name, user}
+use Rattle.run_promise.specs.Client.Lines.{told_in_lines}
+use Rattle.run_promise.specs.Client.Told.{notes_along, notes_at, tells_exact}
+use Rattle.run_promise.specs.Client.View.{client_view}
+use Rattle.run_promise.specs.System.System.{system_of, telling}
 use Rattle.session_server.specs.Host.{Codes}
 use Rattle.wire_machine.specs.History.{history}
 use Rattle.wire_machine.specs.Lines.{lines_of}
@@ -21,8 +23,6 @@ use Rattle.wire_meaning.specs.Meaning.{meaning}
 use Rattle.wire_model.specs.Spelling.{Spelling}
 use Rattle.wire_model.specs.System.{System}
 use Rattle.wire_model.specs.WordKept.{IsWordKept}
-use Rattle.run_ends.specs.Ends.{RunStep, RunWorld, Words, machines}
-use Rattle.run_ends.specs.Setting.{dest_name, user}
 use Rattle.wire_spelling.specs.Spelling.{spelling}
 
 -- the end that a principal is

@@ -2,20 +2,20 @@
 use Rattle.std.proofs.Common.{◌≡◌, ℕ, ◌≤◌, List, Option, Some, None, length, refl, sym, subst, ◌∙◌, arith}
 use Rattle.std.specs.Prelude.{IfSome, codes, replicate}
 use Rattle.std.proofs.lemmas.List.{length-replicate}
+use Rattle.caller_laws.specs.Fitting.Bounds.{FixedFits, NetLocFits, TextFits}
+use Rattle.caller_laws.specs.Fitting.BytesLaws.{all_below, below_are}
 use Rattle.caller_laws.specs.Good.{IsOwnToken}
-use Rattle.client_fits.specs.Known.{SettingIsFit}
+use Rattle.client_laws.specs.Bounds.Known.{SettingIsFit}
 use Rattle.client_steps.specs.declared.setting.Setting.{Setting}
 use Rattle.gss_mech.specs.Tokens.{IsNonce}
-use Rattle.mount_fits.specs.Bounds.{FixedFits, NetLocFits, TextFits}
-use Rattle.mount_fits.specs.BytesLaws.{all_below, below_are}
 use Rattle.nfs_base.specs.declared.seal.End.TheVariants.{Client, Dest}
+use Rattle.run_ends.specs.Ends.{count_gives}
+use Rattle.run_ends.specs.Setting.{dest_name, dest_place, source_place, user}
+use Rattle.run_promise.specs.Promise.{any_nonce, whose}
 use Rattle.streams.specs.Draws.{counted_draw}
 use Rattle.streams.specs.declared.draws.Drawn.{Drawn}
 use Rattle.streams.specs.declared.draws.Drawn.TheVariants.{Got}
-use Rattle.run_ends.specs.Ends.{count_gives}
-use Rattle.run_ends.specs.Setting.{dest_name, dest_place, source_place, user}
 use Rattle.wire_xdr.specs.Cursor.{IsBytes}
-use Rattle.run_promise.specs.Promise.{any_nonce, whose}
 
 pub client_is : whose user ≡ Some Client
 client_is = refl

@@ -1,24 +1,24 @@
 ghost use Rattle.std.specs.Prelude.{List};
-ghost use Rattle.run_client.specs.Accepted.{AreAccepted};
+ghost use Rattle.run_ends.specs.Ends.{RunStep, RunWorld, count_gives, run_machines, words_of};
+ghost use Rattle.run_ends.specs.First.{IsFirst};
+ghost use Rattle.run_promise.specs.Client.Accepted.{AreAccepted};
 ghost use Rattle.run_promise.specs.Promise.{KeepsPromise, run_spelling};
 ghost use Rattle.wire_log.specs.Keeping.{reading};
 ghost use Rattle.wire_machine.specs.Runs.{End, Numbered, Runs};
 ghost use Rattle.wire_meaning.specs.Meaning.{meaning};
-ghost use Rattle.run_ends.specs.Ends.{RunStep, RunWorld, count_gives, run_machines, words_of};
-ghost use Rattle.run_ends.specs.First.{IsFirst};
 ghost use Rattle.wire_schedule.specs.Admission.{at_start};
 
-use caller_laws::tokens_are_their_senders;
-use client_fits::clients_have_fit_ways;
-use gss_mech::{Mechanism, tokens_agree};
-use mount_fits::counted_draws_are_nonces;
-use run_client::{
+use crate::client::{
     clients_are_lawful, clients_go_by_turns, clients_may_go, lines_say_stable_once,
     lines_tell_what_is_told, runs_keep_the_word, what_is_told_is_the_word, wires_are_unmistaken,
 };
-use run_servers::{destinations_are_lawful_servers, sources_are_lawful, sources_call_nobody};
-use run_system::systems_show_histories;
-use run_whole::runs_owe_all;
+use crate::owing::runs_owe_all;
+use crate::serving::{destinations_are_lawful_servers, sources_are_lawful, sources_call_nobody};
+use crate::system::systems_show_histories;
+use caller_laws::fitting::counted_draws_are_nonces;
+use caller_laws::tokens_are_their_senders;
+use client_laws::bounds::clients_have_fit_ways;
+use gss_mech::{Mechanism, tokens_agree};
 use streams::CountDraws;
 use wire_model::lawful_systems;
 

@@ -5,6 +5,12 @@
 //! obey the laws of a system, each by the crate that is named after it.
 #![tactic(auto)]
 
+pub mod client;
+pub mod dest;
 mod laws;
+pub mod opening;
+pub mod owing;
+pub mod serving;
+pub mod system;
 
 pub use laws::runs_keep_the_promise;

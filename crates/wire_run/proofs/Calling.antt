@@ -6,7 +6,7 @@ use Rattle.disk_model.specs.Elapsed.{Timeline}
 use Rattle.disk_model.specs.Passes.{passes_none}
 use Rattle.disk_model.specs.declared.fuse.Fuse.{Fuse}
 use Rattle.outbox.specs.declared.outgoing.Outbox.{Outbox}
-use Rattle.server_stops.specs.Reopening.{MadeCalls}
+use Rattle.run_ends.specs.Stops.Reopening.{MadeCalls}
 use Rattle.server_volume.specs.Moments.{Counted, LeftBy, Ran}
 use Rattle.server_volume.specs.Store.{Seat, seat_of}
 use Rattle.server_volume.specs.declared.used.Used.{Used}

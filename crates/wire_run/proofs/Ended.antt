@@ -4,16 +4,16 @@ use Rattle.std.specs.Prelude.{IfOk, is_some}
 use Rattle.std.proofs.lemmas.List.{append-nil}
 use Rattle.block_file.specs.Opened.{Opened}
 use Rattle.client_core.specs.State.{ClientState}
-use Rattle.disk_model.specs.declared.fuse.Fuse.{Fuse}
 use Rattle.disk_model.specs.Elapsed.{Timeline}
-use Rattle.mech_laws.specs.Mechanisms.{KeepMechanisms}
+use Rattle.disk_model.specs.declared.fuse.Fuse.{Fuse}
 use Rattle.nfs_base.specs.declared.seal.End.TheVariants as ends
 use Rattle.nfs_base.specs.declared.side.Side.{Side}
 use Rattle.nfs_base.specs.declared.side.Side.TheVariants.{Source, Dest}
 use Rattle.outbox.specs.declared.outgoing.Outbox.{Outbox}
 use Rattle.run_ends.specs.Ends.{RunWorld, Words, machines}
+use Rattle.run_ends.specs.Mechanisms.Mechanisms.{KeepMechanisms}
 use Rattle.run_ends.specs.Opening.{IsDestAnew, IsNewDest, IsNewSource, IsSourceAnew, silenced}
-use Rattle.server_stops.specs.Reopening.{IsReopened, IsUnopened, MadeCalls}
+use Rattle.run_ends.specs.Stops.Reopening.{IsReopened, IsUnopened, MadeCalls}
 use Rattle.server_volume.specs.Store.{store_of}
 use Rattle.server_volume.specs.declared.used.Used.{Used}
 use Rattle.session_server.specs.Host.{host_of}
@@ -33,6 +33,11 @@ use Rattle.wire_machine.specs.World.{Parts, Posted, bytes_of, with_parts}
 use Rattle.wire_machine.specs.declared.choice.Choice.{Choice}
 use Rattle.wire_machine.specs.declared.choice.Choice.TheVariants.{Stopped}
 use Rattle.wire_machine.specs.declared.mistake.Mistake.{Mistake}
+use Rattle.wire_run.proofs.Comings.{by_dest, by_source, dest_acted, fault_same, later_less, later_none, one_more, same_world, size_right, source_acted, world}
+use Rattle.wire_run.proofs.Lone.{dest_mistake, source_mistake}
+use Rattle.wire_run.proofs.Losing.{few_boots, lost_in, lost_later, lost_why}
+use Rattle.wire_run.proofs.Outcomes.{DestAnew, SourceAnew, dest_anew, dest_made, dest_there, dest_watched_in, source_anew, source_made, source_there, source_watched_in}
+use Rattle.wire_run.proofs.Stops.{cut, later_anew}
 use Rattle.wire_run.specs.Cutting.{ComesOrCuts, DestCalls, DiskLost, EndsIn, GoesOn, IsCutDone, IsDueAt, IsLostIn, IsStopMistaken, IsStopTold, LostAt, ServerEnds, SourceCalls, StopEnds, Stopping, dest_kept, disk_at, disk_left, source_kept, without_end}
 use Rattle.wire_run.specs.Fresh.{unopened}
 use Rattle.wire_run.specs.Running.{Later, LostFor}
@@ -48,11 +53,6 @@ use Rattle.wire_run.specs.declared.stage.Fault.{Fault}
 use Rattle.wire_run.specs.declared.stage.Lost.{Lost}
 use Rattle.wire_run.specs.declared.stage.Stage.{Stage}
 use Rattle.wire_run.specs.declared.stage.Stops.{Stops}
-use Rattle.wire_run.proofs.Comings.{by_dest, by_source, dest_acted, fault_same, later_less, later_none, one_more, same_world, size_right, source_acted, world}
-use Rattle.wire_run.proofs.Lone.{dest_mistake, source_mistake}
-use Rattle.wire_run.proofs.Losing.{few_boots, lost_in, lost_later, lost_why}
-use Rattle.wire_run.proofs.Outcomes.{DestAnew, SourceAnew, dest_anew, dest_made, dest_there, dest_watched_in, source_anew, source_made, source_there, source_watched_in}
-use Rattle.wire_run.proofs.Stops.{cut, later_anew}
 
 -- ---- the source
 

@@ -1,13 +1,15 @@
 -- A server that stopped is lost: its disk can't be opened anew.
 use Rattle.std.proofs.Common.{◌≡◌, ℕ, ◌+◌, ◌-◌, ◌<◌, ◌≤◌, ◌^◌, Bool, true, false, List, Option, Some, None, refl, sym, ap, subst, ◌∙◌, arith}
 use Rattle.block_file.specs.Opened.{Opened}
-use Rattle.disk_model.specs.declared.fuse.Fuse.{Fuse}
 use Rattle.disk_model.specs.Elapsed.{Timeline}
+use Rattle.disk_model.specs.declared.fuse.Fuse.{Fuse}
 use Rattle.nfs_base.specs.declared.side.Side.{Side}
 use Rattle.nfs_base.specs.declared.side.Side.TheVariants.{Source, Dest}
-use Rattle.server_stops.specs.Reopening.{IsUnopened, MadeCalls}
+use Rattle.run_ends.specs.Stops.Reopening.{IsUnopened, MadeCalls}
 use Rattle.server_volume.specs.declared.used.Used.{Used}
 use Rattle.wire_machine.specs.Steps.{same_side}
+use Rattle.wire_run.proofs.Later.{later_same}
+use Rattle.wire_run.proofs.Stops.{later_lost, lost_for}
 use Rattle.wire_run.specs.Cutting.{DiskLost, IsLostIn, LostAt, disk_at, disk_left}
 use Rattle.wire_run.specs.Fresh.{unopened}
 use Rattle.wire_run.specs.Running.{Later, LostFor}
@@ -17,8 +19,6 @@ use Rattle.wire_run.specs.declared.fresh.Unmade.{Unmade}
 use Rattle.wire_run.specs.declared.stage.Lost.{Lost}
 use Rattle.wire_run.specs.declared.stage.Stage.{Stage}
 use Rattle.wire_run.specs.declared.stage.Stop.{Stop}
-use Rattle.wire_run.proofs.Later.{later_same}
-use Rattle.wire_run.proofs.Stops.{later_lost, lost_for}
 
 same_disk : {D : Type 0} (d e : D) → Some d ≡ Some e → d ≡ e
 same_disk d e is = cc

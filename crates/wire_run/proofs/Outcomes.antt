@@ -4,17 +4,19 @@ use Rattle.std.specs.Prelude.{is_some}
 use Rattle.block_file.specs.Opened.{Opened}
 use Rattle.client_core.specs.State.{ClientState}
 use Rattle.client_core.specs.Telling.{copy_of}
-use Rattle.disk_model.specs.declared.fuse.Fuse.{Fuse}
 use Rattle.disk_model.specs.Elapsed.{IsOut, Timeline}
+use Rattle.disk_model.specs.declared.fuse.Fuse.{Fuse}
 use Rattle.nfs_base.specs.declared.side.Side.{Side}
 use Rattle.nfs_base.specs.declared.side.Side.TheVariants.{Source, Dest}
 use Rattle.run_ends.specs.Opening.{IsNewDest, IsNewSource}
-use Rattle.server_stops.specs.Reopening.{IsReopened, MadeCalls, MayReopen}
+use Rattle.run_ends.specs.Stops.Reopening.{IsReopened, MadeCalls, MayReopen}
 use Rattle.server_volume.specs.declared.used.Used.{Used}
 use Rattle.session_server.specs.Host.{host_of}
 use Rattle.wire_machine.specs.Runs.{most_bytes}
 use Rattle.wire_machine.specs.World.{Posted, bytes_of}
 use Rattle.wire_machine.specs.declared.choice.Choice.{Choice}
+use Rattle.wire_run.proofs.Logs.{grows_none}
+use Rattle.wire_run.proofs.Stops.{boot_anew, keeps_anew, watched_anew, watched_on}
 use Rattle.wire_run.specs.Cutting.{DestCalls, DestIsOut, DestMayReopen, DestReopened, EndKeeps, ReopenedAt, SourceCalls, SourceIsOut, SourceMayReopen, SourceReopened, with_end, without_end}
 use Rattle.wire_run.specs.Stage.{BeginsNone, DestHost, DestLeaves, Grows, IsDestOpen, IsSourceOpen, SettleKeeps, SourceHost, SourceLeaves, VolumeStays, dest_steps, source_steps}
 use Rattle.wire_run.specs.Stopping.{StopLaws}
@@ -26,8 +28,6 @@ use Rattle.wire_run.specs.declared.ends.SourceEnd.TheVariants as source_end
 use Rattle.wire_run.specs.declared.stage.Stage.{Stage}
 use Rattle.wire_run.specs.declared.stage.Stop.{Stop}
 use Rattle.wire_run.specs.declared.stage.Stops.{Stops}
-use Rattle.wire_run.proofs.Logs.{grows_none}
-use Rattle.wire_run.proofs.Stops.{boot_anew, keeps_anew, watched_anew, watched_on}
 
 source_same : {D M : Type 0} (a b : SourceHost D M) → ◌≡◌ {A = SourceEnd D M} (source_end.Open a) (source_end.Open b) → a ≡ b
 source_same a b e = cc

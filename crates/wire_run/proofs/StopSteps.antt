@@ -2,15 +2,17 @@
 use Rattle.std.proofs.Common.{◌≡◌, ℕ, ◌+◌, ◌≤◌, Bool, true, false, List, length, refl, sym, ap, subst, ◌∙◌, arith}
 use Rattle.std.specs.Prelude.{◌||◌, is_some}
 use Rattle.client_core.specs.State.{ClientState}
-use Rattle.disk_model.specs.declared.fuse.Fuse.{Fuse}
 use Rattle.disk_model.specs.Elapsed.{Timeline}
+use Rattle.disk_model.specs.declared.fuse.Fuse.{Fuse}
 use Rattle.nfs_base.specs.declared.side.Side.{Side}
 use Rattle.nfs_base.specs.declared.side.Side.TheVariants.{Source, Dest}
-use Rattle.server_stops.specs.Reopening.{MadeCalls}
+use Rattle.run_ends.specs.Stops.Reopening.{MadeCalls}
 use Rattle.server_volume.specs.declared.used.Used.{Used}
 use Rattle.wire_machine.specs.Runs.{most_bytes}
 use Rattle.wire_machine.specs.World.{Posted, bytes_of}
 use Rattle.wire_machine.specs.declared.choice.Choice.{Choice}
+use Rattle.wire_run.proofs.Logs.{grows_keeps, grows_none}
+use Rattle.wire_run.proofs.Outcomes.{DestBecame, SourceBecame, dest_alone, dest_armed, dest_became, dest_counted, dest_leaves, dest_made, dest_may, dest_numbered, dest_watched, dest_watched_in, end_rest, source_alone, source_armed, source_became, source_counted, source_leaves, source_made, source_may, source_numbered, source_watched, source_watched_in}
 use Rattle.wire_run.specs.Cutting.{DestCalls, DestMayReopen, EndKeeps, SourceCalls, SourceMayReopen}
 use Rattle.wire_run.specs.Stage.{DestHost, DestKeeps, DestLeaves, Grows, IsDestOpen, IsReady, IsSourceOpen, SmallKeeps, SourceHost, SourceKeeps, SourceLeaves, VolumeStays, dest_steps, source_steps}
 use Rattle.wire_run.specs.Stopping.{StopLaws}
@@ -22,8 +24,6 @@ use Rattle.wire_run.specs.declared.ends.SourceEnd.TheVariants as source_end
 use Rattle.wire_run.specs.declared.stage.Stage.{Stage}
 use Rattle.wire_run.specs.declared.stage.Stop.{Stop}
 use Rattle.wire_run.specs.declared.stage.Stops.{Stops}
-use Rattle.wire_run.proofs.Logs.{grows_keeps, grows_none}
-use Rattle.wire_run.proofs.Outcomes.{DestBecame, SourceBecame, dest_alone, dest_armed, dest_became, dest_counted, dest_leaves, dest_made, dest_may, dest_numbered, dest_watched, dest_watched_in, end_rest, source_alone, source_armed, source_became, source_counted, source_leaves, source_made, source_may, source_numbered, source_watched, source_watched_in}
 
 -- ---- a server that does nothing
 

@@ -1,8 +1,8 @@
 -- A server that stopped and was opened anew, or couldn't be; and what else of a stage is as it was then.
 use Rattle.std.proofs.Common.{◌≡◌, ℕ, ◌≤◌, List, [], ◌∷◌, ◌++◌, Option, None, Some, refl, sym, ap, ◌∙◌, subst, arith, append-nil, inl, inr}
 use Rattle.std.specs.Prelude.{OnErr, Result, Ok, Err}
-use Rattle.copy_privs.specs.declared.peer.Peer.{Peer}
 use Rattle.block_file.specs.declared.faults.OpenFault.{OpenFault}
+use Rattle.copy_privs.specs.declared.peer.Peer.{Peer}
 use Rattle.dest_core.specs.Core as new_dest
 use Rattle.disk_model.specs.Elapsed.{Timeline, set_to}
 use Rattle.disk_model.specs.declared.fuse.Fuse.{Fuse}
@@ -11,7 +11,7 @@ use Rattle.nfs_base.specs.declared.side.Side.{Side}
 use Rattle.nfs_base.specs.declared.side.Side.TheVariants.{Source, Dest}
 use Rattle.run_ends.specs.Opening.{IsNewDest, IsNewSource}
 use Rattle.run_ends.specs.Setting.{dest_name, dest_place, dest_source, source_peers, source_place}
-use Rattle.server_stops.specs.Reopening.{IsReopened, IsUnopened}
+use Rattle.run_ends.specs.Stops.Reopening.{IsReopened, IsUnopened}
 use Rattle.server_volume.specs.declared.used.Used.{Used}
 use Rattle.session_server.specs.Host.{host_of}
 use Rattle.source_core.specs.Core as new_source

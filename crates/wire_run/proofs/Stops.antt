@@ -1,12 +1,12 @@
 -- The volume of a server behind a step: its machine goes on, or it stopped, and the volume is opened anew or is lost.
 use Rattle.std.proofs.Common.{◌≡◌, ◌⊎◌, ℕ, ◌+◌, ◌-◌, ◌<◌, ◌^◌, List, length, Some, None, refl, sym, ◌∙◌, inl, inr, arith}
+use Rattle.block_file.specs.Opened.{Opened}
 use Rattle.block_file.specs.declared.faults.OpenFault.{OpenFault}
 use Rattle.block_file.specs.declared.faults.OpenFault.TheVariants.{DiskFailed, NotVolume}
-use Rattle.block_file.specs.Opened.{Opened}
+use Rattle.disk_model.specs.Elapsed.{IsOut, Timeline}
 use Rattle.disk_model.specs.declared.fuse.Fuse.{Fuse}
 use Rattle.disk_model.specs.declared.fuse.Fuse.TheVariants.{Unset}
-use Rattle.disk_model.specs.Elapsed.{IsOut, Timeline}
-use Rattle.server_stops.specs.Reopening.{IsReopened, IsUnopened, MadeCalls}
+use Rattle.run_ends.specs.Stops.Reopening.{IsReopened, IsUnopened, MadeCalls}
 use Rattle.server_volume.specs.Store.{store_of}
 use Rattle.server_volume.specs.declared.used.Used.{Used}
 use Rattle.volume_stops.specs.Stops.{StopsIn, kept_by, pending_within}

@@ -3,19 +3,19 @@ use Rattle.std.proofs.Common.{◌≡◌, ℕ, ◌+◌, ◌≤◌, Bool, true, fa
 use Rattle.std.specs.Prelude.{◌||◌, is_some}
 use Rattle.block_file.specs.Opened.{Opened}
 use Rattle.dest_core.specs.Stepping.{DestStep}
-use Rattle.disk_model.specs.declared.fuse.Fuse.{Fuse}
 use Rattle.disk_model.specs.Elapsed.{Timeline}
+use Rattle.disk_model.specs.declared.fuse.Fuse.{Fuse}
 use Rattle.nfs_base.specs.declared.side.Side.{Side}
 use Rattle.nfs_base.specs.declared.side.Side.TheVariants.{Source, Dest}
 use Rattle.outbox.specs.declared.outgoing.Outbox.{Outbox}
-use Rattle.server_stops.specs.Reopening.{MadeCalls}
+use Rattle.run_ends.specs.Ends.{Words, machines}
+use Rattle.run_ends.specs.Stops.Reopening.{MadeCalls}
 use Rattle.server_volume.specs.Moments.{Made, after_calls, uses_of}
 use Rattle.server_volume.specs.Store.{Store, store_of}
 use Rattle.server_volume.specs.declared.used.Used.{Used}
 use Rattle.session_server.specs.Host.{HostState}
 use Rattle.volume_stops.specs.Stops.{pending_in}
 use Rattle.wire_machine.specs.Ends as acts
-use Rattle.run_ends.specs.Ends.{Words, machines}
 use Rattle.wire_run.specs.Cutting.{DestCalls, SourceCalls, disk_at}
 use Rattle.wire_run.specs.Stage.{DestActs, DestHost, DestPeeks, Peeks, SettleKeeps, SourceActs, SourceHost, SourcePeeks, dest_disk, later_clock, source_disk}
 use Rattle.wire_run.specs.Watching.{AreNumbered, AreWatched, DestNumbered, DestWatched, IsWatched, KeepsStops, SourceNumbered, SourceWatched, fuse_in, is_armed, no_side, stop_at}

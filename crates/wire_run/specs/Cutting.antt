@@ -1,13 +1,13 @@
 -- Servers that stop in a run, and what becomes of them: each is opened anew, or it is lost. Own definitions.
 use Rattle.std.specs.Prelude.{◌≡◌, ◌⊎◌, ◌||◌, ℕ, Bool, true, false, List, [], ◌∷◌, ◌++◌, length, map, Option, Some, None, Result, Ok, Err}
 use Rattle.block_file.specs.declared.faults.OpenFault.{OpenFault}
-use Rattle.disk_model.specs.declared.fuse.Fuse.{Fuse}
 use Rattle.disk_model.specs.Elapsed.{IsOut, Timeline, set_to}
+use Rattle.disk_model.specs.declared.fuse.Fuse.{Fuse}
 use Rattle.nfs_base.specs.declared.side.Side.{Side}
 use Rattle.nfs_base.specs.declared.side.Side.TheVariants.{Source, Dest}
 use Rattle.run_ends.specs.Ends.{RunMachines, RunStep, RunWorld}
 use Rattle.run_ends.specs.Opening.{IsNewDest, IsNewSource}
-use Rattle.server_stops.specs.Reopening.{IsReopened, IsUnopened, MadeCalls, MayReopen}
+use Rattle.run_ends.specs.Stops.Reopening.{IsReopened, IsUnopened, MadeCalls, MayReopen}
 use Rattle.server_volume.specs.declared.used.Used.{Used}
 use Rattle.session_server.specs.Host.{host_of}
 use Rattle.volume_stops.specs.Stops.{kept_by, pending_within}

@@ -1,6 +1,7 @@
 pub mod Commanding
 pub mod Cutting
 pub mod Fresh
+pub mod LargeRuns
 pub mod Making
 pub mod Run
 pub mod Running

@@ -1,12 +1,12 @@
 -- What is known of servers that stop and are opened anew. Own definitions.
 use Rattle.std.specs.Prelude.{◌≡◌, ℕ, ◌+◌, ◌-◌, ◌<◌, ◌^◌, List, Option, None, length}
+use Rattle.block_file.specs.Opened.{Opened, StandsFor}
 use Rattle.block_file.specs.declared.faults.OpenFault.{OpenFault}
 use Rattle.block_file.specs.declared.faults.OpenFault.TheVariants.{DiskFailed}
-use Rattle.block_file.specs.Opened.{Opened, StandsFor}
+use Rattle.disk_model.specs.Elapsed.{IsOut, Timeline}
 use Rattle.disk_model.specs.declared.fuse.Fuse.{Fuse}
 use Rattle.disk_model.specs.declared.fuse.Fuse.TheVariants.{Unset}
-use Rattle.disk_model.specs.Elapsed.{IsOut, Timeline}
-use Rattle.server_stops.specs.Reopening.{IsReopened, IsUnopened, MadeCalls, MayReopen}
+use Rattle.run_ends.specs.Stops.Reopening.{IsReopened, IsUnopened, MadeCalls, MayReopen}
 use Rattle.server_volume.specs.Store.{Store, store_of}
 use Rattle.server_volume.specs.declared.used.Used.{Used}
 use Rattle.volume_stops.specs.Stops.{StopsIn, kept_by, pending_after, pending_in, pending_within}

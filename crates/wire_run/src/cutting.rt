@@ -2,10 +2,10 @@
 
 ghost use Rattle.std.specs.Prelude.{◌≡◌, ◌↔◌, ◌≤◌, ◌++◌, ◌∷◌, [], List, ℕ, length, IfOk, IsTrue, MatchOption, OnErr, OnOk};
 ghost use Rattle.std.specs.String.{string_bytes};
+ghost use Rattle.run_ends.specs.Ends.{run_machines};
 ghost use Rattle.wire_log.specs.Keeping.{reading};
 ghost use Rattle.wire_machine.specs.Runs.{most_bytes};
 ghost use Rattle.wire_machine.specs.World.{bytes_of};
-ghost use Rattle.run_ends.specs.Ends.{run_machines};
 ghost use Rattle.wire_run.specs.Cutting.{boot_at, crash_lines, dest_kept, kept_at, source_kept, with_end, without_end, ArmedAt, DestArmed, DestCalls, DestIsOut, DestMayReopen, DestReopens, EndKeeps, EndReopens, GoesOnAt, IsDueAt, IsOutAt, MayReopenAt, ReopensAt, RestsAt, ServerEnds, SmallEnds, SourceArmed, SourceCalls, SourceIsOut, SourceMayReopen, SourceReopens};
 ghost use Rattle.wire_run.specs.Stage.{BeginsNone, IsDestOpen, IsFair, IsOpenAt, IsSourceOpen, SettleKeeps, SmallIs, SmallKeeps, faults_named};
 ghost use Rattle.wire_run.specs.Watching.{KeepsStops, no_side, no_stop, noted, sets_in, stop_at, stopped_by};
@@ -19,8 +19,10 @@ use disk_model::CrashDisk;
 use gss_mech::Mechanism;
 use nfs_base::Side;
 use outcome::Mem;
+use run_ends::stops::{
+    kept_by_dest, kept_by_source, reopen_dest, reopen_source, servers_open_anew,
+};
 use run_ends::{dest_name, dest_place, dest_source, source_peers, source_place};
-use server_stops::{kept_by_dest, kept_by_source, reopen_dest, reopen_source, servers_open_anew};
 use server_volume::Used;
 use std::alloc::Global;
 use std::mem;

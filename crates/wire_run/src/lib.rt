@@ -12,6 +12,7 @@ mod cutting;
 mod ends;
 mod flowing;
 mod fresh;
+pub mod large_runs;
 mod laws;
 mod lines;
 mod run;

@@ -1,13 +1,13 @@
 //! Laws of servers that stop.
 
-ghost use Rattle.mech_laws.specs.Mechanisms.{KeepMechanisms};
 ghost use Rattle.run_ends.specs.Ends.{run_machines};
+ghost use Rattle.run_ends.specs.Mechanisms.Mechanisms.{KeepMechanisms};
 ghost use Rattle.wire_run.specs.Stopping.{StopLaws};
 
 use disk_model::CrashDisk;
 use gss_mech::Mechanism;
-use mech_laws::mechanisms_stay;
-use server_stops::servers_open_anew;
+use run_ends::mechanisms::mechanisms_stay;
+use run_ends::stops::servers_open_anew;
 use volume_stops::one_stop_is_one_crash;
 
 /// What a stop of a server leaves, and that a server goes by one mechanism before it.

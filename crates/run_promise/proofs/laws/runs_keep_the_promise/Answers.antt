@@ -7,25 +7,25 @@ use Rattle.client_laws.specs.CallerLaws as client_laws
 use Rattle.client_steps.specs.declared.setting.Setting.{Setting}
 use Rattle.copy_model.specs.Moment.{History}
 use Rattle.copy_model.specs.Promise.{IsKept, IsStopped}
-use Rattle.dest_calls.specs.Steps as dest_calls
+use Rattle.dest_laws.specs.Calls.Steps as dest_calls
 use Rattle.nfs_base.specs.declared.seal.End.TheVariants as ends
 use Rattle.nfs_base.specs.declared.side.Side.TheVariants as sides
-use Rattle.run_promise.proofs.Histories.{alike}
 use Rattle.run_checks.specs.RunLaws.{runs_right}
+use Rattle.run_ends.specs.Ends.{count_gives, machines, ways, words_of}
+use Rattle.run_ends.specs.Setting.{dest_name, dest_place, source_place, user}
+use Rattle.run_promise.proofs.Histories.{alike}
+use Rattle.run_promise.proofs.laws.runs_keep_the_promise.Goals as goal
 use Rattle.run_promise.specs.Accepted.{shapes_few}
-use Rattle.run_dest.specs.Kept.{TokensAreBytes}
 use Rattle.run_promise.specs.Assembled.{AreLawful, lawful, truthful}
+use Rattle.run_promise.specs.Client.View.{client_view}
+use Rattle.run_promise.specs.Dest.Kept.{TokensAreBytes}
 use Rattle.run_promise.specs.Promise.{any_nonce, run_shows, run_spelling, seen_by, whose}
 use Rattle.run_promise.specs.Setting.{client_is, dest_bytes, dest_is, drawn_fits, nonce_is, setting_fits, token_bytes}
-use Rattle.run_client.specs.View.{client_view}
 use Rattle.wire_log.specs.Keeping.{reading}
 use Rattle.wire_machine.specs.Runs as runs
 use Rattle.wire_meaning.specs.Meaning.{meaning}
 use Rattle.wire_model.specs.System.{history}
-use Rattle.run_ends.specs.Ends.{count_gives, machines, ways, words_of}
-use Rattle.run_ends.specs.Setting.{dest_name, dest_place, source_place, user}
 use Rattle.wire_schedule.specs.Admission.{at_start}
-use Rattle.run_promise.proofs.laws.runs_keep_the_promise.Goals as goal
 
 pub returns : goal.returns
 returns g c = λ mech events first steps end accepted is_first goes.

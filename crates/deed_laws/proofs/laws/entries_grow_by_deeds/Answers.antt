@@ -1,5 +1,0 @@
-use Rattle.deed_laws.proofs.Entries.{all_later, grows, keeps_entries, new_blank, stays_gone}
-use Rattle.deed_laws.proofs.laws.entries_grow_by_deeds.Goals as goal
-
-pub returns : goal.returns
-returns c = record { later = all_later; grows = grows; gone = stays_gone; kept = keeps_entries; blank = new_blank }

@@ -1,7 +1,0 @@
-use Rattle.nfs_base.specs.declared.seal.End.TheVariants.{Source}
-use Rattle.std.specs.Prelude.{false}
-use Rattle.dest_calls.proofs.Staying.{begins}
-use Rattle.dest_calls.proofs.whole.destinations_begin_settled.Goals as goal
-
-pub returns : goal.returns
-returns c = λ who boot capacity source principal. begins who (c.mounts_begin_lawful.ensures.good who Source false) boot capacity source principal

@@ -1,9 +1,0 @@
-use Rattle.dest_names.proofs.Backs.{backs_fit, compound_fits}
-use Rattle.dest_names.proofs.sessions.back_channels_fit.Goals as goal
-
-pub returns : goal.returns
-returns g c = record {
-  compound = λ gate serve parting choice who principal carry compound s fit.
-      compound_fits parting (record { gate = gate; serve = serve }) choice who principal carry compound s fit;
-  backs = backs_fit;
-}

@@ -1,8 +1,0 @@
-use Rattle.dest_own.proofs.Records.{record_takes, tick_ends}
-use Rattle.dest_own.proofs.laws.records_take_and_end.Goals as goal
-
-pub returns : goal.returns
-returns g c = record {
-  record_ = λ mech. record_takes _ _ _ (c.own_parts_go_on.ensures.step mech);
-  tick = tick_ends;
-}

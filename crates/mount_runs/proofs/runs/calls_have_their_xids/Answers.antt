@@ -1,9 +1,0 @@
-use Rattle.mount_runs.proofs.KnownSteps.{known_of}
-use Rattle.mount_runs.proofs.RunFacts.{exact}
-use Rattle.mount_runs.proofs.runs.calls_have_their_xids.Goals as goal
-
-pub returns : goal.returns
-returns g c =
-    let laws = c.steps_are_lawful.ensures in
-    λ mech principal who a b m at send step bytes seal sends.
-    exact who _ (known_of who _ c.sends_are_counted.ensures (laws.laws mech principal who) (laws.good mech principal who) (laws.calls mech principal who)) a b m at send step bytes seal sends

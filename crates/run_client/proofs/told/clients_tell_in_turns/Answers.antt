@@ -1,5 +1,0 @@
-use Rattle.run_client.proofs.ToldTurning.{told_in_turns}
-use Rattle.run_client.proofs.told.clients_tell_in_turns.Goals as goal
-
-pub returns : goal.returns
-returns g c who spell meaning first steps s along new = told_in_turns _ s who spell meaning first steps along new

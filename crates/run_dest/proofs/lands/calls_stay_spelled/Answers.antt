@@ -1,5 +1,0 @@
-use Rattle.run_dest.proofs.Along.{spelled_at}
-use Rattle.run_dest.proofs.lands.calls_stay_spelled.Goals as goal
-
-pub returns : goal.returns
-returns c = spelled_at c.moves_keep_calls_spelled.ensures.run
