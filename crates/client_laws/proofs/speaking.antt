@@ -14,7 +14,6 @@ pub mod Ready
 pub mod Reports
 pub mod Roots
 pub mod SaidTurns
-pub mod Saying
 pub mod Seals
 pub mod Sounds
 pub mod Takes

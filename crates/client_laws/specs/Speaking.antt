@@ -1,4 +1,5 @@
 pub mod Carried
 pub mod Fields
 pub mod Places
+pub mod SayingLaws
 pub mod Views

@@ -1,7 +1,6 @@
 pub mod Joined
 pub mod Turns
 pub mod Steps
-pub mod Given
 pub mod Found
 pub mod Rooms
 pub mod Goes

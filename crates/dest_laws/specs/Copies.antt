@@ -1,3 +1,4 @@
-pub mod Story
+pub mod GivenLaws
 pub mod Rooms
 pub mod Runs
+pub mod Story

@@ -1,3 +1,4 @@
+pub mod Orderly
 pub mod Posted
 pub mod Seating
-pub mod Orderly
+pub mod TargetLaws

@@ -9,7 +9,6 @@ pub mod Moments
 mod Names
 mod Numbers
 mod Plans
-mod Premises
 mod Records
 pub mod Resting
 mod RunSteps

@@ -1,6 +1,5 @@
 pub mod Cuts
 pub mod DestRuns
-mod Premises
 pub mod ServerSteps
 pub mod SourceCalls
 pub mod SourceRuns

@@ -21,7 +21,7 @@ use Rattle.client_core.specs.State.{ClientState, second_at}
 use Rattle.client_laws.proofs.speaking.Fields.{IsAnswer, Taking, answer_of, reported_never}
 use Rattle.client_laws.proofs.speaking.Judging.{back_judged}
 use Rattle.client_laws.proofs.speaking.Mounts.{none_some, some_is}
-use Rattle.client_laws.proofs.speaking.Saying.{IsAmong, goes_named, name_kept, stable_among}
+use Rattle.client_laws.specs.Speaking.SayingLaws.{IsAmong, goes_named, name_kept, stable_among}
 use Rattle.client_laws.proofs.speaking.Told.{named_stage, status_told}
 use Rattle.client_laws.proofs.speaking.Words.{IsSaidTurn, New, Same, SeenStage, Starts, accepted_of, from_dest, name_after, ran_is, seen_stable, start_said, starts}
 use Rattle.client_laws.specs.Causes.{ByAcceptance, ByAnswer, ByCallback, ByHeld, ByItself, Cause, IsAnswered, IsCalledBack, WasCalledBack, desk_heard}

@@ -10,7 +10,7 @@ use Rattle.client_laws.proofs.speaking.Drawing.{turn_drawn}
 use Rattle.client_laws.proofs.speaking.Fields.{Coming, Taking}
 use Rattle.client_laws.proofs.speaking.Hearing.{Reading}
 use Rattle.client_laws.proofs.speaking.Reports.{Sealing}
-use Rattle.client_laws.proofs.speaking.Saying.{ExactLaw, StableLaw}
+use Rattle.client_laws.specs.Speaking.SayingLaws.{ExactLaw, StableLaw}
 use Rattle.client_laws.proofs.speaking.Seals.{callback_sealed}
 use Rattle.client_laws.proofs.speaking.Words.{IsSaidTurn}
 use Rattle.client_laws.specs.Answered.{IsAnswerTaken}

@@ -23,7 +23,7 @@ use Rattle.client_core.specs.Telling.{copy_of}
 use Rattle.client_laws.proofs.speaking.Fields.{Coming, IsAnswer, Taking, answer_of, copied_never}
 use Rattle.client_laws.proofs.speaking.Hearing.{Reading}
 use Rattle.client_laws.proofs.speaking.Mounts.{none_some, some_is}
-use Rattle.client_laws.proofs.speaking.Saying.{ExactLaw, IsAmong, StableLaw, exact_among, exact_kept, first_among, stable_kept}
+use Rattle.client_laws.specs.Speaking.SayingLaws.{ExactLaw, IsAmong, StableLaw, exact_among, exact_kept, first_among, stable_kept}
 use Rattle.client_laws.proofs.speaking.Told.{first_told, granted_stage, last_stage, last_told, name_told}
 use Rattle.client_laws.proofs.speaking.Turns.{below, none_if}
 use Rattle.client_laws.specs.Causes.{IsAnswered, ByAcceptance, ByAnswer, ByCallback, ByHeld, ByItself, Cause}

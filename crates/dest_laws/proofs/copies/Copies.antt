@@ -9,7 +9,7 @@ use Rattle.copy_model.specs.Marks.{is_committed, len_of}
 use Rattle.copy_model.specs.Volume.{Volume}
 use Rattle.dest_core.specs.Stepping.{DestState, DestStep}
 use Rattle.dest_laws.proofs.copies.Found.{are_apart, job_of_seen}
-use Rattle.dest_laws.proofs.copies.Given.{was_committed}
+use Rattle.dest_laws.specs.Copies.GivenLaws.{was_committed}
 use Rattle.dest_laws.proofs.copies.Goes.{DeedLaws, Grew, begins_blank, goes_later, grows, is_allowed, is_given, keeps, now_shown, wasnt_there}
 use Rattle.dest_laws.proofs.copies.Rooms.{room_retired, room_running, within_range}
 use Rattle.dest_laws.specs.Copies.Story.{IsCommitted, Story}

@@ -3,7 +3,7 @@ use Rattle.std.proofs.Common.{◌≡◌, ◌⊎◌, inl, inr, ℕ, suc, ◌<◌,
 use Rattle.copy_model.specs.Job.{Allows, Entry, Plan as CopyPlan}
 use Rattle.dest_core.specs.Stepping.{DestState, DestStep}
 use Rattle.dest_laws.proofs.copies.Found.{last_allowed, seen_lawful}
-use Rattle.dest_laws.proofs.copies.Given.{all_give, none_made}
+use Rattle.dest_laws.specs.Copies.GivenLaws.{all_give, none_made}
 use Rattle.dest_laws.specs.Copies.Story.{GoesWell, IsMet, Story}
 use Rattle.dest_laws.specs.Deeds.{ByDeeds}
 use Rattle.dest_laws.specs.Histories.Kinds.{TakesAndEnds}

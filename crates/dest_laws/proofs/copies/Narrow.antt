@@ -5,7 +5,7 @@ use Rattle.std.specs.Prelude.{unwrap_or}
 use Rattle.copy_model.specs.Job.{Entry, Plan as CopyPlan, size_of}
 use Rattle.copy_model.specs.Marks.{len_of}
 use Rattle.dest_core.specs.Stepping.{DestState, DestStep}
-use Rattle.dest_laws.proofs.copies.Given.{was_sized}
+use Rattle.dest_laws.specs.Copies.GivenLaws.{was_sized}
 use Rattle.dest_laws.proofs.copies.Goes.{DeedLaws, Grew, begins_blank, goes_later, grows, is_allowed, is_given, keeps}
 use Rattle.dest_laws.proofs.copies.Rooms.{Comes, Sizing, Stays, length_fits, room_retired, room_running, sizing}
 use Rattle.dest_laws.specs.Copies.Rooms.{AllFit, ReachesLast, RoomsNarrow}

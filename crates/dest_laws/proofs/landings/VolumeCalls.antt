@@ -9,7 +9,7 @@ use Rattle.block_file.specs.declared.faults.WriteFault.TheVariants as writing
 use Rattle.block_file.specs.declared.faults.WriteFault.{WriteFault}
 use Rattle.copy_model.specs.Volume.{Volume, write}
 use Rattle.dest_core.specs.Stepping.{DestState, DestStep, IsReply, IsWork, doing_in, second_in, with_copier, without_lapsed}
-use Rattle.dest_laws.proofs.landings.Wells.{job_file, target_there}
+use Rattle.dest_laws.specs.Landings.TargetLaws.{job_file, target_there}
 use Rattle.dest_laws.proofs.landings.Written.{stands}
 use Rattle.dest_steps.specs.Copier.{Codes}
 use Rattle.dest_steps.specs.Landing.{Doing, landed, landed_by, target, target_file, with_write, written, written_if, written_where}

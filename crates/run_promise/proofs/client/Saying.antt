@@ -19,7 +19,7 @@ use Rattle.client_copies.specs.declared.told.Word.TheVariants as words
 use Rattle.client_copies.specs.declared.told.Word.{Word}
 use Rattle.client_core.specs.Endings.{Ways}
 use Rattle.client_core.specs.State.{ClientState}
-use Rattle.client_laws.proofs.speaking.Saying.{ExactLaw, StableLaw, exact_kept, stable_kept}
+use Rattle.client_laws.specs.Speaking.SayingLaws.{ExactLaw, StableLaw, exact_kept, stable_kept}
 use Rattle.client_laws.specs.Changes.{Changes}
 use Rattle.client_laws.specs.Speaking.Carried.{IsCarried}
 use Rattle.client_laws.specs.Speaking.Views.{says_exact, says_stable}

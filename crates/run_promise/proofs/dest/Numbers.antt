@@ -22,7 +22,7 @@ use Rattle.dest_jobs.specs.declared.carried.Carried.{Carried}
 use Rattle.dest_jobs.specs.declared.copies.Copies.{Copies}
 use Rattle.dest_jobs.specs.declared.copying.CopyRoom.{CopyRoom}
 use Rattle.dest_jobs.specs.declared.copying.Ends.{Ends}
-use Rattle.dest_laws.proofs.copies.Given.{none_made}
+use Rattle.dest_laws.specs.Copies.GivenLaws.{none_made}
 use Rattle.dest_laws.specs.Deeds.{GoesWithin}
 use Rattle.dest_laws.specs.Own.Going.{jobs_in}
 use Rattle.dest_laws.specs.View.View.{made_in}

@@ -32,6 +32,7 @@ pub fn sources_are_lawful<M: Mechanism>()
     server_laws::slots_rest::<Source<M>, Carried>();
     server_laws::contexts_stay::<Source<M>, Carried, CountDraws>();
     server_laws::contexts_rest::<Source<M>, Carried>();
+    source_told::own_operations_call_none::<M>();
     source_told::source_steps_are_right::<M, CountDraws>();
     tell_laws::volumes_stay_fitting();
     tell_laws::steps_call_once::<Source<M>, Carried, CountDraws>();

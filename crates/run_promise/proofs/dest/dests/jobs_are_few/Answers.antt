@@ -1,7 +1,7 @@
 use Rattle.dest_core.specs.Serving.{given}
 use Rattle.run_ends.specs.Ends.{count_gives, words_of}
 use Rattle.run_promise.proofs.dest.Numbers.{AreCounted, gives_one}
-use Rattle.run_promise.proofs.dest.Premises.{calls_none}
+use Rattle.run_promise.proofs.Premises.{calls_none}
 use Rattle.run_promise.proofs.dest.Records.{AreServed}
 use Rattle.run_promise.proofs.dest.Whole.{few_at}
 use Rattle.run_promise.proofs.dest.dests.jobs_are_few.Goals as goal

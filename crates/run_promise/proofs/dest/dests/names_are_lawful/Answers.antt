@@ -2,7 +2,7 @@ use Rattle.std.proofs.Common.{ℕ, List, Option}
 use Rattle.nfs_base.specs.declared.seal.End.{End}
 use Rattle.run_ends.specs.Ends.{count_gives, run_machines, words_of}
 use Rattle.run_promise.proofs.dest.Names.{IsNamed, StaysRight, Steps}
-use Rattle.run_promise.proofs.dest.Premises.{calls_none}
+use Rattle.run_promise.proofs.Premises.{calls_none}
 use Rattle.run_promise.proofs.dest.Records.{AreServed}
 use Rattle.run_promise.proofs.dest.Runs.{KeepOpening}
 use Rattle.run_promise.proofs.dest.Whole.{host, names, rights}

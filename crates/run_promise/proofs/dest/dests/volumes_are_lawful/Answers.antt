@@ -1,5 +1,5 @@
 use Rattle.run_ends.specs.Ends.{count_gives, run_machines, words_of}
-use Rattle.run_promise.proofs.dest.Premises.{calls_none}
+use Rattle.run_promise.proofs.Premises.{calls_none}
 use Rattle.run_promise.proofs.dest.Records.{AreServed}
 use Rattle.run_promise.proofs.dest.Volumes.{AreDue, AreOrderly, GoOn}
 use Rattle.run_promise.proofs.dest.Whole.{volumes}

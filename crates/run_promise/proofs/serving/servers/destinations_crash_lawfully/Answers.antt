@@ -1,6 +1,6 @@
 use Rattle.run_ends.specs.Ends.{count_gives, words_of}
 use Rattle.run_promise.proofs.serving.DestRuns.{AreKnownDest, crashes_lawfully}
-use Rattle.run_promise.proofs.serving.Premises.{calls_none}
+use Rattle.run_promise.proofs.Premises.{calls_none}
 use Rattle.run_promise.proofs.serving.servers.destinations_crash_lawfully.Goals as goal
 
 pub returns : goal.returns

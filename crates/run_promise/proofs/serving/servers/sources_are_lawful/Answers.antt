@@ -1,7 +1,6 @@
 use Rattle.run_ends.specs.Ends.{count_gives, words_of}
 use Rattle.run_promise.proofs.serving.SourceRuns.{AreKnown, source_lawful}
 use Rattle.run_promise.proofs.serving.servers.sources_are_lawful.Goals as goal
-use Rattle.source_told.proofs.Premises.{calls_none}
 
 pub returns : goal.returns
 returns g c mech events first steps accepts whose seen purposes is few are =
@@ -18,8 +17,8 @@ returns g c mech events first steps accepts whose seen purposes is few are =
       tells = c.source_steps_are_right.ensures.tells;
       seals = c.steps_are_lawful.ensures.seals;
       replies = c.steps_are_lawful.ensures.replies;
-      once = λ mech. c.steps_call_once.ensures.once mech (calls_none k.mic_of);
-      spares = λ mech. c.steps_call_once.ensures.root mech (calls_none k.mic_of);
+      once = λ mech. c.steps_call_once.ensures.once mech c.own_operations_call_none.ensures;
+      spares = λ mech. c.steps_call_once.ensures.root mech c.own_operations_call_none.ensures;
       by_calls = c.steps_change_by_calls.ensures;
       fits = c.volumes_stay_fitting.ensures.words;
       tick_laws = c.rests_are_lawful.ensures.tick;
