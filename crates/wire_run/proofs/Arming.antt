@@ -20,6 +20,7 @@ use Rattle.wire_machine.specs.Steps.{same_side}
 use Rattle.wire_machine.specs.Runs.{most_bytes}
 use Rattle.wire_machine.specs.World.{Posted, all_idle, bytes_of}
 use Rattle.wire_machine.specs.declared.choice.Choice.TheVariants.{Went}
+use Rattle.wire_run.proofs.Cores.{dest_there, source_there}
 use Rattle.wire_run.specs.Cutting.{ArmedAt, DestArmed, SourceArmed, with_end}
 use Rattle.wire_run.specs.Stage.{BeginsNone, DestHost, DestKeeps, DestLeaves, Grows, IsFair, IsReady, SettleKeeps, SmallDone, SmallKeeps, SourceHost, SourceKeeps, SourceLeaves, VolumeKeeps, dest_steps, source_steps, world_at}
 use Rattle.wire_run.specs.Watching.{AreWatched, DestNumbered, DestWatched, IsWatched, KeepsStops, SourceNumbered, SourceWatched, is_armed, sets_in, stop_at, stopped_by, with_stop}
@@ -30,7 +31,6 @@ use Rattle.wire_run.specs.declared.stage.Stop.{Stop}
 use Rattle.wire_run.specs.declared.stage.Stops.{Stops}
 use Rattle.wire_run.proofs.Comings.{later_none, one_more, same_world, size_right, world}
 use Rattle.wire_run.proofs.Later.{blamed_none_failed}
-use Rattle.wire_run.proofs.Outcomes.{dest_there, source_there}
 use Rattle.wire_run.proofs.StopSteps.{dest_numbered_on, dest_stays, dest_watched_on, small_parts, source_numbered_on, source_stays, source_watched_on, steps_more, steps_same}
 use Rattle.wire_schedule.specs.declared.event.Event.TheVariants as kinds
 

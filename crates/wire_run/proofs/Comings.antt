@@ -27,6 +27,7 @@ use Rattle.wire_machine.specs.declared.choice.Choice.TheVariants.{Failed, Went}
 use Rattle.wire_machine.specs.declared.mistake.Mistake.{Mistake}
 use Rattle.wire_machine.specs.declared.port.Port.{Port}
 use Rattle.run_ends.specs.Ends.{RunWorld, SourceState, Words, machines}
+use Rattle.wire_run.proofs.Cores.{dest_there, source_there}
 use Rattle.wire_run.specs.Running.{Later}
 use Rattle.wire_run.specs.Stage.{AllLook, ClientActs, Comes, DestActs, DestHost, HandsOver, IsDone, IsReady, LooksOnly, SettleKeeps, Settles, SettlesAll, SmallDone, SourceActs, SourceHost, choice_by, dest_boot, later_clock, source_boot, ticked_parts, world_at}
 use Rattle.wire_run.specs.declared.ends.DestEnd.{DestEnd}
@@ -38,7 +39,6 @@ use Rattle.wire_run.specs.declared.stage.Ticked.{Ticked}
 use Rattle.wire_schedule.specs.declared.event.Event.TheVariants as kinds
 use Rattle.wire_run.proofs.Later.{blamed_none_failed}
 use Rattle.wire_run.proofs.Logs.{mistake_in_none}
-use Rattle.wire_run.proofs.Outcomes.{dest_there, source_there}
 use Rattle.wire_run.proofs.Lone.{choice_left, choice_right, client_lines, dest_lines, dest_log, dest_mistake, rest_log, source_lines, source_log, source_mistake}
 
 -- ---- a disk that is as it was

@@ -1,5 +1,5 @@
 -- A server that is there has a core.
-use Rattle.std.proofs.Common.{◌≡◌, refl}
+use Rattle.std.proofs.Common.{◌≡◌, refl, subst, sym}
 use Rattle.wire_run.specs.Stage.{DestHost, IsDestOpen, IsSourceOpen, SourceHost}
 use Rattle.wire_run.specs.declared.ends.DestEnd.{DestEnd}
 use Rattle.wire_run.specs.declared.ends.DestEnd.TheVariants as dest_end
@@ -23,3 +23,9 @@ pub dest_there : {D M : Type 0} (end : DestEnd D M) → IsDestOpen end → DestT
 dest_there (dest_end.Open core) opened = record { core = core; is = refl }
 dest_there dest_end.Away opened = absurd opened
 dest_there (dest_end.Disk disk) opened = absurd opened
+
+pub source_open : {D M : Type 0} (end : SourceEnd D M) (core : SourceHost D M) → end ≡ source_end.Open core → IsSourceOpen end
+source_open {D} {M} end core is = subst (λ (e : SourceEnd D M). IsSourceOpen e) (sym is) tt
+
+pub dest_open : {D M : Type 0} (end : DestEnd D M) (core : DestHost D M) → end ≡ dest_end.Open core → IsDestOpen end
+dest_open {D} {M} end core is = subst (λ (e : DestEnd D M). IsDestOpen e) (sym is) tt

@@ -21,6 +21,7 @@ use Rattle.wire_machine.specs.Steps.{kept_if, same_side}
 use Rattle.wire_machine.specs.World.{Posted, all_idle, bytes_of}
 use Rattle.wire_machine.specs.declared.choice.Choice.{Choice}
 use Rattle.wire_machine.specs.declared.choice.Choice.TheVariants.{Stopped}
+use Rattle.wire_run.proofs.Cores.{dest_open, dest_there, source_open, source_there}
 use Rattle.wire_run.specs.Cutting.{EndKeeps, IsLostIn, LostAt, MayReopenAt, ReopenedAt, RestsAt, crash_lines, dest_kept, disk_at, kept_at, source_kept, without_end}
 use Rattle.wire_run.specs.Stage.{IsFair, IsOpenAt, IsReady, SettleKeeps, SmallDone, SmallKeeps, dest_boot, dest_disk, source_boot, source_disk, world_at}
 use Rattle.wire_run.specs.Stopping.{StopLaws}
@@ -33,7 +34,7 @@ use Rattle.wire_run.specs.declared.stage.Stop.{Stop}
 use Rattle.wire_run.proofs.Comings.{later_none, one_more, same_world, size_right}
 use Rattle.wire_run.proofs.Later.{blamed_none_failed}
 use Rattle.wire_run.proofs.Losing.{few_boots, lost_in, lost_later, lost_why}
-use Rattle.wire_run.proofs.Outcomes.{dest_anew, dest_made, dest_open, dest_there, dest_watched_in, end_rest, source_anew, source_made, source_open, source_there, source_watched_in}
+use Rattle.wire_run.proofs.Outcomes.{dest_anew, dest_made, dest_watched_in, end_rest, source_anew, source_made, source_watched_in}
 use Rattle.wire_run.proofs.StopSteps.{dest_may_stop, dest_small, dest_stops, source_may_stop, source_small, source_stops}
 use Rattle.wire_run.proofs.Stops.{cut, later_anew}
 use Rattle.wire_schedule.specs.declared.event.Event.TheVariants as kinds

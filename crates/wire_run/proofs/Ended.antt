@@ -34,9 +34,10 @@ use Rattle.wire_machine.specs.declared.choice.Choice.{Choice}
 use Rattle.wire_machine.specs.declared.choice.Choice.TheVariants.{Stopped}
 use Rattle.wire_machine.specs.declared.mistake.Mistake.{Mistake}
 use Rattle.wire_run.proofs.Comings.{by_dest, by_source, dest_acted, fault_same, later_less, later_none, one_more, same_world, size_right, source_acted, world}
+use Rattle.wire_run.proofs.Cores.{dest_there, source_there}
 use Rattle.wire_run.proofs.Lone.{dest_mistake, source_mistake}
 use Rattle.wire_run.proofs.Losing.{few_boots, lost_in, lost_later, lost_why}
-use Rattle.wire_run.proofs.Outcomes.{DestAnew, SourceAnew, dest_anew, dest_made, dest_there, dest_watched_in, source_anew, source_made, source_there, source_watched_in}
+use Rattle.wire_run.proofs.Outcomes.{DestAnew, SourceAnew, dest_anew, dest_made, dest_watched_in, source_anew, source_made, source_watched_in}
 use Rattle.wire_run.proofs.Stops.{cut, later_anew}
 use Rattle.wire_run.specs.Cutting.{ComesOrCuts, DestCalls, DiskLost, EndsIn, GoesOn, IsCutDone, IsDueAt, IsLostIn, IsStopMistaken, IsStopTold, LostAt, ServerEnds, SourceCalls, StopEnds, Stopping, dest_kept, disk_at, disk_left, source_kept, without_end}
 use Rattle.wire_run.specs.Fresh.{unopened}

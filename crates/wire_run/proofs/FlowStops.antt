@@ -13,6 +13,7 @@ use Rattle.wire_machine.specs.Runs as runs
 use Rattle.wire_machine.specs.Steps.{same_side}
 use Rattle.wire_machine.specs.World.{Posted, marked, waiting}
 use Rattle.run_ends.specs.Ends.{RunMachines, RunStep}
+use Rattle.wire_run.proofs.Cores.{dest_open, dest_there, source_open, source_there}
 use Rattle.wire_run.specs.Cutting.{FlowsEnd, IsLostIn, SmallEnds, StageLoses, disk_at, disk_if, disk_left}
 use Rattle.wire_run.specs.Running.{Later, LostFor, failed_calls, faults_in}
 use Rattle.wire_run.specs.Stage.{AllDelivered, BeginsNone, DestHost, DestLeaves, FlowKeeps, FlowKeepsStops, Grows, IsBelow, IsDestOpen, IsFair, IsFlowing, IsOpenAt, IsReady, IsSourceOpen, SmallIs, SmallKeeps, SourceHost, SourceLeaves, StageGoes, StageKeeps, dest_disk, faults_named, is_asked, is_waiting, most_records, next_flowed, source_disk}
@@ -27,7 +28,7 @@ use Rattle.wire_run.specs.declared.stage.Fault.{Fault}
 use Rattle.wire_run.specs.declared.stage.Lost.{Lost}
 use Rattle.wire_run.specs.declared.stage.Stage.{Stage}
 use Rattle.wire_run.proofs.Flows.{HasFlowed, asked_alone, asked_first, goes_as, not_false, once_goes, rest_of, waiting_is, waits}
-use Rattle.wire_run.proofs.Keeping.{dest_open, dest_still, dest_there, source_open, source_still, source_there, stage_keeps_on}
+use Rattle.wire_run.proofs.Keeping.{dest_still, source_still, stage_keeps_on}
 use Rattle.wire_run.proofs.Later.{blamed_none, later_join, rose_behind}
 use Rattle.wire_run.proofs.Logs.{delivered_append, delivered_next, delivered_past, keeps_none, length_marked}
 use Rattle.wire_run.proofs.Watched.{numbered_at, or_left}

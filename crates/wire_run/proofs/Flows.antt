@@ -16,6 +16,7 @@ use Rattle.wire_machine.specs.World.{Posted, marked, posted_at, waiting, waiting
 use Rattle.wire_machine.specs.declared.choice.Choice.{Choice}
 use Rattle.nfs_base.specs.declared.side.Side.{Side}
 use Rattle.nfs_base.specs.declared.side.Side.TheVariants.{Source, Dest}
+use Rattle.wire_run.proofs.Cores.{dest_there, source_there}
 use Rattle.wire_run.specs.Cutting.{FlowsEnd, SmallEnds}
 use Rattle.wire_run.specs.Running.{AreBlamed, Later, failed_calls, has_failed_at}
 use Rattle.run_ends.specs.Ends.{RunMachines, RunStep, RunWorld}
@@ -30,7 +31,6 @@ use Rattle.wire_run.specs.declared.stage.Fault.TheVariants as faults_of
 use Rattle.wire_run.specs.declared.stage.Lost.{Lost}
 use Rattle.wire_run.specs.declared.stage.Stage.{Stage}
 use Rattle.wire_run.proofs.Joining.{after_join, goes_join, lines_join, never_join}
-use Rattle.wire_run.proofs.Keeping.{dest_there, source_there}
 use Rattle.wire_run.proofs.Later.{blamed_join, blamed_none, failed_one, later_join, later_more, later_same}
 use Rattle.wire_schedule.specs.declared.event.Event.{Event}
 use Rattle.wire_schedule.specs.declared.event.Event.TheVariants as kinds

@@ -9,6 +9,7 @@ use Rattle.outbox.specs.declared.outgoing.Outbox.{Outbox}
 use Rattle.wire_machine.specs.declared.choice.Choice.{Choice}
 use Rattle.wire_machine.specs.Ends.{DestAct, SourceAct, ClientAct}
 use Rattle.run_ends.specs.Ends.{RunMachines}
+use Rattle.wire_run.proofs.Cores.{dest_there, source_there}
 use Rattle.wire_run.specs.Stage.{BeginsNone, ClientActs, LooksOnly, later_clock, DestActs, DestHost, DestKeeps, Grows, IsBelow, IsDestOpen, IsReady, IsSourceOpen, SettleKeeps, SmallKeeps, SourceActs, SourceHost, SourceKeeps, SourceLeaves, StageKeeps, DestLeaves, VolumeKeeps, VolumeStays, dest_steps, source_steps}
 use Rattle.wire_run.specs.declared.ends.DestEnd.{DestEnd}
 use Rattle.wire_run.specs.declared.ends.DestEnd.TheVariants as dest_end
@@ -16,32 +17,6 @@ use Rattle.wire_run.specs.declared.ends.SourceEnd.{SourceEnd}
 use Rattle.wire_run.specs.declared.ends.SourceEnd.TheVariants as source_end
 use Rattle.wire_run.specs.declared.stage.Stage.{Stage}
 use Rattle.wire_run.proofs.Logs.{grows_keeps, grows_none, keeps_all}
-
--- ---- a server that is there has a core
-
-pub record SourceCore {D M : Type 0} (end : SourceEnd D M) : Type 0 where
-  pub core : SourceHost D M
-  pub is : end ≡ source_end.Open core
-
-pub record DestCore {D M : Type 0} (end : DestEnd D M) : Type 0 where
-  pub core : DestHost D M
-  pub is : end ≡ dest_end.Open core
-
-pub source_there : {D M : Type 0} (end : SourceEnd D M) → IsSourceOpen end → SourceCore end
-source_there (source_end.Open core) opened = record { core = core; is = refl }
-source_there source_end.Away opened = absurd opened
-source_there (source_end.Disk disk) opened = absurd opened
-
-pub dest_there : {D M : Type 0} (end : DestEnd D M) → IsDestOpen end → DestCore end
-dest_there (dest_end.Open core) opened = record { core = core; is = refl }
-dest_there dest_end.Away opened = absurd opened
-dest_there (dest_end.Disk disk) opened = absurd opened
-
-pub source_open : {D M : Type 0} (end : SourceEnd D M) (core : SourceHost D M) → end ≡ source_end.Open core → IsSourceOpen end
-source_open end core is = subst (λ (e : SourceEnd _ _). IsSourceOpen e) (sym is) tt
-
-pub dest_open : {D M : Type 0} (end : DestEnd D M) (core : DestHost D M) → end ≡ dest_end.Open core → IsDestOpen end
-dest_open end core is = subst (λ (e : DestEnd _ _). IsDestOpen e) (sym is) tt
 
 pub keeps_still : {D : Type 0} (v : Opened D) → VolumeKeeps v v
 keeps_still v = record { files = refl; tag = refl }

@@ -35,32 +35,6 @@ source_same a b e = cc
 dest_same : {D M : Type 0} (a b : DestHost D M) → ◌≡◌ {A = DestEnd D M} (dest_end.Open a) (dest_end.Open b) → a ≡ b
 dest_same a b e = cc
 
--- ---- a server that is there has a core
-
-pub record SourceThere {D M : Type 0} (end : SourceEnd D M) : Type 0 where
-  pub core : SourceHost D M
-  pub is : end ≡ source_end.Open core
-
-pub record DestThere {D M : Type 0} (end : DestEnd D M) : Type 0 where
-  pub core : DestHost D M
-  pub is : end ≡ dest_end.Open core
-
-pub source_there : {D M : Type 0} (end : SourceEnd D M) → IsSourceOpen end → SourceThere end
-source_there (source_end.Open core) opened = record { core = core; is = refl }
-source_there source_end.Away opened = absurd opened
-source_there (source_end.Disk disk) opened = absurd opened
-
-pub dest_there : {D M : Type 0} (end : DestEnd D M) → IsDestOpen end → DestThere end
-dest_there (dest_end.Open core) opened = record { core = core; is = refl }
-dest_there dest_end.Away opened = absurd opened
-dest_there (dest_end.Disk disk) opened = absurd opened
-
-pub source_open : {D M : Type 0} (end : SourceEnd D M) (core : SourceHost D M) → end ≡ source_end.Open core → IsSourceOpen end
-source_open {D} {M} end core is = subst (λ (e : SourceEnd D M). IsSourceOpen e) (sym is) tt
-
-pub dest_open : {D M : Type 0} (end : DestEnd D M) (core : DestHost D M) → end ≡ dest_end.Open core → IsDestOpen end
-dest_open {D} {M} end core is = subst (λ (e : DestEnd D M). IsDestOpen e) (sym is) tt
-
 -- ---- all but the servers and their stops: the client, the draws and the clock stay, and records may be sent
 
 pub record RestKeeps {D M : Type 0} (old new : Stage D M) : Type 0 where

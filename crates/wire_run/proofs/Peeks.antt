@@ -15,6 +15,7 @@ use Rattle.wire_machine.specs.World.{Posted, all_idle, bytes_of}
 use Rattle.wire_machine.specs.declared.choice.Choice.TheVariants.{Went}
 use Rattle.dest_core.specs.Stepping.{DestState}
 use Rattle.run_ends.specs.Ends.{SourceState, Words, machines}
+use Rattle.wire_run.proofs.Cores.{dest_there, source_there}
 use Rattle.wire_run.specs.Running.{Later, is_failed, peek_failed}
 use Rattle.wire_run.specs.Stage.{DestPeeks, HasFileAt, IsReady, PeekIs, Peeks, SettleKeeps, SmallDone, SmallKeeps, SourcePeeks, VolumeStays, bit, bytes_lines, choice_by, dest_files, has_failed, source_files, world_at}
 use Rattle.wire_run.specs.declared.ends.DestEnd.{DestEnd}
@@ -23,7 +24,7 @@ use Rattle.wire_run.specs.declared.stage.Stage.{Stage}
 use Rattle.wire_run.specs.declared.system.Peeked.{Peeked}
 use Rattle.wire_run.specs.declared.system.Peeked.TheVariants as peeks
 use Rattle.wire_run.proofs.Comings.{later_none, one_more, same_world, size_right, world}
-use Rattle.wire_run.proofs.Keeping.{dest_stays, dest_still, dest_there, one_dest, one_source, same_dest, same_source, small_keeps, source_stays, source_still, source_there}
+use Rattle.wire_run.proofs.Keeping.{dest_stays, dest_still, one_dest, one_source, same_dest, same_source, small_keeps, source_stays, source_still}
 use Rattle.wire_run.proofs.Later.{blamed_one}
 use Rattle.wire_run.proofs.Lone.{rest_log}
 use Rattle.wire_run.proofs.Unstopped.{chosen_peek, made_peek, told_peek, uncut_peek}

@@ -2,7 +2,8 @@ use Rattle.std.proofs.Common.{Option, None, Some, ℕ, ◌≡◌, refl, arith, a
 use Rattle.client_core.specs.State.{ClientState}
 use Rattle.wire_machine.specs.Ends as acts
 use Rattle.run_ends.specs.Ends.{count_gives, run_machines, words_of}
-use Rattle.wire_run.proofs.Keeping.{dest_keeps_by, dest_open, dest_still, looked_keeps, one_dest, one_source, same_dest, source_keeps_by, source_open, starved}
+use Rattle.wire_run.proofs.Cores.{dest_open, source_open}
+use Rattle.wire_run.proofs.Keeping.{dest_keeps_by, dest_still, looked_keeps, one_dest, one_source, same_dest, source_keeps_by, starved}
 use Rattle.wire_run.proofs.Watched.{dest_looks, dest_same, keeps_stops, source_looks, source_same, stops_same}
 use Rattle.wire_run.specs.Watching.{no_side}
 use Rattle.wire_run.proofs.stage.Stage.all_tick.Goals as goal

@@ -5,9 +5,10 @@ use Rattle.run_ends.specs.Ends.{count_gives, words_of}
 use Rattle.wire_lines.specs.declared.letters.Speaker.TheVariants as speakers
 use Rattle.wire_log.specs.Keeping.{reading}
 use Rattle.wire_machine.specs.Ends as acts
+use Rattle.wire_run.proofs.Cores.{dest_open}
 use Rattle.wire_run.proofs.Ended.{dest_ends}
 use Rattle.wire_run.proofs.Handed.{dest_arrives}
-use Rattle.wire_run.proofs.Outcomes.{end_rest, rest_begins, dest_open}
+use Rattle.wire_run.proofs.Outcomes.{end_rest, rest_begins}
 use Rattle.wire_run.proofs.Settled.{within_log}
 use Rattle.wire_run.proofs.StopSteps.{dest_may_stop, dest_small, dest_stops, starved_small, starved_stops}
 use Rattle.wire_run.proofs.stage.Stage.at_dest.Goals as goal

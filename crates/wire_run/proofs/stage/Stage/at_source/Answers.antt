@@ -4,9 +4,10 @@ use Rattle.nfs_base.specs.declared.side.Side.TheVariants as sides
 use Rattle.run_ends.specs.Ends.{count_gives, words_of}
 use Rattle.wire_log.specs.Keeping.{reading}
 use Rattle.wire_machine.specs.Ends as acts
+use Rattle.wire_run.proofs.Cores.{source_open}
 use Rattle.wire_run.proofs.Ended.{source_ends}
 use Rattle.wire_run.proofs.Handed.{source_arrives}
-use Rattle.wire_run.proofs.Outcomes.{end_rest, rest_begins, source_open}
+use Rattle.wire_run.proofs.Outcomes.{end_rest, rest_begins}
 use Rattle.wire_run.proofs.Settled.{within_log}
 use Rattle.wire_run.proofs.StopSteps.{source_may_stop, source_small, source_stops, starved_small, starved_stops}
 use Rattle.wire_run.proofs.stage.Stage.at_source.Goals as goal
