@@ -1,10 +1,10 @@
 #!/usr/bin/env python3
 """Tries the edits that the gate leaves to be tried by hand, crates/NAME/must-fail-by-hand/*.edit: docs/gate.md says which, and why.
 
-    tools/edits.py [NAME..]     those of these crates, or of all that have some
+    tools/edits.py [NAME | NAME/EDIT ..]     those of these crates, single ones of them, or all
 
-`rt must-fail` tries the edits of a folder must-fail alone, so each folder has that name while this runs. The prover must refuse each; the
-exit status is that of `rt must-fail`.
+`rt must-fail` tries the edits of a folder must-fail alone, so the edits are put there while this runs, and the gate's own stand aside. The
+prover must refuse each; the exit status is that of `rt must-fail`.
 """
 
 import contextlib
@@ -14,35 +14,54 @@ import sys
 
 TOP = os.path.dirname(os.path.dirname(os.path.abspath(__file__)))
 CRATES = os.path.join(TOP, "crates")
-BY_HAND, TRIED = "must-fail-by-hand", "must-fail"
+BY_HAND, TRIED, ASIDE = "must-fail-by-hand", "must-fail", "must-fail-aside"
 
 
-def crates():
-    """The crates that have such edits."""
-    return sorted(name for name in os.listdir(CRATES) if os.path.isdir(os.path.join(CRATES, name, BY_HAND)))
+def edits_by_hand():
+    """The names of such edits, by their crates."""
+    folders = {name: os.path.join(CRATES, name, BY_HAND) for name in sorted(os.listdir(CRATES))}
+    return {name: sorted(os.listdir(folder)) for name, folder in folders.items() if os.path.isdir(folder)}
+
+
+def chosen(words, known):
+    """The edits that the words ask for, by their crates."""
+    asked = {}
+    for name, _, edit in (word.partition("/") for word in words or known):
+        if name not in known:
+            sys.exit(f"{name} has no edits to be tried by hand; these have: {' '.join(known)}")
+        file = f"{edit.removesuffix('.edit')}.edit"
+        if edit and file not in known[name]:
+            sys.exit(f"{name} has no edit {edit}; it has: {' '.join(known[name])}")
+        asked.setdefault(name, set()).update([file] if edit else known[name])
+    return asked
 
 
 @contextlib.contextmanager
-def renamed(name):
-    """The crate's folder under the name that `rt must-fail` looks for."""
-    by_hand, tried = (os.path.join(CRATES, name, folder) for folder in (BY_HAND, TRIED))
-    os.rename(by_hand, tried)
+def in_place(name, edits):
+    """These edits alone stand where `rt must-fail` looks for them."""
+    by_hand, tried, aside = (os.path.join(CRATES, name, folder) for folder in (BY_HAND, TRIED, ASIDE))
+    has_own = os.path.isdir(tried)
+    if has_own:
+        os.rename(tried, aside)
+    os.mkdir(tried)
+    for edit in edits:
+        os.rename(os.path.join(by_hand, edit), os.path.join(tried, edit))
     try:
         yield
     finally:
-        os.rename(tried, by_hand)
+        for edit in edits:
+            os.rename(os.path.join(tried, edit), os.path.join(by_hand, edit))
+        os.rmdir(tried)
+        if has_own:
+            os.rename(aside, tried)
 
 
 def main():
-    known = crates()
-    names = sys.argv[1:] or known
-    for name in names:
-        if name not in known:
-            sys.exit(f"{name} has no edits to be tried by hand; these have: {' '.join(known)}")
+    asked = chosen(sys.argv[1:], edits_by_hand())
     with contextlib.ExitStack() as stack:
-        for name in names:
-            stack.enter_context(renamed(name))
-        status = subprocess.run(["rt", "must-fail", *names], cwd=TOP, check=False).returncode
+        for name, edits in asked.items():
+            stack.enter_context(in_place(name, edits))
+        status = subprocess.run(["rt", "must-fail", *asked], cwd=TOP, check=False).returncode
     sys.exit(status)
 
 
