@@ -29,7 +29,7 @@ def chosen(words, known):
     for name, _, edit in (word.partition("/") for word in words or known):
         if name not in known:
             sys.exit(f"{name} has no edits to be tried by hand; these have: {' '.join(known)}")
-        file = f"{edit.removesuffix('.edit')}.edit"
+        file = edit if edit.endswith(".edit") else f"{edit}.edit"
         if edit and file not in known[name]:
             sys.exit(f"{name} has no edit {edit}; it has: {' '.join(known[name])}")
         asked.setdefault(name, set()).update([file] if edit else known[name])
