@@ -1,8 +1,8 @@
 //! What a mount asks can be spelled, and what it sends is bytes, whatever the machine above it does (RFC 4506).
 //!
-//! There is no code here. `specs/Fitting.antt` says what holds of a mount between its steps: numbers are below their bounds, and
-//! handles, tokens and calls are bytes within their limits. `specs/Moving.antt` says what the machine above keeps to, and
-//! `specs/Answers.antt` what a reply gives. The law to read first is [`what_is_asked_is_spelled`].
+//! There is no code here. `specs/Fitting/Fitting.antt` says what holds of a mount between its steps: numbers are below their bounds,
+//! and handles, tokens and calls are bytes within their limits. `specs/Fitting/Moving.antt` says what the machine above keeps to, and
+//! `specs/Fitting/Answers.antt` what a reply gives. The law to read first is [`what_is_asked_is_spelled`].
 
 mod asking;
 mod codes;

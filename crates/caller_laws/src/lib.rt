@@ -4,15 +4,20 @@
 //! what is seen of each, `specs/Good.antt` what holds of a mount between steps, `specs/Lawful.antt` what the machine above may
 //! do. The law to read first is [`steps_are_lawful`]; the others are parts of it, in words of `specs/Duties.antt`.
 //! By [`steps_join`] steps that follow one another are one (`specs/Joining.antt`), and by [`tokens_are_their_senders`] a server
-//! takes an INIT as from the end that sent it (`specs/Tokens.antt`).
+//! takes an INIT as from the end that sent it (`specs/Tokens.antt`). By module:
+//!
+//! - [`fitting`]: what a mount asks can be spelled, and what it sends is bytes;
+//! - [`one_step`]: a run of a mount's steps as one step of a caller, whatever machine is above it;
+//! - [`answers`]: what a mount takes is the answer to the call that it awaited.
 #![tactic(auto)]
 
 pub mod answers;
 pub mod fitting;
+pub mod one_step;
+
 mod groups;
 mod joining;
 mod laws;
-pub mod one_step;
 mod tokens;
 
 pub use groups::{callers_own_their_contexts, calls_are_awaited, numbers_only_grow};

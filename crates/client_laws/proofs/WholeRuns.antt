@@ -1,5 +1,5 @@
 -- What a client does at a server in a turn obeys the laws of that server's wire as one step, by what is known of runs of a mount's
--- steps (`mount_runs`). What is ready doesn't change in a turn: it is what is ready in the end.
+-- steps (`caller_laws::one_step`). What is ready doesn't change in a turn: it is what is ready in the end.
 use Rattle.std.proofs.Common.{◌≡◌, ◌∙◌, ◌⊎◌, ℕ, Bool, true, false, List, [], ◌∷◌, ◌++◌, map, Option, Some, None, refl, sym, ap, subst, inl, inr}
 use Rattle.std.specs.List.{AllByRecursion}
 use Rattle.std.proofs.lemmas.List.{map-append}

@@ -5,17 +5,21 @@
 //! (`client_copies`) holds of what a client tells, as [`stable_is_told_once`] and [`none_is_stable_once_cancelled`]. By
 //! [`turns_are_mount_runs`] and [`turns_are_lawful`] a client owes each of its servers what every caller owes (`caller_laws`):
 //! `specs/CallerLaws.antt` says what a run of a mount's steps is, `specs/MountTurns.antt` that a turn is one at each server,
-//! `specs/WholeTurns.antt` what both wires see of it; by [`turns_are_spelled`] what a fit client asks can be spelled.
+//! `specs/WholeTurns.antt` what both wires see of it; by [`turns_are_spelled`] what a fit client asks can be spelled. By module:
+//!
+//! - [`bounds`]: a client is fit from the beginning on, and stays so;
+//! - [`speaking`]: the laws of its word, in any system.
 #![tactic(auto)]
 
-mod answered;
 pub mod bounds;
+pub mod speaking;
+
+mod answered;
 mod callers;
 mod counting;
 mod fits;
 mod keeping;
 mod order;
-pub mod speaking;
 mod whole;
 mod word;
 

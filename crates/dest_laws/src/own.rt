@@ -2,7 +2,8 @@
 //!
 //! There is no code here. In a step that takes a record on a connection copies are taken and jobs end, and nothing else is done to
 //! them ([`records_take_and_end`]). In any other step jobs get one entry at most, and no copy is taken ([`steps_give_one_entry`]).
-//! So every step changes the jobs by deeds ([`steps_go_by_deeds`]); what these leave of a job is said in crate `deed_laws`.
+//! So every step changes the jobs by deeds ([`steps_go_by_deeds`]); what these leave of a job is said in
+//! [`histories`](crate::histories).
 
 mod following;
 mod laws;

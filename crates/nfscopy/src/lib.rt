@@ -2,8 +2,8 @@
 //!
 //! The contract to read first is [`nfscopy`]: for each command and each status it says what was read,
 //! what was put, and why. `specs/Ends.antt` has the definitions; for `run` they name the run of the schedule by three
-//! machines and its lines (crates `wire_run`, `wire_machine`), for `gen` that of a schedule that is made here (crates `large_copy`,
-//! `large_run`), for `show` the lines of a stream of records (crate `wire_show`), for `format` what a disk holds (crate
+//! machines and its lines (crates `wire_run`, `wire_machine`), for `gen` that of a schedule that is made here (crate `large_copy`,
+//! module `wire_run::large_runs`), for `show` the lines of a stream of records (crate `wire_show`), for `format` what a disk holds (crate
 //! `volume_format`), for `serve-source` what each connection of a net got (crate `source_server`), for `serve-dest` by which steps the
 //! destination and its workers went (crate `dest_server`), and for `copy` what a client did over two links (crates `linked_copy`,
 //! `single_copy`).

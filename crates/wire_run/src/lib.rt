@@ -3,7 +3,11 @@
 //! The type is [`System`], and the contract to read first that of [`System::step`]: an event is the small steps of crate
 //! `wire_machine`, each of which is a step of one machine, or of all three where the clock moves on. One copy goes through
 //! [`System::step`], a command of the client; the deliveries of `small.rt`; and the work of the destination.
+//!
+//! The run of a large copy, whose events are made when they are due and whose lines are counted, is that of [`large_runs`].
 #![tactic(auto)]
+
+pub mod large_runs;
 
 mod acting;
 mod bytes;
@@ -12,7 +16,6 @@ mod cutting;
 mod ends;
 mod flowing;
 mod fresh;
-pub mod large_runs;
 mod laws;
 mod lines;
 mod run;

@@ -24,7 +24,7 @@ use Rattle.wire_model.specs.Spelling.{Spelling}
 use Rattle.wire_model.specs.System.{System}
 use Rattle.wire_model.specs.Wire.{Executed}
 
--- the laws of deed_laws
+-- the laws of `histories`
 pub record DeedLaws : Type 0 where
   pub later : (deeds : List Deed) (b c : BookView) → Comes deeds b c → Later b.table c.table
   pub grows : (deeds : List Deed) (b c : BookView) (name : JobName) (old new : Seen) → Comes deeds b c → IsGiven b.table name

@@ -42,7 +42,7 @@ gets_by [] old new few grown = inl (grown.entries ∙ append-nil old.entries)
 gets_by (entry ∷ []) old new few grown = inr (entry, grown.entries)
 gets_by (entry ∷ other ∷ more) old new few grown = absurd (omega (arith, few))
 
--- the law of deed_laws
+-- the law of `histories`
 abbrev pub Grows : Type 0
 Grows = (deeds : List Deed) (b c : BookView) (name : JobName) (old new : Seen) → Comes deeds b c → IsGiven b.table name
     → seen_in b.table name ≡ Some old → seen_in c.table name ≡ Some new → GrowsBy (entries_in name deeds) old new

@@ -1,4 +1,4 @@
--- What goes out of a mount in a step has numbers within their bounds, and its bytes are bytes (`mount_fits`).
+-- What goes out of a mount in a step has numbers within their bounds, and its bytes are bytes (`caller_laws::fitting`).
 use Rattle.std.specs.Prelude.{◌≡◌, ℕ, List, [], ◌∷◌, Option, Some}
 use Rattle.std.specs.List.{AllByRecursion}
 use Rattle.caller_laws.specs.Fitting.Bounds.{FixedFits}

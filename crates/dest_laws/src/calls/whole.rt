@@ -62,7 +62,7 @@ pub fn seen_steps_are_lawful<M: Mechanism>()
     whole_steps_are_lawful::<M>();
 }
 
-/// What a fit mount asks in a step that keeps to the bounds can be spelled, and the mount stays fit (`mount_fits`).
+/// What a fit mount asks in a step that keeps to the bounds can be spelled, and the mount stays fit (`caller_laws::fitting`).
 pub fn fit_steps_are_spelled<M: Mechanism>()
     ensures { (mech : M) (principal : List ℕ) (who : Identity) (s t : DestState M) (shown : Acts)
         (seen : IsSeen who (record { mic = M.mic_of; derived = M.derived; finished = M.finished mech principal }) s t shown)

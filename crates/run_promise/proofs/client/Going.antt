@@ -81,7 +81,7 @@ module _ {M : Type 0} (words : Words M ℕ) where
   is_turn (acts.ClientTakes from bytes) now c d v w out does = does
   is_turn acts.ClientTicks now c d v w out does = does
 
-  -- ---- what is proved of a client's turn (`client_word`)
+  -- ---- what is proved of a client's turn (`client_laws::speaking`)
 
   abbrev pub CarriesOn : Type 0
   CarriesOn =
