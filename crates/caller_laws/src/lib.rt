@@ -13,11 +13,10 @@
 
 pub mod answers;
 pub mod fitting;
-pub mod one_step;
-
 mod groups;
 mod joining;
 mod laws;
+pub mod one_step;
 mod tokens;
 
 pub use groups::{callers_own_their_contexts, calls_are_awaited, numbers_only_grow};

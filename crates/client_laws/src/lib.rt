@@ -11,15 +11,14 @@
 //! - [`speaking`]: the laws of its word, in any system.
 #![tactic(auto)]
 
-pub mod bounds;
-pub mod speaking;
-
 mod answered;
+pub mod bounds;
 mod callers;
 mod counting;
 mod fits;
 mod keeping;
 mod order;
+pub mod speaking;
 mod whole;
 mod word;
 

@@ -20,12 +20,11 @@ pub mod calls;
 pub mod copies;
 pub mod histories;
 pub mod landings;
+mod laws;
 pub mod names;
 pub mod own;
 pub mod sound;
 pub mod view;
-
-mod laws;
 
 pub use laws::{
     chunks_land, chunks_left_never_rise, found_tasks_go_out, steps_are_deeds, steps_give_one_entry,

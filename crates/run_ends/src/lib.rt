@@ -10,9 +10,8 @@
 #![tactic(auto)]
 
 pub mod mechanisms;
-pub mod stops;
-
 mod setting;
+pub mod stops;
 
 pub use setting::{
     DEST_TAG, SOURCE_TAG, dest_name, dest_place, dest_source, source_peers, source_place, user,

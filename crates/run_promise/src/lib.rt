@@ -14,11 +14,10 @@
 
 pub mod client;
 pub mod dest;
+mod laws;
 pub mod opening;
 pub mod owing;
 pub mod serving;
 pub mod system;
-
-mod laws;
 
 pub use laws::runs_keep_the_promise;

@@ -7,8 +7,6 @@
 //! The run of a large copy, whose events are made when they are due and whose lines are counted, is that of [`large_runs`].
 #![tactic(auto)]
 
-pub mod large_runs;
-
 mod acting;
 mod bytes;
 mod client_turn;
@@ -16,6 +14,7 @@ mod cutting;
 mod ends;
 mod flowing;
 mod fresh;
+pub mod large_runs;
 mod laws;
 mod lines;
 mod run;
