@@ -17,9 +17,11 @@ use Rattle.wire_machine.specs.Steps.{after_steps}
 use Rattle.wire_machine.specs.World.{Posted}
 use Rattle.run_ends.specs.Ends.{RunMachines, RunStep, RunWorld, SourceState}
 use Rattle.run_ends.specs.First.{IsFirst, IsFreshDest, IsFreshSource, shape_of}
+use Rattle.wire_run.specs.Asked.{StopsAreAsked}
 use Rattle.wire_run.specs.Run.{Did, IsBefore, RanIs, RanOut, RunsFront, ScheduleRuns, asks_for, volume_in, volumes_of}
 use Rattle.wire_run.specs.Running.{Running, failed_calls, mech_of, world_by}
 use Rattle.wire_run.specs.System.{shown_at}
+use Rattle.wire_run.specs.Watching.{no_side}
 use Rattle.wire_run.specs.declared.run.Ran.TheVariants as ran
 use Rattle.wire_run.proofs.Middle.{EndWaits, InRun, Moves, Waits}
 use Rattle.wire_run.proofs.Shapes.{idle_first, idle_world}
@@ -39,13 +41,14 @@ pub record ReadsVolumes {M : Type 0} (m : RunMachines M) : Type 0 where
 
 module _ {M : Type 0} (m : RunMachines M) (read : Reading) where
   pub schedule_of : (mech : M) (events : List Numbered) (first : RunWorld M) (steps : List (RunStep M)) (end : End) → IsFirst mech events first
-      → Runs m read first events steps end
+      → Runs m read first events steps end → StopsAreAsked no_side first steps
       → ScheduleRuns m read mech events (did_of steps) end (lines_text (lines_of m first steps)) (length (after_steps first steps).log) (volumes_of m (after_steps first steps))
-  schedule_of mech events first steps end is_first runs = record {
+  schedule_of mech events first steps end is_first runs asked = record {
     first = first;
     is_first = is_first;
     steps = steps;
     runs = runs;
+    asked = asked;
     choices = refl;
     failed = λ side. refl;
     lines_are = refl;
@@ -63,30 +66,30 @@ module _ {M : Type 0} (m : RunMachines M) (read : Reading) where
         lines = [];
         records = 0;
         last = volumes_of m first;
-        runs = schedule_of mech [] first [] Whole (idle_first mech []) (refl, refl);
+        runs = schedule_of mech [] first [] Whole (idle_first mech []) (refl, refl) tt;
         puts = front_wider taken now [] (last_line 0 Whole) front;
       }
 
   -- a front of what these events put, whatever comes behind them
   pub some_front : (mech : M) (done rest : List Numbered) (first : RunWorld M) (steps : List (RunStep M)) (end : End) (taken now : Option (List ℕ))
-      → IsFirst mech done first → Runs m read first done steps end
+      → IsFirst mech done first → Runs m read first done steps end → StopsAreAsked no_side first steps
       → AppendsFront taken now (lines_text (lines_of m first steps) ++ last_line (length (after_steps first steps).log) end)
       → RunsFront m read mech (done ++ rest) (did_of steps) taken now
-  some_front mech done rest first steps end taken now is_first runs front = record {
+  some_front mech done rest first steps end taken now is_first runs asked front = record {
     done = length done;
     end = end;
     lines = lines_text (lines_of m first steps);
     records = length (after_steps first steps).log;
     last = volumes_of m (after_steps first steps);
     runs = subst (λ (events : List Numbered). ScheduleRuns m read mech events (did_of steps) end (lines_text (lines_of m first steps)) (length (after_steps first steps).log) (volumes_of m (after_steps first steps)))
-        (sym (take_front done rest)) (schedule_of mech done first steps end is_first runs);
+        (sym (take_front done rest)) (schedule_of mech done first steps end is_first runs asked);
     puts = front;
   }
 
   -- all of it
   pub before_of : (mech : M) (done rest : List Numbered) (first : RunWorld M) (steps : List (RunStep M)) (lines : List ℕ) → IsFirst mech done first
-      → Runs m read first done steps Whole → lines ≡ lines_text (lines_of m first steps) → IsBefore m read mech (done ++ rest) lines
-  before_of mech done rest first steps lines is_first runs lines_are = record {
+      → Runs m read first done steps Whole → StopsAreAsked no_side first steps → lines ≡ lines_text (lines_of m first steps) → IsBefore m read mech (done ++ rest) lines
+  before_of mech done rest first steps lines is_first runs asked lines_are = record {
     done = length done;
     did = did_of steps;
     records = length (after_steps first steps).log;
@@ -94,7 +97,7 @@ module _ {M : Type 0} (m : RunMachines M) (read : Reading) where
     runs = subst (λ (events : List Numbered). ScheduleRuns m read mech events (did_of steps) Whole lines (length (after_steps first steps).log) (volumes_of m (after_steps first steps)))
         (sym (take_front done rest))
         (subst (λ (b : List ℕ). ScheduleRuns m read mech done (did_of steps) Whole b (length (after_steps first steps).log) (volumes_of m (after_steps first steps)))
-        (sym lines_are) (schedule_of mech done first steps Whole is_first runs));
+        (sym lines_are) (schedule_of mech done first steps Whole is_first runs asked));
   }
 
   -- ---- what is shown of the servers of a world
@@ -144,7 +147,7 @@ module _ {D M : Type 0} (told : Type 0) (m : RunMachines M) (read : Reading) (fa
       let first = moves.first in
       let lines = lines_text (lines_of m first steps) in
       some_front m read (mech_of start) done rest first steps Whole taken now_taken
-      (subst (λ (events : List Numbered). IsFirst (mech_of start) events first) (append-nil done) (moves.is_first t [])) (moves.runs t)
+      (subst (λ (events : List Numbered). IsFirst (mech_of start) events first) (append-nil done) (moves.is_first t [])) (moves.runs t) moves.asked
       (front_wider taken now_taken lines (last_line (length (after_steps first steps).log) Whole) (front_all taken now_taken lines (moves.puts t)))
 
   pub starved : (done rest : List Numbered) (start now : Running D M) (taken now_taken : Option (List ℕ))
@@ -181,7 +184,7 @@ module _ {D M : Type 0} (told : Type 0) (m : RunMachines M) (read : Reading) (fa
       (front_more taken now_taken out [] (last_line (length now.log) Whole) waits.quiet front) in
       subst (λ (xs : List (RunStep M)). RunsFront m read (mech_of start) done (did_of xs) taken out) (sym waits.none)
       (subst (λ (events : List Numbered). RunsFront m read (mech_of start) events (did_of {M = M} []) taken out) (append-nil done)
-      (some_front m read (mech_of start) done [] first [] Whole taken out (idle_first (mech_of start) done) (waits.idle first) last))
+      (some_front m read (mech_of start) done [] first [] Whole taken out (idle_first (mech_of start) done) (waits.idle first) tt last))
   ended_front done steps start now taken now_taken out (inr moves) front t =
       let first = moves.first in
       let lines = lines_text (lines_of m first steps) in
@@ -190,7 +193,7 @@ module _ {D M : Type 0} (told : Type 0) (m : RunMachines M) (read : Reading) (fa
       subst (λ (n : ℕ). AppendsFront now_taken out (last_line n Whole)) (records_in done steps start now taken now_taken moves) front in
       subst (λ (events : List Numbered). RunsFront m read (mech_of start) events (did_of steps) taken out) (append-nil done)
       (some_front m read (mech_of start) done [] first steps Whole taken out
-      (subst (λ (events : List Numbered). IsFirst (mech_of start) events first) (append-nil done) (moves.is_first t [])) (moves.runs t)
+      (subst (λ (events : List Numbered). IsFirst (mech_of start) events first) (append-nil done) (moves.is_first t [])) (moves.runs t) moves.asked
       (front_more taken now_taken out lines last (moves.puts t) behind))
 
   pub failed_last : (done : List Numbered) (start now : Running D M) (taken now_taken out : Option (List ℕ))
@@ -232,7 +235,7 @@ module _ {D M : Type 0} (told : Type 0) (m : RunMachines M) (read : Reading) (fa
               lines = [];
               records = 0;
               runs = subst (λ (xs : List (RunStep M)). ScheduleRuns m read (mech_of start) done (did_of xs) Whole [] 0 (volumes_of m first)) (sym waits.none)
-                  (schedule_of m read (mech_of start) done first [] Whole (idle_first (mech_of start) done) (waits.idle first));
+                  (schedule_of m read (mech_of start) done first [] Whole (idle_first (mech_of start) done) (waits.idle first) tt);
               puts = subst (λ (log : List Posted). Appends taken out (last_line (length log) Whole)) rest.log
                   (Appends-trans taken now_taken out [] (last_line (length now.log) Whole) waits.quiet put);
             },
@@ -272,7 +275,7 @@ module _ {D M : Type 0} (told : Type 0) (m : RunMachines M) (read : Reading) (fa
               lines = lines;
               records = length (after_steps first was.steps).log;
               runs = schedule_of m read (mech_of start) done first was.steps Whole
-                  (subst (λ (events : List Numbered). IsFirst (mech_of start) events first) (append-nil done) (moves.is_first t [])) (moves.runs t);
+                  (subst (λ (events : List Numbered). IsFirst (mech_of start) events first) (append-nil done) (moves.is_first t [])) (moves.runs t) moves.asked;
               puts = Appends-trans taken now_taken out lines (last_line (length (after_steps first was.steps).log) Whole) (moves.puts t)
                   (subst (λ (n : ℕ). Appends now_taken out (last_line n Whole)) (records_in done was.steps start now taken now_taken moves) put);
             },

@@ -11,13 +11,15 @@ use Rattle.wire_machine.specs.Runs.{EventGoes, Goes}
 use Rattle.wire_machine.specs.Steps.{NeverStops, after_steps, same_side, small_steps}
 use Rattle.wire_machine.specs.World.{waiting}
 use Rattle.wire_machine.specs.declared.choice.Choice.{Choice}
+use Rattle.wire_run.proofs.Flows.{none_sets}
+use Rattle.wire_run.specs.Asked.{StopsAreAsked}
 use Rattle.wire_run.specs.Cutting.{IsAwayAt, StageLoses, disk_at, disk_left}
 use Rattle.wire_run.specs.Running.{Became, HasDisks, IsCarriedOut, IsLost, Later, LostFor, MakesNone, Running, StepIs, armed_of, context_after, disk_of, failed_calls, fault_in, is_asked, is_there, text_in, world_in}
 use Rattle.run_ends.specs.Ends.{RunMachines, RunStep, RunWorld}
 use Rattle.wire_run.specs.Stage as stages
 use Rattle.wire_run.specs.Stage.{DestHost, IsDestOpen, IsOpenAt, IsSourceOpen, SourceHost, StageGoes, dest_disk, source_disk, world_at}
 use Rattle.wire_run.specs.System.{IsSingle, lost_in, running_of}
-use Rattle.wire_run.specs.Watching.{crashes_in, is_armed}
+use Rattle.wire_run.specs.Watching.{crashes_in, is_armed, sets_in}
 use Rattle.wire_run.specs.declared.ends.DestEnd.{DestEnd}
 use Rattle.wire_run.specs.declared.ends.DestEnd.TheVariants as dest_end
 use Rattle.wire_run.specs.declared.ends.SourceEnd.{SourceEnd}
@@ -58,6 +60,13 @@ module _ {D M : Type 0} (size : D → ℕ) (context : Context) (s : Stage D M) w
   pub asked_once : (event : Event) (side : Side) → stages.is_asked side (event ∷ []) s ≡ is_asked (running_of size context s) side event
   asked_once event Source = ap (λ (b : Bool). is_armed Source s || b) (or_false (crashes_in event Source))
   asked_once event Dest = ap (λ (b : Bool). is_armed Dest s || b) (or_false (crashes_in event Dest))
+
+  pub sets_once : (event : Event) (side : Side) → list_any (λ (e : Event). sets_in e side) (event ∷ []) ≡ sets_in event side
+  sets_once event side = or_false (sets_in event side)
+
+  pub armed_is : (side : Side) → armed_of (running_of size context s) side ≡ is_armed side s
+  armed_is Source = refl
+  armed_is Dest = refl
 
   pub asked_flow : (numbers : List ℕ) (side : Side) → stages.is_asked side (map kinds.Deliver numbers) s ≡ is_asked (running_of size context s) side kinds.Flow
   asked_flow numbers Source = ap (λ (b : Bool). is_armed Source s || b) (none_crashes Source numbers)
@@ -127,6 +136,7 @@ module _ {D M : Type 0} (told : Type 0) (m : RunMachines M) (read : Reading) (fa
   module _ (context now : Context) (old new : Stage D M) (event : Event) (smalls : List Event)
       (steps_are : (w : RunWorld M) → w.log ≡ old.log → small_steps w event ≡ smalls)
       (asks : (side : Side) → stages.is_asked side smalls old ≡ is_asked (running_of size context old) side event)
+      (sets_are : (side : Side) → list_any (λ (e : Event). sets_in e side) smalls ≡ sets_in event side)
       (before : RunWorld M) (is : world_in (running_of size context old) ≡ Some before) where
     before_is : (source : SourceHost D M) (dest : DestHost D M) → old.source ≡ source_end.Open source → old.dest ≡ dest_end.Open dest → world_at size source dest old ≡ before
     before_is source dest p q = one_some _ before (sym (world_is size context old source dest p q) ∙ is)
@@ -145,6 +155,9 @@ module _ {D M : Type 0} (told : Type 0) (m : RunMachines M) (read : Reading) (fa
           lines = λ t. subst (λ (w : RunWorld M). text_in result ≡ lines_text (lines_of m w g.steps)) world (g.lines t);
           choices = g.choices;
           asked = λ side none. subst (λ (w : RunWorld M). NeverStops side w g.steps) world (g.asked side (asks side ∙ none));
+          stops = λ fuses known.
+              subst (λ (w : RunWorld M). StopsAreAsked fuses w g.steps) world (g.stops fuses (λ side armed. known side (armed_is size context old side ∙ armed)));
+          sets = λ none fuses side is. g.sets none fuses side (sets_are side ∙ is);
           blamed = g.blamed;
           source_later = later_disks _ _ _ _ _ (ap (λ (e : SourceEnd D M). source_disk e) g.source_is) (ap (λ (e : SourceEnd D M). source_disk e) g.source_next_is) g.source_later;
           dest_later = later_disks _ _ _ _ _ (ap (λ (e : DestEnd D M). dest_disk e) g.dest_is) (ap (λ (e : DestEnd D M). dest_disk e) g.dest_next_is) g.dest_later;
@@ -232,13 +245,15 @@ module _ {D M : Type 0} (told : Type 0) (m : RunMachines M) (read : Reading) (fa
         → StepIs told m read faults size mech (running_of size context old) (running_of size now new) event result
     once_is event result single g made =
         single_is mech (running_of size context old) (running_of size now new) event result single
-        (λ before is. became_carried context now old new event (event ∷ []) (λ w same. single_steps event single w) (λ side. asked_once size context old event side) before is result g made)
+        (λ before is. became_carried context now old new event (event ∷ []) (λ w same. single_steps event single w) (λ side. asked_once size context old event side)
+        (λ side. sets_once size context old event side) before is result g made)
 
     pub once_lost : (event : Event) (lost : Lost D) → IsSingle event → StageLoses told m read faults size (event ∷ []) old new lost
         → StepIs told m read faults size mech (running_of size context old) (lost_in lost.side lost.disk (running_of size now new)) event (stepped.Lost lost.side lost.cause)
     once_lost event lost single g =
         single_is mech (running_of size context old) (lost_in lost.side lost.disk (running_of size now new)) event (stepped.Lost lost.side lost.cause) single
-        (λ before is. became_lost context now old new event (event ∷ []) (λ w same. single_steps event single w) (λ side. asked_once size context old event side) before is lost g)
+        (λ before is. became_lost context now old new event (event ∷ []) (λ w same. single_steps event single w) (λ side. asked_once size context old event side)
+        (λ side. sets_once size context old event side) before is lost g)
 
     -- ---- a flow
 
@@ -247,14 +262,14 @@ module _ {D M : Type 0} (told : Type 0) (m : RunMachines M) (read : Reading) (fa
     flow_is result g made =
         λ before is.
         became_carried context now old new kinds.Flow (map kinds.Deliver (waiting old.log)) (λ w same. ap (λ l. map kinds.Deliver (waiting l)) same)
-        (λ side. asked_flow size context old (waiting old.log) side) before is result g made
+        (λ side. asked_flow size context old (waiting old.log) side) (λ side. none_sets side (waiting old.log)) before is result g made
 
     pub flow_lost : (lost : Lost D) → StageLoses told m read faults size (map kinds.Deliver (waiting old.log)) old new lost
         → StepIs told m read faults size mech (running_of size context old) (lost_in lost.side lost.disk (running_of size now new)) kinds.Flow (stepped.Lost lost.side lost.cause)
     flow_lost lost g =
         λ before is.
         became_lost context now old new kinds.Flow (map kinds.Deliver (waiting old.log)) (λ w same. ap (λ l. map kinds.Deliver (waiting l)) same)
-        (λ side. asked_flow size context old (waiting old.log) side) before is lost g
+        (λ side. asked_flow size context old (waiting old.log) side) (λ side. none_sets side (waiting old.log)) before is lost g
 
   -- ---- both disks are there
 

@@ -18,11 +18,14 @@ use Rattle.wire_machine.specs.Runs.{End, EventGoes, Fault, Mistaken, Numbered, R
 use Rattle.wire_machine.specs.Steps.{after_steps}
 use Rattle.wire_machine.specs.declared.mistake.Mistake.{Mistake}
 use Rattle.run_ends.specs.First.{IsFirst, IsFreshDest, IsFreshSource, Shape}
+use Rattle.wire_run.proofs.Asked.{asked_join}
+use Rattle.wire_run.specs.Asked.{fuses_behind}
 use Rattle.wire_run.specs.Fresh.{Small, event_small, small_for}
 use Rattle.wire_run.specs.Run.{CanLose, RanHasCause, RanIs, RanPuts, RunsFront, ScheduleRuns, first_small, volumes_of}
-use Rattle.wire_run.specs.Running.{Became, IsCarriedOut, IsLost, Later, LostFor, MakesNone, Running, UnmadeFor, disk_of, fault_in, faults_in, mech_of, size_in, text_in}
+use Rattle.wire_run.specs.Running.{Became, IsCarriedOut, IsLost, Later, LostFor, MakesNone, Running, UnmadeFor, armed_of, disk_of, fault_in, faults_in, mech_of, size_in, text_in}
 use Rattle.run_ends.specs.Ends.{RunMachines, RunStep, RunWorld}
 use Rattle.wire_run.specs.Trace.{Happens, PutsLines, ended_by}
+use Rattle.wire_run.specs.Watching.{no_side}
 use Rattle.wire_run.specs.declared.fresh.Unmade.{Unmade}
 use Rattle.wire_run.specs.declared.fresh.Unmade.TheVariants as unmade
 use Rattle.wire_run.specs.declared.run.Ran.{Ran}
@@ -185,26 +188,27 @@ module _ {D M : Type 0} (told : Type 0) (m : RunMachines M) (read : Reading) (fa
 
   -- a fault: all lines of what was done were put
   fault_puts : (done : List Numbered) (steps : List (RunStep M)) (start old new : Running D M) (taken now out : Option (List ℕ)) (e : Numbered) (rest : List Numbered) (became : Stepped)
-      → (moves : Moves told m read faults size done steps start old taken now) → (carried : Carried done steps start old new taken now e became moves)
-      → (fault : Fault) → fault_in became ≡ Some fault → Appends now out (text_in became) → told
+      → (moves : Moves told m read faults size done steps start old taken now) → ((side : Side) → armed_of old side ≡ true → fuses_behind no_side steps side ≡ true)
+      → (carried : Carried done steps start old new taken now e became moves) → (fault : Fault) → fault_in became ≡ Some fault → Appends now out (text_in became) → told
       → RunsBehind (done ++ e ∷ rest) start (steps ++ carried.steps) moves.first (end_by fault e.line) taken out
-  fault_puts done steps start old new taken now out e rest became moves carried fault fault_is put t =
+  fault_puts done steps start old new taken now out e rest became moves lit carried fault fault_is put t =
       let first = moves.first in
       let goes : EventGoes m read (after_steps first steps) e.event carried.steps (Some fault) =
       subst (λ (f : Option Fault). EventGoes m read (after_steps first steps) e.event carried.steps f) fault_is (carried.goes t) in
       record {
         runs = schedule_of m read (mech_of start) (done ++ e ∷ rest) first (steps ++ carried.steps) (end_by fault e.line) (moves.is_first t (e ∷ rest))
             (runs_join m read done (e ∷ rest) first steps carried.steps (end_by fault e.line) (moves.runs t)
-            (one_ends m read (after_steps first steps) e rest carried.steps fault goes));
+            (one_ends m read (after_steps first steps) e rest carried.steps fault goes))
+            (asked_join no_side first steps carried.steps moves.asked (carried.stops (fuses_behind no_side steps) lit));
         puts = subst (λ (b : List ℕ). Appends taken out b) (lines_more told m read faults size first steps carried.steps (text_in became) (carried.lines t))
             (Appends-trans taken now out (lines_text (lines_of m first steps)) (text_in became) (moves.puts t) put);
       }
 
   -- a front of them was put
   front_puts : (done : List Numbered) (steps : List (RunStep M)) (start old new : Running D M) (taken now out : Option (List ℕ)) (e : Numbered) (rest : List Numbered) (became : Stepped)
-      → (moves : Moves told m read faults size done steps start old taken now) → (carried : Carried done steps start old new taken now e became moves)
-      → AppendsFront now out (text_in became) → told → RunsFront m read (mech_of start) (done ++ e ∷ rest) (did_of (steps ++ carried.steps)) taken out
-  front_puts done steps start old new taken now out e rest became moves carried front t =
+      → (moves : Moves told m read faults size done steps start old taken now) → ((side : Side) → armed_of old side ≡ true → fuses_behind no_side steps side ≡ true)
+      → (carried : Carried done steps start old new taken now e became moves) → AppendsFront now out (text_in became) → told → RunsFront m read (mech_of start) (done ++ e ∷ rest) (did_of (steps ++ carried.steps)) taken out
+  front_puts done steps start old new taken now out e rest became moves lit carried front t =
       let first = moves.first in
       let lines = lines_text (lines_of m first (steps ++ carried.steps)) in
       let ends = event_ends (after_steps first steps) e carried.steps (fault_in became) (carried.goes t) in
@@ -214,6 +218,7 @@ module _ {D M : Type 0} (told : Type 0) (m : RunMachines M) (read : Reading) (fa
       subst (λ (events : List Numbered). RunsFront m read (mech_of start) events (did_of (steps ++ carried.steps)) taken out) (append_assoc done (e ∷ []) rest)
       (some_front m read (mech_of start) (done ++ e ∷ []) rest first (steps ++ carried.steps) ends.0 taken out (moves.is_first t (e ∷ []))
       (runs_join m read done (e ∷ []) first steps carried.steps ends.0 (moves.runs t) ends.1)
+      (asked_join no_side first steps carried.steps moves.asked (carried.stops (fuses_behind no_side steps) lit))
       (front_wider taken out lines (last_line (length (after_steps first (steps ++ carried.steps)).log) ends.0) all))
 
   -- ---- the event with which a run ends
@@ -225,7 +230,7 @@ module _ {D M : Type 0} (told : Type 0) (m : RunMachines M) (read : Reading) (fa
       → Ended (done ++ e ∷ rest) start new taken now.taken begun now.faults ran.WriteFault
   front_ends done start old new taken begun before now e rest became was moves carried front rose = record {
     is = acts_is done start old new taken before.taken now.taken e rest became ran.WriteFault was moves carried (λ whole. cc)
-        (λ t. front_puts done was.steps start old new taken before.taken now.taken e rest became moves carried front t);
+        (λ t. front_puts done was.steps start old new taken before.taken now.taken e rest became moves was.lit carried front t);
     cause = rose;
   }
 
@@ -237,7 +242,7 @@ module _ {D M : Type 0} (told : Type 0) (m : RunMachines M) (read : Reading) (fa
   over_ends done start old new taken begun before now e rest became was moves carried fault_is put = record {
     is = acts_is done start old new taken before.taken now.taken e rest became (ran.OverLimit e.line) was moves carried (λ whole. cc)
         (λ t.
-        let all = fault_puts done was.steps start old new taken before.taken now.taken e rest became moves carried TooLarge fault_is put t in
+        let all = fault_puts done was.steps start old new taken before.taken now.taken e rest became moves was.lit carried TooLarge fault_is put t in
         record { lines = _; records = _; runs = all.runs; puts = all.puts });
     cause = tt;
   }
@@ -250,7 +255,7 @@ module _ {D M : Type 0} (told : Type 0) (m : RunMachines M) (read : Reading) (fa
   mistake_ends done start old new taken begun before now e rest became mistake was moves carried fault_is put = record {
     is = acts_is done start old new taken before.taken now.taken e rest became (ran.Mistaken mistake) was moves carried (λ whole. cc)
         (λ t.
-        let all = fault_puts done was.steps start old new taken before.taken now.taken e rest became moves carried (Mistaken mistake) fault_is put t in
+        let all = fault_puts done was.steps start old new taken before.taken now.taken e rest became moves was.lit carried (Mistaken mistake) fault_is put t in
         record { lines = _; records = _; runs = all.runs; puts = all.puts });
     cause = tt;
   }
@@ -316,7 +321,7 @@ module _ {D M : Type 0} (told : Type 0) (m : RunMachines M) (read : Reading) (fa
             moves.appended,
             λ t.
                 before_of m read (mech_of start) done (e ∷ rest) first was.steps moves.lines
-                (subst (λ (events : List Numbered). IsFirst (mech_of start) events first) (append-nil done) (moves.is_first t [])) (moves.runs t) (moves.lines_are t),
+                (subst (λ (events : List Numbered). IsFirst (mech_of start) events first) (append-nil done) (moves.is_first t [])) (moves.runs t) moves.asked (moves.lines_are t),
           );
         };
         cause = cause_lost _ _ start old new begun later was.source was.dest side cause lost.why;

@@ -1,6 +1,7 @@
 -- Small steps one after the other: one event, or a flow.
 use Rattle.std.proofs.Common.{◌≡◌, ℕ, zero, suc, ◌+◌, ◌<◌, ◌≤◌, Bool, true, false, List, [], ◌∷◌, ◌++◌, length, Option, Some, None, refl, sym, ap, ◌∙◌, subst, arith, append_assoc, add-zero}
 use Rattle.std.proofs.Math.Numerals.{add-one, one-add}
+use Rattle.std.specs.List.{list_any}
 use Rattle.std.specs.Prelude.{◌-◌, ◌||◌, IfOk, Result, Ok, Err, if◌then◌else◌, map, not, slice_get}
 use Rattle.std.specs.Option.{option_map_or}
 use Rattle.std.proofs.lemmas.Grind.{flat_map-append}
@@ -16,12 +17,14 @@ use Rattle.wire_machine.specs.World.{Posted, marked, posted_at, waiting, waiting
 use Rattle.wire_machine.specs.declared.choice.Choice.{Choice}
 use Rattle.nfs_base.specs.declared.side.Side.{Side}
 use Rattle.nfs_base.specs.declared.side.Side.TheVariants.{Source, Dest}
+use Rattle.wire_run.proofs.Asked.{asked_join, fuse_stays, not_wider, or_second}
 use Rattle.wire_run.proofs.Cores.{dest_there, source_there}
+use Rattle.wire_run.specs.Asked.{StopsAreAsked, fuses_behind}
 use Rattle.wire_run.specs.Cutting.{FlowsEnd, SmallEnds}
 use Rattle.wire_run.specs.Running.{AreBlamed, Later, failed_calls, has_failed_at}
 use Rattle.run_ends.specs.Ends.{RunMachines, RunStep, RunWorld}
 use Rattle.wire_run.specs.Stage.{AllDelivered, BeginsNone, DestHost, FlowKeeps, FlowsBy, FlowsOne, FlowsTo, IsBelow, IsFair, IsFlowing, SmallKeeps, faults_named, is_waiting, most_records, Grows, IsReady, SmallIs, SourceHost, StageGoes, bit, next_flowed, world_at}
-use Rattle.wire_run.specs.Watching.{crashes_in, is_armed}
+use Rattle.wire_run.specs.Watching.{crashes_in, is_armed, sets_in}
 use Rattle.wire_run.specs.declared.ends.DestEnd.{DestEnd}
 use Rattle.wire_run.specs.declared.ends.DestEnd.TheVariants as dest_end
 use Rattle.wire_run.specs.declared.ends.SourceEnd.{SourceEnd}
@@ -167,6 +170,11 @@ pub asked_alone : (a : Bool) → (a || false) ≡ true → a ≡ true
 asked_alone true is = refl
 asked_alone false is = is
 
+-- a flow sets no fuse
+pub none_sets : (side : Side) (numbers : List ℕ) → list_any (λ (event : Event). sets_in event side) (map kinds.Deliver numbers) ≡ false
+none_sets side [] = refl
+none_sets side (n ∷ numbers) = none_sets side numbers
+
 not_armed : (a b : Bool) → (a ≡ true → b ≡ true) → b ≡ false → (a || false) ≡ false
 not_armed true b was none = sym (was refl) ∙ none
 not_armed false b was none = refl
@@ -197,6 +205,14 @@ module _ {D M : Type 0} (told : Type 0) (m : RunMachines M) (read : Reading) (fa
     lines = λ t. c.lines t ∙ ap lines_text (sym (append-nil (step_lines m (world_at size c.source c.dest old) c.step)));
     choices = c.choices;
     asked = λ side none. (c.asked side (asked_one (is_armed side old) (crashes_in event side) none), tt);
+    stops = λ fuses known. (
+      λ side none.
+          c.asked side
+          (not_wider (is_armed side old) (fuses side) (crashes_in event side) (crashes_in c.step.event side) (known side) (ap (λ (e : Event). crashes_in e side) c.event_is) none),
+      tt,
+    );
+    sets = λ none fuses side is.
+        or_second (fuses side) (sets_in c.step.event side) (ap (λ (e : Event). sets_in e side) c.event_is ∙ asked_alone (sets_in event side) is);
     blamed = c.blamed;
     source_later = later_one Source c.step _ _ c.source_later;
     dest_later = later_one Dest c.step _ _ c.dest_later;
@@ -216,6 +232,8 @@ module _ {D M : Type 0} (told : Type 0) (m : RunMachines M) (read : Reading) (fa
     lines = λ t. c.text;
     choices = c.choices ∙ sym (append-nil old.choices.items);
     asked = λ side none. tt;
+    stops = λ fuses known. tt;
+    sets = λ none. absurd (some_none fault none);
     blamed = blamed_none M;
     source_later = c.source_later;
     dest_later = c.dest_later;
@@ -241,6 +259,7 @@ module _ {D M : Type 0} (told : Type 0) (m : RunMachines M) (read : Reading) (fa
     pub lines : told → text ≡ lines_text (lines_of m (world_at size source dest old) steps)
     pub choices : new.choices.items ≡ old.choices.items ++ map (λ (s : RunStep M). s.choice) steps
     pub asked : (side : Side) → is_armed side old ≡ false → NeverStops side (world_at size source dest old) steps
+    pub stops : (fuses : Side → Bool) → ((side : Side) → is_armed side old ≡ true → fuses side ≡ true) → StopsAreAsked fuses (world_at size source dest old) steps
     pub blamed : AreBlamed steps
     pub source_later : Later faults size (failed_calls Source steps) (Some source.server.files.volume.disk) (Some source_next.server.files.volume.disk)
     pub dest_later : Later faults size (failed_calls Dest steps) (Some dest.server.files.volume.disk) (Some dest_next.server.files.volume.disk)
@@ -267,6 +286,7 @@ module _ {D M : Type 0} (told : Type 0) (m : RunMachines M) (read : Reading) (fa
         lines = λ t. refl;
         choices = sym (append-nil old.choices.items);
         asked = λ side none. tt;
+        stops = λ fuses known. tt;
         blamed = blamed_none M;
         source_later = later_same faults size _;
         dest_later = later_same faults size _;
@@ -316,6 +336,7 @@ module _ {D M : Type 0} (told : Type 0) (m : RunMachines M) (read : Reading) (fa
     lines = h.lines;
     choices = h.choices;
     asked = h.asked;
+    stops = h.stops;
     blamed = h.blamed;
     source_later = h.source_later;
     dest_later = h.dest_later;
@@ -374,6 +395,16 @@ module _ {D M : Type 0} (told : Type 0) (m : RunMachines M) (read : Reading) (fa
             c.asked side (not_armed (is_armed side now) (is_armed side old) (unset side) none) in
             never_join side (world_at size h.source h.dest old) h.steps (c.step ∷ []) (h.asked side none)
             (subst (λ (w : RunWorld M). NeverStops side w (c.step ∷ [])) (worlds ∙ h.world) (stays, tt));
+        stops = λ fuses known.
+            let one : StopsAreAsked (fuses_behind fuses h.steps) (world_at size c.source c.dest now) (c.step ∷ []) = (
+              λ side none.
+                  c.asked side
+                  (not_wider (is_armed side now) (fuses_behind fuses h.steps side) (crashes_in (kinds.Deliver (now.flowed + 1)) side) (crashes_in c.step.event side)
+                  (λ armed. fuse_stays fuses h.steps side (known side (unset side armed))) (ap (λ (e : Event). crashes_in e side) c.event_is) none),
+              tt,
+            ) in
+            asked_join fuses (world_at size h.source h.dest old) h.steps (c.step ∷ []) (h.stops fuses known)
+            (subst (λ (w : RunWorld M). StopsAreAsked (fuses_behind fuses h.steps) w (c.step ∷ [])) (worlds ∙ h.world) one);
         blamed = blamed_join h.steps (c.step ∷ []) h.blamed c.blamed;
         source_later = later_more faults size Source h.steps (c.step ∷ []) _ _ _ h.source_later
             (subst (λ (a : SourceHost D M). Later faults size (failed_calls Source (c.step ∷ [])) (Some a.server.files.volume.disk) (Some c.source_next.server.files.volume.disk)) source
@@ -414,6 +445,8 @@ module _ {D M : Type 0} (told : Type 0) (m : RunMachines M) (read : Reading) (fa
         lines = λ t. c.text ∙ h.lines t;
         choices = c.choices ∙ h.choices;
         asked = λ side none. h.asked side (asked_first (is_armed side old) _ none);
+        stops = h.stops;
+        sets = λ none. absurd (some_none fault none);
         blamed = h.blamed;
         source_later = later_and_none (failed_calls Source h.steps) _ _
             (later_join faults size (failed_calls Source h.steps) 0 _ _ _ h.source_later
@@ -441,6 +474,8 @@ module _ {D M : Type 0} (told : Type 0) (m : RunMachines M) (read : Reading) (fa
     lines = h.lines;
     choices = h.choices;
     asked = λ side none. h.asked side (asked_first (is_armed side old) _ none);
+    stops = h.stops;
+    sets = λ none fuses side is. let both : false ≡ true = sym (none_sets side (waiting old.log)) ∙ is in absurd (cc);
     blamed = h.blamed;
     source_later = h.source_later;
     dest_later = h.dest_later;

@@ -6,6 +6,7 @@ use Rattle.std.proofs.lemmas.List.{map-append}
 use Rattle.std.specs.Io.KnownBytes.{Appends}
 use Rattle.std.specs.Option.{option_or}
 use Rattle.std.specs.String.{string_bytes}
+use Rattle.std.specs.Prelude.{◌||◌}
 use Rattle.client_core.specs.State.{ClientState}
 use Rattle.dest_core.specs.Stepping.{DestState}
 use Rattle.nfs_base.specs.declared.side.Side.{Side}
@@ -21,10 +22,14 @@ use Rattle.wire_machine.specs.Steps.{after_steps}
 use Rattle.wire_machine.specs.declared.choice.Choice.{Choice}
 use Rattle.run_ends.specs.Ends.{RunMachines, RunStep, RunWorld, SourceState}
 use Rattle.run_ends.specs.First.{IsFirst, IsFreshDest, IsFreshSource, Shape, shape_by}
+use Rattle.wire_run.proofs.Asked.{asked_join, lit_more}
+use Rattle.wire_run.proofs.Flows.{asked_alone}
+use Rattle.wire_run.specs.Asked.{StopsAreAsked, fuses_behind}
 use Rattle.wire_run.specs.Fresh.{Small, event_small}
 use Rattle.wire_run.specs.Run.{first_small}
-use Rattle.wire_run.specs.Running.{ArmsRight, Became, IsCarriedOut, KeepsAt, Later, Running, StepIs, VolumeIs, context_after, failed_calls, fault_in, mech_of, size_in, text_in}
+use Rattle.wire_run.specs.Running.{ArmsRight, Became, IsCarriedOut, KeepsAt, Later, Running, StepIs, VolumeIs, armed_of, context_after, failed_calls, fault_in, mech_of, size_in, text_in}
 use Rattle.wire_run.specs.Trace.{Happens, Puts, PutsLines}
+use Rattle.wire_run.specs.Watching.{no_side, sets_in}
 use Rattle.wire_run.specs.declared.run.Ran.{Ran}
 use Rattle.wire_run.specs.declared.run.Ran.TheVariants as ran
 use Rattle.wire_run.specs.declared.system.Stepped.{Stepped}
@@ -257,10 +262,11 @@ module _ {D M : Type 0} (told : Type 0) (m : RunMachines M) (read : Reading) (fa
 
   next_moves : (done : List Numbered) (steps more : List (RunStep M)) (start old new : Running D M) (taken now out : Option (List ℕ)) (e : Numbered) (became : Stepped)
       → fault_in became ≡ None → (was : Moves told m read faults size done steps start old taken now)
+      → ((side : Side) → armed_of old side ≡ true → fuses_behind no_side steps side ≡ true)
       → (carried : IsCarriedOut told m read faults size old new (after_steps was.first steps) e.event became) → carried.steps ≡ more
       → new.context.source ≡ old.context.source → new.context.dest ≡ old.context.dest → Appends now out (text_in became)
       → Moves told m read faults size (done ++ e ∷ []) (steps ++ more) start new taken out
-  next_moves done steps more start old new taken now out e became no_fault was carried more_is source_is dest_is put =
+  next_moves done steps more start old new taken now out e became no_fault was lit carried more_is source_is dest_is put =
       let first = was.first in
       record {
         first = first;
@@ -270,6 +276,8 @@ module _ {D M : Type 0} (told : Type 0) (m : RunMachines M) (read : Reading) (fa
             subst (λ (f : Option Fault). EventGoes m read (after_steps first steps) e.event more f) no_fault
             (subst (λ (xs : List (RunStep M)). EventGoes m read (after_steps first steps) e.event xs (fault_in became)) more_is (carried.goes t)) in
             runs_join m read done (e ∷ []) first steps more Whole (was.runs t) (one_runs m read (after_steps first steps) e more goes);
+        asked = asked_join no_side first steps more was.asked
+            (subst (λ (xs : List (RunStep M)). StopsAreAsked (fuses_behind no_side steps) (after_steps first steps) xs) more_is (carried.stops (fuses_behind no_side steps) lit));
         world = carried.world no_fault
             ∙ (ap (λ (xs : List (RunStep M)). Some (after_steps (after_steps first steps) xs)) more_is ∙ ap (λ (w : RunWorld M). Some w) (sym (after_join first steps more)));
         source_there = ap (λ (files : Option ℕ). is_some files) source_is ∙ was.source_there;
@@ -325,6 +333,10 @@ module _ {D M : Type 0} (told : Type 0) (m : RunMachines M) (read : Reading) (fa
         steps = [];
         choices = kept.choices;
         armed = armed_more done old was.armed e new arms;
+        lit = λ side armed.
+            let before : armed_of old side ≡ true =
+            asked_alone (armed_of old side) (sym (ap (λ (event : Event). armed_of old side || sets_in event side) kind.is) ∙ arms side armed) in
+            subst (λ (xs : List (RunStep M)). fuses_behind no_side xs side ≡ true) waits.none (was.lit side before);
         asked = λ none. refl;
         blamed = blamed_none M;
         source = source_later;
@@ -349,12 +361,13 @@ module _ {D M : Type 0} (told : Type 0) (m : RunMachines M) (read : Reading) (fa
         steps = was.steps ++ carried.steps;
         choices = more_choices old new was.steps carried.steps was.choices carried.choices;
         armed = armed_more done old was.armed e new arms;
+        lit = lit_more old new e.event was.steps carried.steps was.lit arms (carried.sets (went_faultless became went));
         asked = none_more done e [] old (after_steps moves.first was.steps) was.steps carried.steps was.armed was.asked carried.asked;
         blamed = blamed_join was.steps carried.steps was.blamed carried.blamed;
         source = later_more faults size Source was.steps carried.steps start.source old.source new.source was.source carried.source_later;
         dest = later_more faults size Dest was.steps carried.steps start.dest old.dest new.dest was.dest carried.dest_later;
         room = small_more (size_in size start.source) (size_in size start.dest) done e was.room (kind.small (size_in size start.source) (size_in size start.dest));
-        stands = inr (next_moves done was.steps carried.steps start old new taken now out e became (went_faultless became went) moves carried refl
+        stands = inr (next_moves done was.steps carried.steps start old new taken now out e became (went_faultless became went) moves was.lit carried refl
             (ap (λ (c : Context). c.source) context_is ∙ kind.source) (ap (λ (c : Context). c.dest) context_is ∙ kind.dest) put);
       }
 

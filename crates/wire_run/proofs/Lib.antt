@@ -1,6 +1,7 @@
 pub mod Acts
 pub mod Arming
 pub mod Arrivals
+pub mod Asked
 pub mod Calling
 pub mod Client
 pub mod Comings

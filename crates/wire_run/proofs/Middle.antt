@@ -14,11 +14,13 @@ use Rattle.wire_machine.specs.Steps.{after_steps}
 use Rattle.wire_machine.specs.declared.choice.Choice.{Choice}
 use Rattle.run_ends.specs.Ends.{RunMachines, RunStep, RunWorld, SourceState}
 use Rattle.run_ends.specs.First.{IsFirst, IsFreshDest, IsFreshSource, Shape, shape_by, shape_of, shape_or}
+use Rattle.wire_run.specs.Asked.{StopsAreAsked, fuses_behind}
 use Rattle.wire_run.specs.Run.{asks_for, first_small, stops_in}
-use Rattle.wire_run.specs.Running.{AreBlamed, Later, Running, failed_calls, mech_of, size_in, world_by, world_in, world_of}
+use Rattle.wire_run.specs.Running.{AreBlamed, Later, Running, armed_of, failed_calls, mech_of, size_in, world_by, world_in, world_of}
 use Rattle.run_ends.specs.Setting.{dest_place, source_place, user}
 use Rattle.wire_run.proofs.RunStops.{AreArmedBy, NoneStops}
 use Rattle.wire_run.proofs.Shapes.{asks_more, shape_behind}
+use Rattle.wire_run.specs.Watching.{no_side}
 use Rattle.wire_schedule.specs.Admission.{is_ready}
 
 -- ---- a server before the run moves: it wasn't asked for yet, and its disk is as it was, or it is there and new
@@ -100,6 +102,7 @@ module _ {D M : Type 0} (told : Type 0) (m : RunMachines M) (read : Reading) (fa
     pub first : RunWorld M
     pub is_first : told → (rest : List Numbered) → IsFirst (mech_of start) (done ++ rest) first
     pub runs : told → Runs m read first done steps Whole
+    pub asked : StopsAreAsked no_side first steps
     pub world : world_in now ≡ Some (after_steps first steps)
     pub source_there : is_some now.context.source ≡ true
     pub dest_there : is_some now.context.dest ≡ true
@@ -167,6 +170,7 @@ module _ {D M : Type 0} (told : Type 0) (m : RunMachines M) (read : Reading) (fa
           log = rest.log;
         };
         runs = λ t. idle first;
+        asked = tt;
         world = ap (λ (o : Option (SourceState M)). world_by o now.dest_state now) source_is ∙ ap (λ (o : Option (DestState M)). world_by (Some s) o now) dest_is;
         source_there = source.0;
         dest_there = on_dest.0;
@@ -181,6 +185,7 @@ module _ {D M : Type 0} (told : Type 0) (m : RunMachines M) (read : Reading) (fa
     pub steps : List (RunStep M)
     pub choices : now.choices ≡ map (λ (s : RunStep M). s.choice) steps
     pub armed : AreArmedBy done now
+    pub lit : (side : Side) → armed_of now side ≡ true → fuses_behind no_side steps side ≡ true
     pub asked : stops_in done ≡ false → NoneStops steps
     pub blamed : AreBlamed steps
     pub source : Later faults size (failed_calls Source steps) start.source now.source

@@ -11,6 +11,7 @@ use Rattle.wire_machine.specs.Runs.{Numbered}
 use Rattle.wire_machine.specs.Steps.{NeverStops, cut_by, stops_at}
 use Rattle.wire_machine.specs.declared.choice.Choice.{Choice}
 use Rattle.wire_machine.specs.declared.choice.Choice.TheVariants.{Went, Failed, Stopped}
+use Rattle.wire_run.proofs.Asked.{or_first, or_second, or_some}
 use Rattle.wire_run.specs.Run.{is_stop, stops_in, stops_server}
 use Rattle.wire_run.specs.Running.{ArmsRight, Running, armed_of, is_asked}
 use Rattle.wire_run.specs.Watching.{crashes_in, sets_in}
@@ -22,18 +23,6 @@ use Rattle.wire_schedule.specs.declared.event.Event.TheVariants as kinds
 or_none : (a b : Bool) → (a || b) ≡ false → (a ≡ false) × (b ≡ false)
 or_none false b is = (refl, is)
 or_none true b is = absurd (cc)
-
-or_some : (a b : Bool) → (a || b) ≡ true → (a ≡ true) ⊎ (b ≡ true)
-or_some true b is = inl refl
-or_some false b is = inr is
-
-or_first : (a b : Bool) → a ≡ true → (a || b) ≡ true
-or_first true b is = refl
-or_first false b is = absurd (cc)
-
-or_second : (a b : Bool) → b ≡ true → (a || b) ≡ true
-or_second true b is = refl
-or_second false b is = is
 
 or_both : (a b : Bool) → a ≡ false → b ≡ false → (a || b) ≡ false
 or_both false b p q = q

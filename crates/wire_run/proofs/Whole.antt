@@ -37,6 +37,7 @@ module _ {D M : Type 0} (told : Type 0) (m : RunMachines M) (read : Reading) (fa
     steps = [];
     choices = ap (λ (r : Running D M). r.choices) is;
     armed = λ side armed. absurd (unarmed side armed);
+    lit = λ side armed. absurd (unarmed side armed);
     asked = λ none. refl;
     blamed = blamed_none M;
     source = later_same faults size start.source;

@@ -1,3 +1,4 @@
+pub mod Asked
 pub mod Commanding
 pub mod Cutting
 pub mod Fresh

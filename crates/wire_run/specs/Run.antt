@@ -20,10 +20,12 @@ use Rattle.wire_machine.specs.Runs.{End, MistakenBy, Numbered, Runs, TooLargeAt,
 use Rattle.wire_machine.specs.declared.choice.Choice.{Choice}
 use Rattle.wire_machine.specs.declared.choice.Choice.TheVariants.{Stopped}
 use Rattle.run_ends.specs.First.{IsFirst, shape_by}
+use Rattle.wire_run.specs.Asked.{StopsAreAsked}
 use Rattle.wire_run.specs.Fresh.{Small, event_small}
 use Rattle.wire_run.specs.Running.{Later, Running, disk_of, failed_calls, failed_steps, faults_in, size_in}
 use Rattle.run_ends.specs.Ends.{RunMachines, RunStep, RunWorld}
 use Rattle.wire_run.specs.System.{shown_at}
+use Rattle.wire_run.specs.Watching.{no_side}
 use Rattle.wire_schedule.specs.declared.event.Event.{Event}
 use Rattle.wire_schedule.specs.declared.event.Event.TheVariants as kinds
 
@@ -61,6 +63,7 @@ pub record ScheduleRuns {M : Type 0} (m : RunMachines M) (read : Reading) (mech 
   pub is_first : IsFirst mech events first
   pub steps : List (RunStep M)
   pub runs : Runs m read first events steps end
+  pub asked : StopsAreAsked no_side first steps
   pub choices : did.choices ≡ map (λ (s : RunStep M). s.choice) steps
   pub failed : (side : Side) → did.failed side ≡ failed_calls side steps
   pub lines_are : lines ≡ lines_text (lines_of m first steps)

@@ -13,6 +13,7 @@ use Rattle.wire_machine.specs.Lines.{lines_of}
 use Rattle.wire_machine.specs.Runs.{EventGoes, Fault, Goes, Mistaken, TooLarge}
 use Rattle.wire_machine.specs.Steps.{NeverStops, Step, after_steps, any_failed, same_side, small_steps}
 use Rattle.wire_machine.specs.World.{Posted, World}
+use Rattle.wire_run.specs.Asked.{StopsAreAsked, fuses_behind}
 use Rattle.wire_run.specs.declared.system.Stepped.{Stepped}
 use Rattle.wire_run.specs.declared.system.Stepped.TheVariants as stepped
 use Rattle.dest_core.specs.Stepping.{DestState}
@@ -190,6 +191,8 @@ pub record IsCarriedOut {D M : Type 0} (told : Type 0) (m : RunMachines M) (read
   pub lines : told → text_in result ≡ lines_text (lines_of m before steps)
   pub choices : new.choices ≡ old.choices ++ map (λ (s : RunStep M). s.choice) steps
   pub asked : (side : Side) → is_asked old side event ≡ false → NeverStops side before steps
+  pub stops : (fuses : Side → Bool) → ((side : Side) → armed_of old side ≡ true → fuses side ≡ true) → StopsAreAsked fuses before steps
+  pub sets : fault_in result ≡ None → (fuses : Side → Bool) (side : Side) → sets_in event side ≡ true → fuses_behind fuses steps side ≡ true
   pub blamed : AreBlamed steps
   pub source_later : Later faults size (failed_calls Source steps) old.source new.source
   pub dest_later : Later faults size (failed_calls Dest steps) old.dest new.dest

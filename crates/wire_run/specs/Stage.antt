@@ -41,10 +41,11 @@ use Rattle.wire_machine.specs.declared.choice.Choice.{Choice}
 use Rattle.wire_machine.specs.declared.port.Port.{Port}
 use Rattle.wire_machine.specs.declared.choice.Choice.TheVariants.{Went, Failed}
 use Rattle.wire_machine.specs.declared.mistake.Mistake.{Mistake}
+use Rattle.wire_run.specs.Asked.{StopsAreAsked, fuses_behind}
 use Rattle.wire_run.specs.Commanding.{CanBegin}
 use Rattle.run_ends.specs.Ends.{RunMachines, RunStep, RunWorld, is_worker}
 use Rattle.wire_run.specs.Running.{AreBlamed, Later, failed_calls, has_failed_at, world_of}
-use Rattle.wire_run.specs.Watching.{AreNumbered, AreWatched, crashes_in, is_armed}
+use Rattle.wire_run.specs.Watching.{AreNumbered, AreWatched, crashes_in, is_armed, sets_in}
 use Rattle.wire_run.specs.declared.ends.DestEnd.{DestEnd}
 use Rattle.wire_run.specs.declared.ends.DestEnd.TheVariants as dest_end
 use Rattle.wire_run.specs.declared.ends.SourceEnd.{SourceEnd}
@@ -604,6 +605,8 @@ pub record StageGoes {D M : Type 0} (told : Type 0) (m : RunMachines M) (read : 
   pub lines : told → text ≡ lines_text (lines_of m (world_at size source dest old) steps)
   pub choices : new.choices.items ≡ old.choices.items ++ map (λ (s : RunStep M). s.choice) steps
   pub asked : (side : Side) → is_asked side smalls old ≡ false → NeverStops side (world_at size source dest old) steps
+  pub stops : (fuses : Side → Bool) → ((side : Side) → is_armed side old ≡ true → fuses side ≡ true) → StopsAreAsked fuses (world_at size source dest old) steps
+  pub sets : fault ≡ None → (fuses : Side → Bool) (side : Side) → list_any (λ (event : Event). sets_in event side) smalls ≡ true → fuses_behind fuses steps side ≡ true
   pub blamed : AreBlamed steps
   pub source_later : Later faults size (failed_calls Source steps) (Some source.server.files.volume.disk) (Some source_next.server.files.volume.disk)
   pub dest_later : Later faults size (failed_calls Dest steps) (Some dest.server.files.volume.disk) (Some dest_next.server.files.volume.disk)
