@@ -121,7 +121,8 @@ module _ {D M : Type 0} (w : DiskWords D) (r : RunWords M) where
     pub at : ℕ
     pub puts : Appends before.taken now.taken (not_volume_text block at)
 
-  -- A server that stopped couldn't be opened anew: all lines of the events before that one were put.
+  -- Of a schedule with a line `crash`, all lines of so many first events were put. A run ends so where a server that stopped couldn't be
+  -- opened anew; that one did isn't said.
   pub record PutsBefore (before now : Outside D) (events : List Numbered) : Type 0 where
     pub stops : stops_in events ≡ true
     pub lines : List ℕ
