@@ -1,57 +1,86 @@
-//! Tables of calls and answers over the clients, sessions and slots of a server (`sess_slots`) and over its opens
-//! (`state_ids`), from standard input (`row_text`). Both tables are kept from line to line.
+//! Tables of what one call answers, from standard input: privileges, grants, jobs, the sessions and opens of a server, and
+//! what the text of a schedule is read as. Prints each line whose answer is another one here, with that answer, and then
+//! how many lines there were.
 //!
-//! The expected answers are written down from RFC 8881 and `docs/protocol.md`.
+//! A line is `CALL = ANSWER`, or a call alone where there is nothing to answer; one of privileges is
+//! `NAME BYTES ANSWER`. A line `# table NAME` says of which table the next ones are. Empty lines and other lines that begin
+//! with `#` are passed over. Each table is kept from line to line. Bytes are hex, and `-` is none.
+//!
+//! The lines of privileges, grants and jobs were made by another program than this one or written down from RFC 7862 and
+//! `docs/protocol.md`; those of a server from RFC 8881 and `docs/protocol.md`; those of schedules from `docs/formats.md`.
 #![tactic(auto)]
 
+mod creates;
+mod fields;
+mod grants;
+mod jobs;
 mod opens;
+mod privileges;
+mod schedules;
+mod server;
 mod sessions;
 mod slots;
+mod tables;
 
+use crate::tables::Tables;
 use outcome::Mem;
-use row_text::{Rows, compare, number, word, words};
-use sess_slots::Sessions;
-use state_ids::Opens;
-use std::alloc::Global;
 use std::io;
 
-/// The tables of a server.
-#[derive(Drop)]
-struct TableRows {
-    sessions: Sessions,
-    opens: Opens,
+/// How many lines were tried, and how many of these were answered otherwise.
+#[derive(Clone, Copy)]
+struct Tally {
+    lines: u32,
+    others: u32,
 }
 
-impl TableRows {
-    fn new(alloc: Global, boot: u32) -> Mem<TableRows> {
-        Ok(TableRows {
-            sessions: Sessions::new(alloc, boot)?,
-            opens: Opens::new(alloc, boot)?,
-        })
-    }
-}
-
-impl Rows for TableRows {
-    fn answer(&mut self, alloc: Global, call: &str) -> Mem<String> {
-        let words = words(alloc, call)?;
-        match word(&words, 0) {
-            "boot" => {
-                *self = TableRows::new(alloc, number(&words, 1))?;
-                Ok(format!(in alloc; "made")?)
-            }
-            "slot" => slots::slot(alloc, &words),
-            "begin" => slots::begin(alloc, &mut self.sessions, &words),
-            "open" | "open_taken" | "opened" | "check" | "close" | "holds" | "end" => {
-                opens::told(alloc, &mut self.opens, &words)
-            }
-            _ => sessions::told(alloc, &mut self.sessions, &words),
+impl Tally {
+    fn count(&mut self, is_met: bool) {
+        self.lines = self.lines.saturating_add(1);
+        if !is_met {
+            self.others = self.others.saturating_add(1);
         }
     }
 }
 
+/// Tries each line of standard input.
+fn try_lines(rt: &HostRuntime, tables: &mut Tables) -> io::Result<Tally> {
+    let mut tally = Tally {
+        lines: 0,
+        others: 0,
+    };
+    for line in rt.lines(rt.alloc()) {
+        try_line(rt, tables, line?.as_str(), &mut tally)?;
+    }
+    Ok(tally)
+}
+
+/// Tries a line, where it isn't passed over.
+fn try_line(
+    rt: &HostRuntime,
+    tables: &mut Tables,
+    line: &str,
+    tally: &mut Tally,
+) -> io::Result<()> {
+    if line.starts_with('#') {
+        tables.turn(line);
+        return Ok(());
+    }
+    if line.is_empty() {
+        return Ok(());
+    }
+    let mut text = String::new(rt.alloc());
+    let is_met = tables.is_met(rt.alloc(), line, &mut text) == Ok(true);
+    tally.count(is_met);
+    if !is_met {
+        println!(rt; "{line} BUT {text}")?;
+    }
+    Ok(())
+}
+
 fn main(rt: HostRuntime) -> io::Result<()> {
-    let Ok(mut rows) = TableRows::new(rt.alloc(), 1) else {
+    let Ok(mut tables) = Tables::new(rt.alloc()) else {
         return println!(rt; "out of memory");
     };
-    compare(&rt, &mut rows)
+    let Tally { lines, others } = try_lines(&rt, &mut tables)?;
+    println!(rt; "{lines} lines, {others} answered otherwise")
 }

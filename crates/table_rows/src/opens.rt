@@ -1,10 +1,12 @@
 //! Opens, all of one client.
 
+use crate::fields::{tell, tell_flag, tell_number};
 use nfs_base::StateId;
 use outcome::Mem;
 use row_text::{number, word};
 use state_ids::{Access, Full, Opens};
 use std::alloc::Global;
+use std::fmt::Write;
 use wire_xdr::Octets;
 
 const CLIENT: u64 = 7;
@@ -12,25 +14,18 @@ const CLIENT: u64 = 7;
 /// The answers to `open OWNER ACCESS` of file 1, and `open_taken`, by the call that takes its owner over; `opened`, with
 /// how often; `check SEQID KIND BOOT NUMBER FILE NEED`, with 0 or a status; `close SEQID KIND BOOT NUMBER FILE`; `holds
 /// CLIENT`; and `end CLIENT`.
-pub fn told(alloc: Global, opens: &mut Opens, words: &[&str]) -> Mem<String> {
+pub fn answer(alloc: Global, opens: &mut Opens, words: &[&str], text: &mut String) -> Mem<()> {
     match word(words, 0) {
-        "open" => open(alloc, opens, words),
-        "open_taken" => open_taken(alloc, opens, words),
-        "check" => check(alloc, opens, words),
-        "close" => match opens.close(&id(words), number(words, 5)) {
-            Ok(id) => shown(alloc, id),
-            Err(status) => Ok(format!(in alloc; "{}", status.number)?),
-        },
-        "opened" => Ok(format!(in alloc; "{}", opens.made())?),
-        "holds" => {
-            let holds = opens.holds(u64::from(number(words, 1)));
-            Ok(format!(in alloc; "{holds}")?)
-        }
-        "end" => {
+        "open" => open(opens, words, text),
+        "open_taken" => open_taken(alloc, opens, words, text),
+        "check" => check(opens, words, text),
+        "close" => close(opens, words, text),
+        "opened" => tell_number(opens.made(), text),
+        "holds" => tell_flag(opens.holds(u64::from(number(words, 1))), text),
+        _ => {
             opens.end(u64::from(number(words, 1)));
-            Ok(format!(in alloc; "ended")?)
+            tell(text, "ended")
         }
-        _ => Ok(format!(in alloc; "no such call")?),
     }
 }
 
@@ -43,47 +38,56 @@ fn id(words: &[&str]) -> StateId {
     }
 }
 
-fn shown(alloc: Global, id: StateId) -> Mem<String> {
+fn tell_id(id: StateId, text: &mut String) -> Mem<()> {
     let StateId {
         seqid,
         kind,
         boot,
         number,
     } = id;
-    Ok(format!(in alloc; "{seqid} {kind} {boot} {number}")?)
+    write!(text, "{seqid} {kind} {boot} {number}")?;
+    Ok(())
 }
 
-fn opened(alloc: Global, answer: Result<StateId, Full>) -> Mem<String> {
+fn tell_opened(answer: Result<StateId, Full>, text: &mut String) -> Mem<()> {
     match answer {
-        Ok(id) => shown(alloc, id),
-        Err(Full) => Ok(format!(in alloc; "full")?),
+        Ok(id) => tell_id(id, text),
+        Err(Full) => tell(text, "full"),
     }
 }
 
-fn open(alloc: Global, opens: &mut Opens, words: &[&str]) -> Mem<String> {
+fn open(opens: &mut Opens, words: &[&str], text: &mut String) -> Mem<()> {
     if opens.made() == u32::MAX {
-        return Ok(format!(in alloc; "no number is left")?);
+        return tell(text, "no number is left");
     }
     let owner = number(words, 1).to_be_bytes();
     let answer = opens.open(CLIENT, &owner, 1, number(words, 2))?;
-    opened(alloc, answer)
+    tell_opened(answer, text)
 }
 
-fn open_taken(alloc: Global, opens: &mut Opens, words: &[&str]) -> Mem<String> {
+fn open_taken(alloc: Global, opens: &mut Opens, words: &[&str], text: &mut String) -> Mem<()> {
     if opens.made() == u32::MAX {
-        return Ok(format!(in alloc; "no number is left")?);
+        return tell(text, "no number is left");
     }
     let owner = Octets::from_slice(alloc, &number(words, 1).to_be_bytes())?;
-    opened(alloc, opens.open_taken(CLIENT, owner, 1, number(words, 2)))
+    let answer = opens.open_taken(CLIENT, owner, 1, number(words, 2));
+    tell_opened(answer, text)
 }
 
-fn check(alloc: Global, opens: &Opens, words: &[&str]) -> Mem<String> {
+fn check(opens: &Opens, words: &[&str], text: &mut String) -> Mem<()> {
     let need = match word(words, 6) {
         "write" => Access::Write,
         _ => Access::Read,
     };
     match opens.check(&id(words), number(words, 5), need) {
-        Ok(()) => Ok(format!(in alloc; "0")?),
-        Err(status) => Ok(format!(in alloc; "{}", status.number)?),
+        Ok(()) => tell(text, "0"),
+        Err(status) => tell_number(status.number, text),
+    }
+}
+
+fn close(opens: &mut Opens, words: &[&str], text: &mut String) -> Mem<()> {
+    match opens.close(&id(words), number(words, 5)) {
+        Ok(id) => tell_id(id, text),
+        Err(status) => tell_number(status.number, text),
     }
 }

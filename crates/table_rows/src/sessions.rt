@@ -1,77 +1,78 @@
 //! Clients and their sessions.
 
+use crate::fields::{long, tell, tell_flag, tell_number};
 use crate::slots::session_id;
-use nfs_base::Status;
 use outcome::Mem;
 use row_text::{number, word};
 use sess_slots::{Created, Exchanged, Sessions};
-use std::alloc::Global;
+use std::fmt::Write;
 
 /// The answers to `exchange OWNER VERIFIER SECOND` and `create CLIENT SEQUENCE BACK`; `destroy SESSION`, `reclaim CLIENT`
 /// and `destroy_client CLIENT HOLDS`, with a status; `lapsed CLIENT SECOND`; and `back SESSION`.
-pub fn told(alloc: Global, sessions: &mut Sessions, words: &[&str]) -> Mem<String> {
-    let client = client(words);
+pub fn answer(sessions: &mut Sessions, words: &[&str], text: &mut String) -> Mem<()> {
+    let client = long(words, 1);
     match word(words, 0) {
-        "exchange" => exchange(alloc, sessions, words),
-        "create" => create(alloc, sessions, words),
-        "destroy" => status(alloc, sessions.destroy(&session_id(number(words, 1)))),
-        "reclaim" => status(alloc, sessions.reclaim(client)),
+        "exchange" => exchange(sessions, words, text),
+        "create" => create(sessions, words, text),
+        "destroy" => {
+            let status = sessions.destroy(&session_id(number(words, 1)));
+            tell_number(status.number, text)
+        }
+        "reclaim" => tell_number(sessions.reclaim(client).number, text),
         "destroy_client" => {
-            let holds = word(words, 2) == "holds";
-            status(alloc, sessions.destroy_client(client, holds))
+            let status = sessions.destroy_client(client, word(words, 2) == "holds");
+            tell_number(status.number, text)
         }
-        "lapsed" => {
-            let lapsed = sessions.lapsed(client, u64::from(number(words, 2)));
-            Ok(format!(in alloc; "{lapsed}")?)
-        }
-        "back" => {
-            let there = sessions.back_of(number(words, 1)).is_some();
-            Ok(format!(in alloc; "{there}")?)
-        }
-        _ => Ok(format!(in alloc; "no such call")?),
+        "lapsed" => tell_flag(sessions.lapsed(client, u64::from(number(words, 2))), text),
+        "back" => tell_flag(sessions.back_of(number(words, 1)).is_some(), text),
+        _ => tell(text, "no such call"),
     }
-}
-
-/// The client ID behind the call's name.
-fn client(words: &[&str]) -> u64 {
-    word(words, 1).parse::<u64>().unwrap_or(u64::MAX)
-}
-
-fn status(alloc: Global, status: Status) -> Mem<String> {
-    Ok(format!(in alloc; "{}", status.number)?)
 }
 
 /// EXCHANGE_ID of the principal `user` with an owner of one byte and a verifier that repeats one: the client's ID and how
 /// many clients were ended, or a status.
-fn exchange(alloc: Global, sessions: &mut Sessions, words: &[&str]) -> Mem<String> {
+fn exchange(sessions: &mut Sessions, words: &[&str], text: &mut String) -> Mem<()> {
     if sessions.made() == u32::MAX {
-        return Ok(format!(in alloc; "no number is left")?);
+        return tell(text, "no number is left");
     }
     let owner = number(words, 1).to_be_bytes();
     let verifier = [number(words, 2).to_be_bytes()[3]; 8];
-    match sessions.exchange(b"user", &owner[3..], &verifier, u64::from(number(words, 3)))? {
+    let second = u64::from(number(words, 3));
+    let exchanged = sessions.exchange(b"user", &owner[3..], &verifier, second)?;
+    tell_exchanged(&exchanged, text)
+}
+
+fn tell_exchanged(exchanged: &Exchanged, text: &mut String) -> Mem<()> {
+    match exchanged {
         Exchanged::Client { id, ended, .. } => {
-            let ended = ended.as_slice().len();
-            Ok(format!(in alloc; "client {id} ended {ended}")?)
+            write!(text, "client {id} ended {}", ended.as_slice().len())?;
         }
-        Exchanged::Refused(why) => status(alloc, why),
+        Exchanged::Refused(why) => write!(text, "{why}")?,
     }
+    Ok(())
 }
 
 /// CREATE_SESSION that asks for a back channel where BACK is `back`: the session's number, whether a back channel was
 /// asked for when it was made, and the client that was ended, or a status.
-fn create(alloc: Global, sessions: &mut Sessions, words: &[&str]) -> Mem<String> {
+fn create(sessions: &mut Sessions, words: &[&str], text: &mut String) -> Mem<()> {
     if sessions.made() == u32::MAX {
-        return Ok(format!(in alloc; "no number is left")?);
+        return tell(text, "no number is left");
     }
     let asks = word(words, 3) == "back";
-    match sessions.create(client(words), number(words, 2), 5, 6, asks, Some([7; 8]), 0)? {
+    let back = Some([7; 8]);
+    let created = sessions.create(long(words, 1), number(words, 2), 5, 6, asks, back, 0)?;
+    tell_created(&created, text)
+}
+
+fn tell_created(created: &Created, text: &mut String) -> Mem<()> {
+    match created {
         Created::Made {
             session,
             ended,
             asked,
             ..
-        } => Ok(format!(in alloc; "session {} asked {asked} ended {ended:?}", session[7])?),
-        Created::Refused(why) => status(alloc, why),
+        } => write!(text, "session {} asked {asked} ended {ended:?}", session[7])?,
+        Created::Refused(why) => write!(text, "{why}")?,
     }
+    Ok(())
 }

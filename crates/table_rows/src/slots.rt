@@ -1,9 +1,15 @@
 //! Slots: one by itself, and those of sessions.
 
+ghost use Rattle.std.specs.Prelude.{◌<◌, IsSome};
+ghost use Rattle.nfs_base.specs.declared.limits.TheConstants.{SLOTS};
+ghost use Rattle.sess_slots.specs.Begins.{client_at, reply_at};
+
+use crate::fields::{tell, tell_hex};
 use outcome::Mem;
 use row_text::{bytes, number, word};
 use sess_slots::{Begin, Kept, Place, Sessions, Slot};
 use std::alloc::Global;
+use std::fmt::Write;
 use wire_xdr::Octets;
 
 const AT: Place = Place {
@@ -13,13 +19,12 @@ const AT: Place = Place {
 
 /// `slot LAST KEPT NUMBER ROOT`: what a number means under a root context on a slot with this last number, which keeps a
 /// reply to the root KEPT, or none where that is no number.
-pub fn slot(alloc: Global, words: &[&str]) -> Mem<String> {
+pub fn slot(alloc: Global, words: &[&str], text: &mut String) -> Mem<()> {
     let slot = Slot {
         last: number(words, 1),
         kept: kept(alloc, word(words, 2))?,
     };
-    let begun = slot.begin(AT, number(words, 3), number(words, 4));
-    Ok(format!(in alloc; "{begun:?}")?)
+    tell_begin(slot.begin(AT, number(words, 3), number(words, 4)), text)
 }
 
 fn kept(alloc: Global, word: &str) -> Mem<Option<Kept>> {
@@ -32,6 +37,11 @@ fn kept(alloc: Global, word: &str) -> Mem<Option<Kept>> {
     }
 }
 
+fn tell_begin(begin: Begin, text: &mut String) -> Mem<()> {
+    write!(text, "{begin:?}")?;
+    Ok(())
+}
+
 /// The ID of a session of boot 2.
 pub fn session_id(number: u32) -> [u8; 16] {
     let [a, b, c, d] = number.to_be_bytes();
@@ -40,32 +50,41 @@ pub fn session_id(number: u32) -> [u8; 16] {
 
 /// `begin SESSION SLOT NUMBER ROOT SECOND REPLY`: what a call is. One that is new is finished with this reply at this
 /// second; a repeated one is answered with the reply that is kept, and its client.
-pub fn begin(alloc: Global, sessions: &mut Sessions, words: &[&str]) -> Mem<String> {
+pub fn begin(alloc: Global, sessions: &mut Sessions, words: &[&str], text: &mut String) -> Mem<()> {
+    let (session, root) = (session_id(number(words, 1)), number(words, 4));
+    match sessions.begin(&session, number(words, 2), number(words, 3), root) {
+        Begin::New(place) => finish(alloc, sessions, place, words, text),
+        Begin::Replay(place) => tell_kept(sessions, place, text),
+        other => tell_begin(other, text),
+    }
+}
+
+fn finish(
+    alloc: Global,
+    sessions: &mut Sessions,
+    place: Place,
+    words: &[&str],
+    text: &mut String,
+) -> Mem<()>
+    requires there { IsSome (client_at sessions.old place.session) }
+    requires slot { place.slot < SLOTS }
+{
     let reply = bytes(alloc, words, 6)?;
     if reply.len() > 64 {
-        return Ok(format!(in alloc; "a long reply")?);
+        return tell(text, "a long reply");
     }
-    let root = number(words, 4);
-    match sessions.begin(
-        &session_id(number(words, 1)),
-        number(words, 2),
-        number(words, 3),
-        root,
-    ) {
-        Begin::New(place) => {
-            sessions.finish(
-                place,
-                root,
-                Octets::from_vec(reply),
-                u64::from(number(words, 5)),
-            );
-            Ok(format!(in alloc; "new")?)
-        }
-        Begin::Replay(place) => {
-            let client = sessions.client_of(place);
-            let kept = hex::encode(alloc, sessions.kept(place))?;
-            Ok(format!(in alloc; "kept {kept} of {client}")?)
-        }
-        other => Ok(format!(in alloc; "{other:?}")?),
-    }
+    let (root, now) = (number(words, 4), u64::from(number(words, 5)));
+    sessions.finish(place, root, Octets::from_vec(reply), now);
+    tell(text, "new")
+}
+
+fn tell_kept(sessions: &Sessions, place: Place, text: &mut String) -> Mem<()>
+    requires there { IsSome (client_at sessions.now place.session) }
+    requires slot { place.slot < SLOTS }
+    requires kept { IsSome (reply_at sessions.now place) }
+{
+    text.push_str("kept ")?;
+    tell_hex(sessions.kept(place), text)?;
+    write!(text, " of {}", sessions.client_of(place))?;
+    Ok(())
 }

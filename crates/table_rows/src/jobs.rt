@@ -1,8 +1,10 @@
+//! The jobs of a destination (`job_table`).
+
 use crate::fields::{long, tell};
 use job_table::{Chunk, JobId, JobStatus, Jobs, Landing, Plan, Refused};
 use nfs_base::{Handle, StateId, Status, Stop};
 use outcome::Mem;
-use row_text::{number, word, words};
+use row_text::{number, word};
 use std::alloc::Global;
 use std::fmt::Write;
 use wire_xdr::Octets;
@@ -25,30 +27,47 @@ impl JobLines {
         })
     }
 
-    /// `case CAPACITY`: a table of its own.
-    pub fn begin(&mut self, alloc: Global, capacity: u64) -> Mem<()> {
+    /// The answer to a call: `accept FILE SOFF DOFF COUNT c|n`, whose answer is `job N`, `overlap N` or `full`; `claim N`,
+    /// with `OFF LEN` or `none`; `landing N OFF LEN` and `land N OFF LEN`, with `landed`, `held` or `late`; `status N`,
+    /// with the bytes that landed and `running` or a status, or `gone`; `next N`, with a number or `none`; `len N`, with a
+    /// length or `none`; `is N`, with what holds of the job; `landed`, with the bytes of all jobs; `sweep N STEP`, with how
+    /// many chunks landed, were held and were late; and those without an answer: `case CAPACITY`, which begins a table of
+    /// its own, and, where its conditions hold, `size N LEN`, with the room for it, `give_back N OFF LEN`, `stop N CAUSE`,
+    /// `committed N`, `reported N` and `retire N`.
+    pub fn answer(&mut self, alloc: Global, words: &[&str], text: &mut String) -> Mem<()> {
+        let job = id(words);
+        match word(words, 0) {
+            "accept" => self.accept(alloc, words, text),
+            "claim" => tell_claim(self.jobs.claim(job), text),
+            "landing" => tell_landing(self.jobs.landing(job, chunk(words)), text),
+            "land" => tell_landing(self.jobs.land(job, chunk(words)), text),
+            "status" => tell_status(self.jobs.status(job), text),
+            "next" => tell_next(self.jobs.next(number(words, 1)), text),
+            "len" => tell_len(self.jobs.len(job), text),
+            "is" => self.state(job, text),
+            "landed" => tell_long(self.jobs.landed(), text),
+            "sweep" => self.sweep(alloc, job, number(words, 2) as usize, text),
+            "case" => self.begin(alloc, long(words, 1)),
+            _ => tell_done(self.is_done(job, words)?, text),
+        }
+    }
+
+    fn begin(&mut self, alloc: Global, capacity: u64) -> Mem<()> {
         self.jobs = Jobs::new(alloc, BOOT, capacity)?;
         Ok(())
     }
 
-    /// Does a call that has no answer, where its conditions hold: `size N LEN`, with the room for it, `give_back N OFF
-    /// LEN`, `stop N CAUSE`, `committed N`, `reported N` and `retire N`.
-    pub fn is_done(&mut self, alloc: Global, call: &str) -> Mem<bool> {
-        let words = words(alloc, call)?;
-        let words = words.as_slice();
-        let job = id(words);
+    fn is_done(&mut self, job: JobId, words: &[&str]) -> Mem<bool> {
         match word(words, 0) {
-            "size" => self.size(job, long(words, 2)),
-            "give_back" => {
-                self.jobs.give_back(job, chunk(words));
-                Ok(true)
-            }
-            "stop" => Ok(self.stop(job, words)),
-            "committed" => Ok(self.commit(job)),
-            "reported" => Ok(self.report(job)),
-            "retire" => Ok(self.retire(job)),
-            _ => Ok(false),
+            "size" => return self.size(job, long(words, 2)),
+            "give_back" => self.jobs.give_back(job, chunk(words)),
+            "stop" => return Ok(self.stop(job, words)),
+            "committed" => return Ok(self.commit(job)),
+            "reported" => return Ok(self.report(job)),
+            "retire" => return Ok(self.retire(job)),
+            _ => return Ok(false),
         }
+        Ok(true)
     }
 
     fn size(&mut self, job: JobId, len: u64) -> Mem<bool> {
@@ -101,30 +120,6 @@ impl JobLines {
             return true;
         }
         false
-    }
-
-    /// The answer to a call: `accept FILE SOFF DOFF COUNT c|n`, whose answer is `job N`, `overlap N` or `full`; `claim N`,
-    /// with `OFF LEN` or `none`; `landing N OFF LEN` and `land N OFF LEN`, with `landed`, `held` or `late`; `status N`,
-    /// with the bytes that landed and `running` or a status, or `gone`; `next N`, with a number or `none`; `len N`, with a
-    /// length or `none`; `is N`, with what holds of the job; `landed`, with the bytes of all jobs; and `sweep N STEP`,
-    /// with how many chunks landed, were held and were late.
-    pub fn answer(&mut self, alloc: Global, call: &str, text: &mut String) -> Mem<()> {
-        let words = words(alloc, call)?;
-        let words = words.as_slice();
-        let job = id(words);
-        match word(words, 0) {
-            "accept" => self.accept(alloc, words, text),
-            "claim" => tell_claim(self.jobs.claim(job), text),
-            "landing" => tell_landing(self.jobs.landing(job, chunk(words)), text),
-            "land" => tell_landing(self.jobs.land(job, chunk(words)), text),
-            "status" => tell_status(self.jobs.status(job), text),
-            "next" => tell_next(self.jobs.next(number(words, 1)), text),
-            "len" => tell_len(self.jobs.len(job), text),
-            "is" => self.state(job, text),
-            "landed" => tell_long(self.jobs.landed(), text),
-            "sweep" => self.sweep(alloc, job, number(words, 2) as usize, text),
-            _ => tell(text, "no call"),
-        }
     }
 
     fn accept(&mut self, alloc: Global, words: &[&str], text: &mut String) -> Mem<()> {
@@ -273,6 +268,11 @@ impl Swept {
 fn tell_swept(swept: Swept, text: &mut String) -> Mem<()> {
     write!(text, "{} {} {}", swept.landed, swept.held, swept.late)?;
     Ok(())
+}
+
+/// Tells nothing of a call that was done.
+fn tell_done(is_done: bool, text: &mut String) -> Mem<()> {
+    tell_where(!is_done, text, "not done")
 }
 
 fn tell_accepted(accepted: Result<JobId, Refused>, text: &mut String) -> Mem<()> {

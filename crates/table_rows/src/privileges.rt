@@ -1,34 +1,36 @@
+//! Privileges by name (`copy_privs`).
+
 ghost use Rattle.copy_privs.specs.Forms.{PrivilegeFits};
 
-use crate::fields::{octets, tell};
+use crate::fields::{octets, tell, tell_hex};
 use copy_privs::{PrivFault, Privilege, read_privilege, write_privilege};
 use outcome::Mem;
-use row_text::words;
 use std::alloc::Global;
 use std::fmt::Write;
 use wire_xdr::Octets;
 
-/// Whether a line `NAME BYTES ANSWER` is met. The answer is `from SECRET USER`, `to SECRET N USER` with the number
-/// of sources, `confirm CODE USER`, `unknown`, or `bad AT`. What was read is written again, to the same bytes.
-pub fn is_met(alloc: Global, line: &str) -> Mem<bool> {
+/// The answer that a line `NAME BYTES ANSWER` wants.
+pub fn wanted(line: &str) -> &str {
     let Some((_, rest)) = line.split_once(' ') else {
-        return Ok(false);
+        return "";
     };
-    let Some((_, wanted)) = rest.split_once(' ') else {
-        return Ok(false);
-    };
-    let mut text = String::new(alloc);
-    tell_line(alloc, line, &mut text)?;
-    Ok(text.as_str() == wanted)
+    match rest.split_once(' ') {
+        Some((_, wanted)) => wanted,
+        None => "",
+    }
 }
 
-/// Tells the answer of a line.
-fn tell_line(alloc: Global, line: &str, text: &mut String) -> Mem<()> {
-    let words = words(alloc, line)?;
-    let (name, bytes) = (octets(alloc, &words, 0)?, octets(alloc, &words, 1)?);
-    match read_privilege(alloc, name.as_slice(), bytes.as_slice())? {
+/// What the bytes of `NAME BYTES ..` spell: `from SECRET USER`, `to SECRET N USER` with the number of sources, `confirm CODE
+/// USER`, `unknown`, or `bad AT`. What was read is written again, to the same bytes.
+pub fn answer(alloc: Global, words: &[&str], text: &mut String) -> Mem<()> {
+    let (name, bytes) = (octets(alloc, words, 0)?, octets(alloc, words, 1)?);
+    tell_read(alloc, name.as_slice(), bytes.as_slice(), text)
+}
+
+fn tell_read(alloc: Global, name: &[u8], bytes: &[u8], text: &mut String) -> Mem<()> {
+    match read_privilege(alloc, name, bytes)? {
         Ok(privilege) => {
-            let is_again = is_again(alloc, &privilege, name.as_slice(), bytes.as_slice())?;
+            let is_again = is_again(alloc, &privilege, name, bytes)?;
             tell_privilege(is_again, &privilege, text)
         }
         Err(fault) => tell_fault(fault, text),
@@ -82,8 +84,5 @@ fn tell_bytes(front: &str, bytes: &Octets, text: &mut String) -> Mem<()> {
     if bytes.is_empty() {
         return tell(text, "-");
     }
-    for byte in bytes.as_slice() {
-        write!(text, "{byte:02x}")?;
-    }
-    Ok(())
+    tell_hex(bytes.as_slice(), text)
 }

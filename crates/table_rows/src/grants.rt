@@ -1,10 +1,12 @@
+//! The grants of a source (`copy_grants`).
+
 use crate::creates;
-use crate::fields::{key, location, octets, tell};
+use crate::fields::{key, location, octets, tell, tell_number};
 use copy_grants::{Ask, Full, Grants, Permit, status_of};
 use gss_mech::Realm;
 use nfs_base::{NetLoc, StateId};
 use outcome::Mem;
-use row_text::{number, word, words};
+use row_text::{number, word};
 use std::alloc::Global;
 use std::fmt::Write;
 use wire_xdr::Octets;
@@ -24,38 +26,32 @@ impl GrantLines {
         })
     }
 
-    /// `case BOOT`: a table of its own.
-    pub fn begin(&mut self, alloc: Global, boot: u32) -> Mem<()> {
-        self.grants = Grants::new(alloc, boot)?;
-        Ok(())
-    }
-
-    /// `expire NOW`
-    pub fn expire(&mut self, now: u64) {
-        self.grants.expire(now);
-    }
-
-    /// The answer to a call: `notify NOW FILE LOC USER SECRET`, whose answer is a number or `full`;
+    /// The answer to a call: `case BOOT`, which begins a table of its own, and `expire NOW`, both without an answer; `notify NOW FILE LOC USER SECRET`, whose answer is a number or `full`;
     /// `permit NOW BOOT NUMBER FILE LOC CONFIRMED USER CODE KEY`, whose answer is `permitted` or a cause and a status;
     /// `shows NOW FILE LOC USER CODE KEY`, whose answer is `yes` or `no`; `cancel BOOT NUMBER`, whose answer is a status;
     /// `made`, with how many grants were made; `notify_taken`, as `notify`, by the call that takes over what it keeps; and
     /// those of `src/creates.rt`.
-    pub fn answer(&mut self, alloc: Global, call: &str, text: &mut String) -> Mem<()> {
-        let words = words(alloc, call)?;
-        let words = words.as_slice();
+    pub fn answer(&mut self, alloc: Global, words: &[&str], text: &mut String) -> Mem<()> {
         match word(words, 0) {
+            "case" => self.begin(alloc, number(words, 1)),
+            "expire" => self.expire(number(words, 1)),
             "notify" => self.notify(alloc, words, text),
             "notify_taken" => self.notify_taken(alloc, words, text),
             "permit" => self.permit(alloc, words, text),
             "shows" => self.shows(alloc, words, text),
             "cancel" => self.cancel(words, text),
-            "made" => self.tell_made(text),
+            "made" => tell_number(self.grants.made(), text),
             _ => creates::answer(alloc, words, text),
         }
     }
 
-    fn tell_made(&self, text: &mut String) -> Mem<()> {
-        write!(text, "{}", self.grants.made())?;
+    fn begin(&mut self, alloc: Global, boot: u32) -> Mem<()> {
+        self.grants = Grants::new(alloc, boot)?;
+        Ok(())
+    }
+
+    fn expire(&mut self, now: u32) -> Mem<()> {
+        self.grants.expire(u64::from(now));
         Ok(())
     }
 

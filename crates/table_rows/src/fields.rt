@@ -1,8 +1,11 @@
+//! The fields of a line, and how answers are told.
+
 use hex::FromHex;
 use nfs_base::NetLoc;
 use outcome::Mem;
 use row_text::{bytes, word};
 use std::alloc::Global;
+use std::fmt::Write;
 use wire_xdr::Octets;
 
 /// The number at a place, of 64 bits, and the greatest where there is none.
@@ -40,5 +43,24 @@ pub fn location(alloc: Global, words: &[&str], at: usize) -> Mem<Option<NetLoc>>
 /// Tells a text.
 pub fn tell(text: &mut String, what: &str) -> Mem<()> {
     text.push_str(what)?;
+    Ok(())
+}
+
+/// Tells a number.
+pub fn tell_number(number: u32, text: &mut String) -> Mem<()> {
+    write!(text, "{number}")?;
+    Ok(())
+}
+
+/// Tells `true` or `false`.
+pub fn tell_flag(flag: bool, text: &mut String) -> Mem<()> {
+    tell(text, if flag { "true" } else { "false" })
+}
+
+/// Tells bytes in hex.
+pub fn tell_hex(bytes: &[u8], text: &mut String) -> Mem<()> {
+    for byte in bytes {
+        write!(text, "{byte:02x}")?;
+    }
     Ok(())
 }
