@@ -1,6 +1,7 @@
 ghost use Rattle.std.specs.Prelude.{◌+◌, None, Some};
 ghost use Rattle.outcome.specs.Plan.{planned_faults};
 
+use crate::failing::{failing_sink, failing_source};
 use outcome::Mem;
 use std::alloc::Global;
 use streams::{MemSink, MemSource, Put, Sink, Source, Stream, Take};
@@ -18,17 +19,11 @@ pub fn cut_link(
     alloc: Global,
     bytes: Vec<u8>,
     most: usize,
-    (read_fails, write_fails): (u64, u64),
+    (read_fails, write_fails): (u32, u32),
 ) -> Mem<CutLink> {
-    let source = MemSource::new(bytes, vec![in alloc; read_fails]?);
-    joined(alloc, source, write_fails, most)
-}
-
-fn joined(alloc: Global, source: MemSource, write_fails: u64, most: usize) -> Mem<CutLink> {
-    let failing = vec![in alloc; write_fails]?;
     Ok(CutLink {
-        source,
-        sink: MemSink::new(alloc, failing),
+        source: failing_source(alloc, bytes, read_fails)?,
+        sink: failing_sink(alloc, write_fails)?,
         most,
     })
 }

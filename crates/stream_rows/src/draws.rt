@@ -1,5 +1,6 @@
 //! Draws: by count, and from memory.
 
+use crate::failing::failing;
 use crate::told::tell_hex;
 use outcome::Mem;
 use std::alloc::Global;
@@ -34,12 +35,12 @@ pub fn digests(times: u32, text: &mut String) -> Mem<()> {
 /// Draws from two that lie ready, ones and twos, where the call with a number fails.
 pub fn in_memory(alloc: Global, fails: u32, times: u32, text: &mut String) -> Mem<()> {
     let ready = vec![in alloc; [1; 32], [2; 32]]?;
-    let failing = vec![in alloc; u64::from(fails)]?;
-    tell_draws(MemDraws::new(ready, failing), times, text)
+    let mut draws = MemDraws::new(ready, failing(alloc, fails)?);
+    drawn(&mut draws, times, text)?;
+    tell_draws(&draws, text)
 }
 
-fn tell_draws(mut draws: MemDraws, times: u32, text: &mut String) -> Mem<()> {
-    drawn(&mut draws, times, text)?;
+fn tell_draws(draws: &MemDraws, text: &mut String) -> Mem<()> {
     write!(text, "calls {} left {}", draws.calls(), draws.left().len())?;
     Ok(())
 }

@@ -52,13 +52,19 @@ pub fn call(alloc: Global, bytes: &[u8], text: &mut String) -> Mem<()> {
 }
 
 fn tell_call(head: &CallHead, body: usize, text: &mut String) -> Mem<()> {
-    write!(text, "{} {} {}", head.xid, head.rpcvers, head.prog)?;
-    write!(text, " {} {}", head.vers, head.proc)?;
-    write!(
+    tell_numbers(
+        &[head.xid, head.rpcvers, head.prog, head.vers, head.proc],
         text,
-        " {} {} body {body}",
-        head.cred.flavor, head.verf.flavor
     )?;
+    tell_numbers(&[head.cred.flavor, head.verf.flavor], text)?;
+    write!(text, "body {body}")?;
+    Ok(())
+}
+
+fn tell_numbers(numbers: &[u32], text: &mut String) -> Mem<()> {
+    for number in numbers {
+        write!(text, "{number} ")?;
+    }
     Ok(())
 }
 

@@ -5,6 +5,7 @@
 
 mod cut_link;
 mod draws;
+mod failing;
 mod heads;
 mod made;
 mod pump;

@@ -2,11 +2,12 @@
 
 ghost use Rattle.std.specs.Prelude.{⊤};
 
-use crate::cut_link::cut_link;
+use crate::cut_link::{CutLink, cut_link};
+use crate::failing::failing_sink;
 use crate::told::tell_record;
 use outcome::Mem;
 use row_text::{bytes, number, word};
-use rpc_msg::{Handler, MemSink, RecordFeed, pump_records};
+use rpc_msg::{Handler, MemSink, Pumped, RecordFeed, pump_records};
 use std::alloc::Global;
 use std::fmt::Write;
 use wire_xdr::Octets;
@@ -29,27 +30,39 @@ impl Handler for Nine {
 /// `pump MOST BUDGET LEFT READ PUT BYTES`, where the calls with the numbers READ and PUT fail and a budget that is no
 /// number is the greatest: how it ended, how many records are left, and what was put.
 pub fn pump(alloc: Global, words: &[&str], text: &mut String) -> Mem<()> {
-    let mut sink = MemSink::new(alloc, vec![in alloc; u64::from(number(words, 5))]?);
-    tell_pumped(alloc, words, &mut sink, text)?;
+    let mut source = source(alloc, words)?;
+    let mut sink = failing_sink(alloc, number(words, 5))?;
+    tell_pumped(alloc, words, (&mut source, &mut sink), text)?;
     tell_record(text, sink.bytes())
 }
 
-fn tell_pumped(alloc: Global, words: &[&str], sink: &mut MemSink, text: &mut String) -> Mem<()> {
+fn source(alloc: Global, words: &[&str]) -> Mem<CutLink> {
     let most = number(words, 1) as usize;
-    let reads = u64::from(number(words, 4));
-    let mut source = cut_link(alloc, bytes(alloc, words, 6)?, most, (reads, 0))?;
-    let mut feed = RecordFeed::new(alloc)?;
-    let budget = word(words, 2).parse::<u64>().unwrap_or(u64::MAX);
+    cut_link(alloc, bytes(alloc, words, 6)?, most, (number(words, 4), 0))
+}
+
+fn tell_pumped(
+    alloc: Global,
+    words: &[&str],
+    ends: (&mut CutLink, &mut MemSink),
+    text: &mut String,
+) -> Mem<()> {
     let mut left = u64::from(number(words, 3));
-    let pumped = pump_records(
-        alloc,
-        &mut source,
-        sink,
-        &mut feed,
-        &mut Nine,
-        budget,
-        &mut left,
-    )?;
+    let pumped = pumped(alloc, ends, budget(words), &mut left)?;
     write!(text, "{pumped:?} left {left} put ")?;
     Ok(())
+}
+
+fn budget(words: &[&str]) -> u64 {
+    word(words, 2).parse::<u64>().unwrap_or(u64::MAX)
+}
+
+fn pumped(
+    alloc: Global,
+    (source, sink): (&mut CutLink, &mut MemSink),
+    budget: u64,
+    left: &mut u64,
+) -> Mem<Pumped> {
+    let mut feed = RecordFeed::new(alloc)?;
+    pump_records(alloc, source, sink, &mut feed, &mut Nine, budget, left)
 }

@@ -11,8 +11,11 @@ use std::fmt::Write;
 pub fn feed(alloc: Global, size: u32, bytes: &[u8], text: &mut String) -> Mem<()> {
     let mut feed = RecordFeed::new(alloc)?;
     let times = feed_pieces(&mut feed, size, bytes, text)?;
-    let none = feed.feed(&[]);
-    write!(text, "{times} pieces, then {} {:?}", none.0, none.1)?;
+    tell_times(times, feed.feed(&[]), text)
+}
+
+fn tell_times(times: u32, (count, fed): (usize, Fed), text: &mut String) -> Mem<()> {
+    write!(text, "{times} pieces, then {count} {fed:?}")?;
     Ok(())
 }
 
@@ -59,19 +62,23 @@ fn feed_all(feed: &mut RecordFeed, bytes: &[u8], text: &mut String) -> Mem<Fed> 
 pub fn cuts(alloc: Global, bytes: &[u8], text: &mut String) -> Mem<()> {
     let mut fronts = Fronts::new(alloc);
     for cut in 0..=bytes.len() {
-        let told = told_cut(alloc, bytes.split_at(cut))?;
+        let mut told = String::new(alloc);
+        tell_cut(alloc, bytes.split_at(cut), &mut told)?;
         fronts.tell(text, cut, told)?;
     }
     Ok(())
 }
 
-fn told_cut(alloc: Global, (first, second): (&[u8], &[u8])) -> Mem<String> {
+fn tell_cut(alloc: Global, (first, second): (&[u8], &[u8]), told: &mut String) -> Mem<()> {
     let mut feed = RecordFeed::new(alloc)?;
-    let mut told = String::new(alloc);
-    feed_all(&mut feed, first, &mut told)?;
-    let fed = feed_all(&mut feed, second, &mut told)?;
+    feed_all(&mut feed, first, told)?;
+    let fed = feed_all(&mut feed, second, told)?;
+    tell_last(fed, told)
+}
+
+fn tell_last(fed: Fed, told: &mut String) -> Mem<()> {
     write!(told, " {fed:?}")?;
-    Ok(told)
+    Ok(())
 }
 
 /// The header of a record of so many bytes in one fragment.

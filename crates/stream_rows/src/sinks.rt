@@ -1,5 +1,6 @@
 //! Sinks in memory, and writers as sinks.
 
+use crate::failing::failing_sink;
 use outcome::Mem;
 use row_text::number;
 use std::alloc::Global;
@@ -35,8 +36,12 @@ fn put_once<K: Sink>(sink: &mut K, piece: &[u8], text: &mut String) -> Mem<()> {
 
 /// `sink FAILS PUT..`: the puts, the bytes that came in, the number of calls, and how often memory was wanted.
 pub fn sink(alloc: Global, words: &[&str], text: &mut String) -> Mem<()> {
-    let mut sink = MemSink::new(alloc, vec![in alloc; u64::from(number(words, 1))]?);
+    let mut sink = failing_sink(alloc, number(words, 1))?;
     puts(&mut sink, words, 2, text)?;
+    tell_sink(&sink, text)
+}
+
+fn tell_sink(sink: &MemSink, text: &mut String) -> Mem<()> {
     tell_letters(sink.bytes(), text)?;
     write!(text, " calls {} starved {}", sink.calls(), sink.starved())?;
     Ok(())
@@ -55,6 +60,10 @@ pub fn writer(words: &[&str], text: &mut String) -> Mem<()> {
     let mut sink = Writing::new(Cursor::new(room.as_mut_slice()));
     puts(&mut sink, words, 1, text)?;
     let faults = sink.faults();
-    write!(text, "faults {faults} at {}", sink.into_inner().position())?;
+    tell_place(faults, sink.into_inner().position(), text)
+}
+
+fn tell_place(faults: u64, at: u64, text: &mut String) -> Mem<()> {
+    write!(text, "faults {faults} at {at}")?;
     Ok(())
 }

@@ -1,5 +1,6 @@
 //! Sources in memory, and readers as sources.
 
+use crate::failing::failing_source;
 use outcome::Mem;
 use row_text::{bytes, number, word};
 use std::alloc::Global;
@@ -35,16 +36,20 @@ fn tell_bytes(room: &[u8; 4], count: usize, text: &mut String) -> Mem<()> {
     Ok(())
 }
 
-/// A source of these bytes, of which the call with a number fails.
-fn source(alloc: Global, bytes: Vec<u8>, fails: u32) -> Mem<MemSource> {
-    Ok(MemSource::new(bytes, vec![in alloc; u64::from(fails)]?))
+/// A source of the bytes of the words from the third on, of which the call with a number fails.
+fn source(alloc: Global, words: &[&str], fails: u32) -> Mem<MemSource> {
+    failing_source(alloc, bytes(alloc, words, 3)?, fails)
 }
 
 /// `takes FAILS TIMES BYTES`: the takes, how many bytes are left and how many calls there were, and what a take
 /// without room answers.
 pub fn takes(alloc: Global, words: &[&str], text: &mut String) -> Mem<()> {
-    let mut source = source(alloc, bytes(alloc, words, 3)?, number(words, 1))?;
+    let mut source = source(alloc, words, number(words, 1))?;
     taken(&mut source, number(words, 2), text)?;
+    tell_rest(&mut source, text)
+}
+
+fn tell_rest(source: &mut MemSource, text: &mut String) -> Mem<()> {
     let (left, calls) = (source.bytes().len(), source.calls());
     let none = source.take(&mut []);
     write!(text, "left {left} calls {calls} {none:?}")?;
@@ -96,7 +101,7 @@ pub fn whole(alloc: Global, words: &[&str], text: &mut String) -> Mem<()> {
 }
 
 fn read(alloc: Global, words: &[&str]) -> Mem<Whole> {
-    let mut source = source(alloc, bytes(alloc, words, 3)?, number(words, 2))?;
+    let mut source = source(alloc, words, number(words, 2))?;
     read_whole(alloc, &mut source, number(words, 1) as usize)
 }
 

@@ -34,12 +34,15 @@ fn tell_down(down: Option<Down>, text: &mut String) -> Mem<()> {
 /// numbers READ and PUT fail: its first record, so many puts of three bytes, the records behind it until the link is
 /// down, that once more, and the bytes that were sent and the takes that were made.
 pub fn watch(alloc: Global, words: &[&str], text: &mut String) -> Mem<()> {
-    let most = number(words, 1) as usize;
-    let fails = (u64::from(number(words, 2)), u64::from(number(words, 3)));
-    let link = cut_link(alloc, bytes(alloc, words, 5)?, most, fails)?;
-    let mut watched = Watched::new(link, RecordFeed::new(alloc)?);
+    let mut watched = Watched::new(link(alloc, words)?, RecordFeed::new(alloc)?);
     use_link(&mut watched, number(words, 4), text)?;
     tell_end(watched, text)
+}
+
+fn link(alloc: Global, words: &[&str]) -> Mem<CutLink> {
+    let most = number(words, 1) as usize;
+    let fails = (number(words, 2), number(words, 3));
+    cut_link(alloc, bytes(alloc, words, 5)?, most, fails)
 }
 
 fn use_link(watched: &mut Watched<CutLink>, puts: u32, text: &mut String) -> Mem<()> {
@@ -61,7 +64,10 @@ fn use_link(watched: &mut Watched<CutLink>, puts: u32, text: &mut String) -> Mem
 fn tell_end(mut watched: Watched<CutLink>, text: &mut String) -> Mem<()> {
     let sent = watched.sent();
     let came = watched.link().sink.bytes().len();
-    let calls = watched.into_link().source.calls();
+    tell_counts(sent, came, watched.into_link().source.calls(), text)
+}
+
+fn tell_counts(sent: u64, came: usize, calls: u64, text: &mut String) -> Mem<()> {
     write!(text, "sent {sent} {came} takes {calls}")?;
     Ok(())
 }
