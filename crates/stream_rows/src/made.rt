@@ -1,5 +1,6 @@
 //! Heads that are made here, as they are written.
 
+use crate::told::print_bytes;
 use outcome::Mem;
 use rpc_msg::{
     Auth, CallHead, Denial, GssCred, ReplyHead, Stat, system_error, write_call, write_reply,
@@ -51,16 +52,6 @@ fn cred(alloc: Global) -> Mem<Octets> {
         handle: Octets::from_slice(alloc, &[1, 2, 3, 4])?,
     };
     write_all(alloc, &cred)
-}
-
-fn print_bytes(rt: &HostRuntime, bytes: Mem<Octets>) -> io::Result<()> {
-    let Ok(bytes) = bytes else {
-        return println!(rt; "out of memory");
-    };
-    match hex::encode(rt.alloc(), &bytes.into_vec()) {
-        Ok(text) => println!(rt; "{text}"),
-        Err(_) => println!(rt; "out of memory"),
-    }
 }
 
 /// Prints a call, one with a body, SYSTEM_ERR, a mismatch of versions, a denial, and a credential.

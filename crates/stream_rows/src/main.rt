@@ -1,6 +1,7 @@
-//! Tables over sources, sinks and draws, crate `streams`, and over records, heads of messages and watched links, crate
-//! `rpc_msg`, from standard input (`row_text`). Behind the count of lines stand heads that are made here. Every
-//! expected answer is written by hand from `docs/formats.md` and RFC 5531.
+//! Tables over sources, sinks and draws, crate `streams`, over records, heads of messages and watched links, crate
+//! `rpc_msg`, and over XDR, crate `wire_xdr`, from standard input (`row_text`). Behind the count of lines stand heads
+//! that are made here, and words of XDR as they are written. Every expected answer is written by hand from
+//! `docs/formats.md`, RFC 4506 and RFC 5531.
 #![tactic(auto)]
 
 mod cut_link;
@@ -14,6 +15,7 @@ mod sinks;
 mod sources;
 mod told;
 mod watched;
+mod xdr;
 
 use outcome::Mem;
 use row_text::{Rows, bytes, compare, number, word, words};
@@ -48,7 +50,8 @@ fn tell(alloc: Global, call: &str, text: &mut String) -> Mem<()> {
         "pump" => pump::pump(alloc, &words, text),
         "watch" => watched::watch(alloc, &words, text),
         "feed" => fed(alloc, first, &words, text),
-        kind => read(alloc, kind, &words, text),
+        "cuts" | "fronts" | "call" | "reply" | "cred" => read(alloc, &words, text),
+        kind => xdr::read(alloc, kind, &words, text),
     }
 }
 
@@ -58,23 +61,21 @@ fn fed(alloc: Global, size: u32, words: &[&str], text: &mut String) -> Mem<()> {
     records::feed(alloc, size, &bytes, text)
 }
 
-/// What bytes are read as, `KIND BYTES`.
-fn read(alloc: Global, kind: &str, words: &[&str], text: &mut String) -> Mem<()> {
+/// What records and heads bytes are read as, `KIND BYTES`.
+fn read(alloc: Global, words: &[&str], text: &mut String) -> Mem<()> {
     let bytes = bytes(alloc, words, 1)?;
-    match kind {
+    match word(words, 0) {
         "cuts" => records::cuts(alloc, &bytes, text),
         "fronts" => heads::fronts(alloc, &bytes, text),
         "call" => heads::call(alloc, &bytes, text),
         "reply" => heads::reply(alloc, &bytes, text),
-        "cred" => heads::cred(alloc, &bytes, text),
-        _ => {
-            text.push_str("no such call")?;
-            Ok(())
-        }
+        _ => heads::cred(alloc, &bytes, text),
     }
 }
 
 fn main(rt: HostRuntime) -> io::Result<()> {
     compare(&rt, &mut StreamRows)?;
-    made::print(&rt)
+    made::print(&rt)?;
+    xdr::laws::hold();
+    xdr::words::print(&rt)
 }

@@ -2,6 +2,8 @@
 
 use outcome::Mem;
 use std::fmt::Write;
+use std::io;
+use wire_xdr::Octets;
 
 /// Tells bytes in hex.
 pub fn tell_hex(text: &mut String, bytes: &[u8]) -> Mem<()> {
@@ -21,6 +23,17 @@ pub fn tell_record(text: &mut String, record_: &[u8]) -> Mem<()> {
     }
     text.push_str("]")?;
     Ok(())
+}
+
+/// Prints bytes in hex.
+pub fn print_bytes(rt: &HostRuntime, bytes: Mem<Octets>) -> io::Result<()> {
+    let Ok(bytes) = bytes else {
+        return println!(rt; "out of memory");
+    };
+    match hex::encode(rt.alloc(), &bytes.into_vec()) {
+        Ok(text) => println!(rt; "{text}"),
+        Err(_) => println!(rt; "out of memory"),
+    }
 }
 
 /// Answers to one call of ever longer fronts: each that is another one than the one before, with the length.

@@ -1,7 +1,9 @@
 //! Words of XDR.
 
+use crate::told::print_bytes;
 use outcome::Mem;
 use std::alloc::Global;
+use std::fmt::Write;
 use std::io;
 use wire_xdr::{Octets, Page, Reader, Writer, XdrFault};
 
@@ -18,24 +20,26 @@ fn fields(bytes: &[u8]) -> Result<(u64, i64, bool, usize, u32, usize), XdrFault>
 }
 
 /// The same as text, or the first fault.
-pub fn read(alloc: Global, bytes: &[u8]) -> Mem<String> {
+pub fn read(bytes: &[u8], text: &mut String) -> Mem<()> {
     match fields(bytes) {
         Ok((number, signed, flag, fixed, count, left)) => {
-            Ok(format!(in alloc; "{number} {signed} {flag} {fixed} {count} left {left}")?)
+            write!(text, "{number} {signed} {flag} {fixed} {count} left {left}")?;
         }
-        Err(fault) => Ok(format!(in alloc; "{fault:?}")?),
+        Err(fault) => write!(text, "{fault:?}")?,
     }
+    Ok(())
 }
 
 /// The fault of a word of a kind, and where the reader then stands: at the front, where it stood.
-pub fn fault(alloc: Global, kind: &str, limit: u32, bytes: &[u8]) -> Mem<String> {
+pub fn fault(kind: &str, limit: u32, bytes: &[u8], text: &mut String) -> Mem<()> {
     let mut reader = Reader::new(bytes);
     let fault = match kind {
         "opaque" => reader.opaque(limit).err(),
         "flag" => reader.flag().err(),
         _ => reader.u32().err(),
     };
-    Ok(format!(in alloc; "{fault:?} at {}", reader.at())?)
+    write!(text, "{fault:?} at {}", reader.at())?;
+    Ok(())
 }
 
 fn written(alloc: Global) -> Mem<Octets> {
@@ -56,16 +60,6 @@ fn on_a_page(alloc: Global) -> Mem<Octets> {
     page.opaque(b"abcde");
     page.append(b"f");
     Ok(page.finish())
-}
-
-fn print_bytes(rt: &HostRuntime, bytes: Mem<Octets>) -> io::Result<()> {
-    let Ok(bytes) = bytes else {
-        return println!(rt; "out of memory");
-    };
-    match hex::encode(rt.alloc(), &bytes.into_vec()) {
-        Ok(text) => println!(rt; "{text}"),
-        Err(_) => println!(rt; "out of memory"),
-    }
 }
 
 /// Prints the words that a writer and a page have of the same and other values.

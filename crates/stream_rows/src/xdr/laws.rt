@@ -1,4 +1,6 @@
-use crate::sample::{FileKind, Request};
+//! The laws of XDR, as a caller names them.
+
+use crate::xdr::sample::{FileKind, Request};
 use wire_xdr::{
     all_is_spelled, is_form, no_prefix, no_prefix_by, one_spelling, one_spelling_by,
     refused_within, word_lengths, words_are_forms,
