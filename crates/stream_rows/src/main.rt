@@ -36,22 +36,35 @@ impl Rows for StreamRows {
 /// Tells the answer to a call.
 fn tell(alloc: Global, call: &str, text: &mut String) -> Mem<()> {
     let words = words(alloc, call)?;
-    let (first, second) = (number(&words, 1), number(&words, 2));
-    match word(&words, 0) {
-        "takes" => sources::takes(alloc, &words, text),
-        "reads" => sources::reads(&words, text),
+    of_streams(alloc, &words, text)
+}
+
+/// Calls of sources, sinks and draws, and behind them all others.
+fn of_streams(alloc: Global, words: &[&str], text: &mut String) -> Mem<()> {
+    let (first, second) = (number(words, 1), number(words, 2));
+    match word(words, 0) {
+        "takes" => sources::takes(alloc, words, text),
+        "reads" => sources::reads(words, text),
         "interrupted" => sources::interrupted(first, second, text),
-        "whole" => sources::whole(alloc, &words, text),
-        "sink" => sinks::sink(alloc, &words, text),
-        "writer" => sinks::writer(&words, text),
+        "whole" => sources::whole(alloc, words, text),
+        "sink" => sinks::sink(alloc, words, text),
+        "writer" => sinks::writer(words, text),
         "digests" => draws::digests(first, text),
         "draws" => draws::in_memory(alloc, first, second, text),
+        _ => of_records(alloc, words, text),
+    }
+}
+
+/// Calls of records, heads and links, and behind them those of XDR.
+fn of_records(alloc: Global, words: &[&str], text: &mut String) -> Mem<()> {
+    let first = number(words, 1);
+    match word(words, 0) {
         "mark" => records::mark_of(first, text),
-        "pump" => pump::pump(alloc, &words, text),
-        "watch" => watched::watch(alloc, &words, text),
-        "feed" => fed(alloc, first, &words, text),
-        "cuts" | "fronts" | "call" | "reply" | "cred" => read(alloc, &words, text),
-        kind => xdr::read(alloc, kind, &words, text),
+        "pump" => pump::pump(alloc, words, text),
+        "watch" => watched::watch(alloc, words, text),
+        "feed" => fed(alloc, first, words, text),
+        "cuts" | "fronts" | "call" | "reply" | "cred" => read(alloc, words, text),
+        kind => xdr::read(alloc, kind, words, text),
     }
 }
 
@@ -61,15 +74,19 @@ fn fed(alloc: Global, size: u32, words: &[&str], text: &mut String) -> Mem<()> {
     records::feed(alloc, size, &bytes, text)
 }
 
-/// What records and heads bytes are read as, `KIND BYTES`.
+/// `KIND BYTES`.
 fn read(alloc: Global, words: &[&str], text: &mut String) -> Mem<()> {
     let bytes = bytes(alloc, words, 1)?;
-    match word(words, 0) {
-        "cuts" => records::cuts(alloc, &bytes, text),
-        "fronts" => heads::fronts(alloc, &bytes, text),
-        "call" => heads::call(alloc, &bytes, text),
-        "reply" => heads::reply(alloc, &bytes, text),
-        _ => heads::cred(alloc, &bytes, text),
+    read_as(alloc, word(words, 0), &bytes, text)
+}
+
+fn read_as(alloc: Global, kind: &str, bytes: &[u8], text: &mut String) -> Mem<()> {
+    match kind {
+        "cuts" => records::cuts(alloc, bytes, text),
+        "fronts" => heads::fronts(alloc, bytes, text),
+        "call" => heads::call(alloc, bytes, text),
+        "reply" => heads::reply(alloc, bytes, text),
+        _ => heads::cred(alloc, bytes, text),
     }
 }
 
