@@ -1,7 +1,7 @@
 //! The example of RFC 4506 section 7, and a few types more: how types are read and written by the forms
 //! that `specs/Samples.antt` gives them.
 
-ghost use Rattle.stream_rows.specs.Samples.{file_kind, file, label, folder, outcome, request, request_number, request_own};
+ghost use Rattle.xdr_rows.specs.Samples.{file_kind, file, label, folder, outcome, request, request_number, request_own};
 
 use outcome::Mem;
 use std::alloc::Global;

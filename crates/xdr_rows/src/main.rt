@@ -23,9 +23,9 @@ use std::alloc::Global;
 use std::io;
 
 #[derive(Drop)]
-struct StreamRows;
+struct XdrRows;
 
-impl Rows for StreamRows {
+impl Rows for XdrRows {
     fn answer(&mut self, alloc: Global, call: &str) -> Mem<String> {
         let mut text = String::new(alloc);
         tell(alloc, call, &mut text)?;
@@ -91,7 +91,7 @@ fn read_as(alloc: Global, kind: &str, bytes: &[u8], text: &mut String) -> Mem<()
 }
 
 fn main(rt: HostRuntime) -> io::Result<()> {
-    compare(&rt, &mut StreamRows)?;
+    compare(&rt, &mut XdrRows)?;
     made::print(&rt)?;
     xdr::laws::hold();
     xdr::words::print(&rt)

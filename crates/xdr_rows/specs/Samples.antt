@@ -1,15 +1,15 @@
 -- Forms of sample types: the file of RFC 4506 section 7, and a few more.
 use Rattle.std.specs.Prelude.{◌≡◌, ℕ, List, [], ◌∷◌, refl, ◌%◌, ◌==◌, Bool}
 use Rattle.std.proofs.Common.{lit<}
-use Rattle.stream_rows.specs.declared.xdr.sample.FileKind.{FileKind}
-use Rattle.stream_rows.specs.declared.xdr.sample.FileKind.TheVariants.{Text, Data, Exec}
-use Rattle.stream_rows.specs.declared.xdr.sample.File.{File}
-use Rattle.stream_rows.specs.declared.xdr.sample.Label.{Label}
-use Rattle.stream_rows.specs.declared.xdr.sample.Folder.{Folder}
-use Rattle.stream_rows.specs.declared.xdr.sample.Outcome.{Outcome}
-use Rattle.stream_rows.specs.declared.xdr.sample.Outcome.TheVariants.{Done, Refused}
-use Rattle.stream_rows.specs.declared.xdr.sample.Request.{Request}
-use Rattle.stream_rows.specs.declared.xdr.sample.Request.TheVariants as requests
+use Rattle.xdr_rows.specs.declared.xdr.sample.FileKind.{FileKind}
+use Rattle.xdr_rows.specs.declared.xdr.sample.FileKind.TheVariants.{Text, Data, Exec}
+use Rattle.xdr_rows.specs.declared.xdr.sample.File.{File}
+use Rattle.xdr_rows.specs.declared.xdr.sample.Label.{Label}
+use Rattle.xdr_rows.specs.declared.xdr.sample.Folder.{Folder}
+use Rattle.xdr_rows.specs.declared.xdr.sample.Outcome.{Outcome}
+use Rattle.xdr_rows.specs.declared.xdr.sample.Outcome.TheVariants.{Done, Refused}
+use Rattle.xdr_rows.specs.declared.xdr.sample.Request.{Request}
+use Rattle.xdr_rows.specs.declared.xdr.sample.Request.TheVariants as requests
 use Rattle.wire_xdr.specs.Form.{Form}
 use Rattle.wire_xdr.specs.Arms.{Case, ArmOf, IsListed, IsPicked, arm, holds, defaults, number_of, other_arm}
 use Rattle.wire_xdr.specs.Forms.{word, hyper, fixed, opaque, opaque_between, void, both, seen_as, such_that, list, option, chosen, union, union_or}
