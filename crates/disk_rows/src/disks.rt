@@ -1,20 +1,19 @@
 //! Calls of a disk.
 
-use crate::told::{next, tell, tell_rows};
+use crate::told::{add_number, tell, tell_number, tell_rows};
 use blind_disk::BlindDisk;
 use disk_model::{Block, CrashDisk, Disk, Io};
 use outcome::Mem;
 use row_text::{number, word};
 use std::alloc::Global;
-use std::fmt::Write;
 
-/// `disk BLOCKS FAILING..`: a disk of so many blocks, of which the calls with these numbers fail.
-pub fn new_disk(alloc: Global, words: &[&str]) -> Mem<BlindDisk> {
+/// A disk of so many blocks, of which the calls fail that the words from a place on number.
+pub fn new_disk(alloc: Global, blocks: u32, words: &[&str], at: usize) -> Mem<BlindDisk> {
     let mut failing = Vec::new(alloc);
-    for at in 2..words.len() {
+    for at in at..words.len() {
         failing.push(u64::from(number(words, at)))?;
     }
-    Ok(BlindDisk::new(alloc, u64::from(number(words, 1)), failing))
+    Ok(BlindDisk::new(alloc, u64::from(blocks), failing))
 }
 
 /// The calls of any disk: `blocks`; `put AT FRONT BACK`, a block of one byte up to its middle and another from there on;
@@ -23,8 +22,8 @@ pub fn new_disk(alloc: Global, words: &[&str]) -> Mem<BlindDisk> {
 pub fn on_any<D: CrashDisk>(disk: &mut D, words: &[&str], text: &mut String) -> Mem<()> {
     let first = number(words, 1);
     match word(words, 0) {
-        "blocks" => blocks(disk, text),
-        "put" => put(disk, first, halves(byte(words, 2), byte(words, 3)), text),
+        "blocks" => tell_number(text, "", disk.blocks(), " blocks"),
+        "put" => put_halves(disk, first, words, text),
         "patch" => patch(disk, first, words, text),
         "sync" => told(text, disk.sync()),
         "get" => get(disk, first, text),
@@ -60,21 +59,19 @@ fn halves(front: u8, back: u8) -> Block {
     block
 }
 
-fn blocks<D: Disk>(disk: &D, text: &mut String) -> Mem<()> {
-    next(text)?;
-    write!(text, "{} blocks", disk.blocks())?;
-    Ok(())
-}
-
 fn stopped<D: CrashDisk>(disk: &D, text: &mut String) -> Mem<()> {
     tell(text, if disk.stopped() { "stopped" } else { "runs" })
 }
 
-fn put<D: Disk>(disk: &mut D, at: u32, block: Block, text: &mut String) -> Mem<()> {
+fn put_halves<D: Disk>(disk: &mut D, at: u32, words: &[&str], text: &mut String) -> Mem<()> {
+    put(disk, at, &halves(byte(words, 2), byte(words, 3)), text)
+}
+
+fn put<D: Disk>(disk: &mut D, at: u32, block: &Block, text: &mut String) -> Mem<()> {
     if u64::from(at) >= disk.blocks() {
         return tell(text, "no block");
     }
-    told(text, disk.write(u64::from(at), &block))
+    told(text, disk.write(u64::from(at), block))
 }
 
 fn get<D: Disk>(disk: &mut D, at: u32, text: &mut String) -> Mem<()> {
@@ -98,7 +95,7 @@ fn block_at<D: Disk>(disk: &mut D, at: u32) -> Option<Block> {
 
 fn patch<D: Disk>(disk: &mut D, at: u32, words: &[&str], text: &mut String) -> Mem<()> {
     match block_at(disk, at) {
-        Some(block) => put(disk, at, patched(block, words), text),
+        Some(block) => put(disk, at, &patched(block, words), text),
         None => tell(text, "unread"),
     }
 }
@@ -119,22 +116,15 @@ fn patched(mut block: Block, words: &[&str]) -> Block {
 pub fn on_disk(disk: &mut BlindDisk, words: &[&str], text: &mut String) -> Mem<()> {
     match word(words, 0) {
         "counts" => counts(disk, text),
-        "faults" => faults(disk, text),
+        "faults" => tell_number(text, "", disk.faults(), " faults"),
         _ => on_any(disk, words, text),
     }
 }
 
 fn counts(disk: &BlindDisk, text: &mut String) -> Mem<()> {
-    next(text)?;
     let counts = disk.counts();
-    let starved = disk.starved();
-    write!(text, "{} {} {}", counts.reads, counts.writes, counts.syncs)?;
-    write!(text, " {starved}")?;
-    Ok(())
-}
-
-fn faults(disk: &BlindDisk, text: &mut String) -> Mem<()> {
-    next(text)?;
-    write!(text, "{} faults", disk.faults())?;
-    Ok(())
+    tell_number(text, "", counts.reads, "")?;
+    add_number(text, " ", counts.writes)?;
+    add_number(text, " ", counts.syncs)?;
+    add_number(text, " ", disk.starved())
 }

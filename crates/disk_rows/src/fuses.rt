@@ -1,17 +1,28 @@
 //! A fuse by itself.
 
-use crate::told::next;
+use crate::told::tell_shown;
 use disk_model::Fuse;
 use outcome::Mem;
-use std::fmt::Write;
+use row_text::{number, word};
 
-/// A fuse that is set and burns so often, and whether it is out then.
-pub fn burnt(text: &mut String, set: Fuse, times: u32) -> Mem<()> {
-    let mut fuse = set;
+/// `unset TIMES`, `set CALLS TIMES`, `burning CALLS TIMES` and `out CALLS TIMES`: a fuse that burns so often, and whether it is
+/// out then.
+pub fn burnt(words: &[&str], text: &mut String) -> Mem<()> {
+    let (first, second) = (number(words, 1), number(words, 2));
+    let fuse = match word(words, 0) {
+        "unset" => burn(Fuse::Unset, first),
+        "set" => burn(Fuse::Unset.set(u64::from(first)), second),
+        "burning" => burn(Fuse::Burning(u64::from(first)), second),
+        _ => burn(Fuse::Out.set(u64::from(first)), second),
+    };
+    tell_shown(text, &fuse)?;
+    text.push_str(if fuse.is_out() { " true" } else { " false" })?;
+    Ok(())
+}
+
+fn burn(mut fuse: Fuse, times: u32) -> Fuse {
     for _ in 0..times {
         fuse = fuse.burn();
     }
-    next(text)?;
-    write!(text, "{fuse:?} {}", fuse.is_out())?;
-    Ok(())
+    fuse
 }

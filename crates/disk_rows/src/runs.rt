@@ -3,14 +3,14 @@
 ghost use Rattle.std.specs.Prelude.{◌≡◌, ◌≤◌, IfSome};
 ghost use Rattle.block_file.specs.Layout.{blocks_of};
 
-use crate::disks::told;
-use crate::told::{next, tell, tell_bytes, tell_rows};
+use crate::disks::{on_disk, told};
+use crate::told::{tell, tell_bytes, tell_number, tell_rows};
+use blind_disk::BlindDisk;
 use block_file::{GatedCell, Shape, put_table, read_run, with_words, write_run};
 use disk_model::{Block, Disk, Io};
 use outcome::Mem;
 use row_text::{bytes, number, word};
 use std::alloc::Global;
-use std::fmt::Write;
 
 /// A table that names home 0 of each block.
 const TABLE: Block = [0; 4096];
@@ -35,29 +35,40 @@ impl Runs {
 
     /// `run OFF BYTES`, over blocks that are home 0's; `table`, which puts the newest table; `read_run OFF LEN` by the
     /// newest table, and `in_force OFF LEN` by the one that was put last; `cell BYTE`, which puts a block of a byte into
-    /// the cell at block 1, and `found`, that cell's block.
-    pub fn on<D: Disk>(
+    /// the cell at block 1, and `found`, that cell's block; and the other calls of a disk.
+    pub fn on(
         &mut self,
         alloc: Global,
-        disk: &mut D,
+        disk: &mut BlindDisk,
         words: &[&str],
         text: &mut String,
     ) -> Mem<()> {
-        let first = number(words, 1);
         match word(words, 0) {
-            "run" => {
-                let bytes = bytes(alloc, words, 2)?;
-                told(text, self.run(disk, u64::from(first), &bytes))
-            }
+            "run" => self.run(alloc, disk, words, text),
             "table" => told(text, self.table(disk)),
             "read_run" => tell_run(disk, &self.newest, place(words), text),
             "in_force" => in_force(disk, place(words), text),
-            "cell" => cell(disk, (first % 256) as u8, text),
-            _ => found(disk, text),
+            "cell" => cell(disk, (number(words, 1) % 256) as u8, text),
+            "found" => found(disk, text),
+            _ => on_disk(disk, words, text),
         }
     }
 
-    fn run<D: Disk>(&mut self, disk: &mut D, off: u64, bytes: &[u8]) -> Io {
+    fn run(
+        &mut self,
+        alloc: Global,
+        disk: &mut BlindDisk,
+        words: &[&str],
+        text: &mut String,
+    ) -> Mem<()> {
+        let bytes = bytes(alloc, words, 2)?;
+        told(
+            text,
+            self.written(disk, u64::from(number(words, 1)), &bytes),
+        )
+    }
+
+    fn written<D: Disk>(&mut self, disk: &mut D, off: u64, bytes: &[u8]) -> Io {
         let Some(shape) = shape_of(disk.blocks()) else {
             return Io::Failed;
         };
@@ -144,9 +155,7 @@ fn cell<D: Disk>(disk: &mut D, byte: u8, text: &mut String) -> Mem<()> {
         return tell(text, "another cell");
     }
     told(text, cell.put(disk, &[byte; 4096]))?;
-    next(text)?;
-    write!(text, "home {}", cell.home)?;
-    Ok(())
+    tell_number(text, "home ", u64::from(cell.home), "")
 }
 
 /// Tells the block of the cell at block 1.

@@ -1,12 +1,41 @@
 //! How answers are told.
 
 use outcome::Mem;
-use std::fmt::Write;
+use std::fmt::{Debug, Write};
 
 /// Adds an answer, behind a `; ` where it isn't the first.
 pub fn tell(text: &mut String, answer: &str) -> Mem<()> {
     next(text)?;
     text.push_str(answer)?;
+    Ok(())
+}
+
+/// Tells a call that was refused or failed by its fault.
+pub fn tell_fault<F: Debug>(text: &mut String, answer: &Result<(), F>) -> Mem<()> {
+    match answer {
+        Ok(()) => Ok(()),
+        Err(fault) => tell_shown(text, fault),
+    }
+}
+
+/// Tells a value as it is shown.
+pub fn tell_shown<V: Debug>(text: &mut String, value: &V) -> Mem<()> {
+    next(text)?;
+    write!(text, "{value:?}")?;
+    Ok(())
+}
+
+/// Tells a number between two texts.
+pub fn tell_number(text: &mut String, before: &str, number: u64, behind: &str) -> Mem<()> {
+    next(text)?;
+    add_number(text, before, number)?;
+    text.push_str(behind)?;
+    Ok(())
+}
+
+/// Adds a number behind a text.
+pub fn add_number(text: &mut String, before: &str, number: u64) -> Mem<()> {
+    write!(text, "{before}{number}")?;
     Ok(())
 }
 

@@ -1,16 +1,15 @@
-//! Calls of a volume, on the last of its files.
+//! Calls of a volume.
 
-ghost use Rattle.std.specs.Prelude.{◌≤◌, ◌*◌, IsTrue};
+ghost use Rattle.std.specs.Prelude.{◌≤◌, ◌<◌, ◌*◌, length, IsTrue};
 ghost use Rattle.nfs_base.specs.declared.limits.TheConstants.{MOST_BLOCKS, MOST_FILES};
 
-use crate::told::{next, tell, tell_bytes};
+use crate::told::{add_number, tell, tell_bytes, tell_fault, tell_number, tell_shown};
 use blind_disk::BlindDisk;
-use block_file::{FormatFault, OpenFault, ReadFault, Volume, WriteFault};
+use block_file::{FormatFault, Volume};
 use nfs_base::{MOST_BLOCKS, MOST_FILES};
 use outcome::Mem;
 use row_text::{bytes, number, word};
 use std::alloc::Global;
-use std::fmt::Write;
 
 /// How many bytes are read at most.
 const MOST: usize = 64;
@@ -30,115 +29,87 @@ pub fn is_volume(files: u32, blocks: u32) -> bool
         && files.saturating_mul(blocks) <= MOST_BLOCKS
 }
 
-/// Formats a disk, which comes back.
+/// Formats a disk, which comes back. One that may have no such volume stays as it is.
 pub fn formatted(
     disk: BlindDisk,
     (files, blocks): (u32, u32),
     tag: u64,
-) -> Mem<(BlindDisk, Option<FormatFault>)> {
+) -> Mem<(BlindDisk, Result<(), FormatFault>)> {
     if !is_volume(files, blocks) {
-        return Ok((disk, None));
+        return Ok((disk, Ok(())));
     }
     match Volume::format(disk, files, blocks, tag)? {
-        Ok(disk) => Ok((disk, None)),
-        Err((disk, fault)) => Ok((disk, Some(fault))),
+        Ok(disk) => Ok((disk, Ok(()))),
+        Err((disk, fault)) => Ok((disk, Err(fault))),
     }
 }
 
-pub fn tell_unformatted(text: &mut String, fault: Option<FormatFault>) -> Mem<()> {
-    if let Some(fault) = fault {
-        next(text)?;
-        write!(text, "{fault:?}")?;
-    }
-    Ok(())
-}
-
-pub fn tell_unopened(text: &mut String, fault: OpenFault) -> Mem<()> {
-    next(text)?;
-    write!(text, "{fault:?}")?;
-    Ok(())
-}
-
-/// The calls of a volume: `boot` and `tag`; `info`, the file's size, its change number and its home; `write OFF BYTES`,
-/// `read OFF LEN` and `commit`; and `fuse CALLS`.
+/// The calls of a volume, on the last of its files: `boot` and `tag`; `info`, the file's size, its change number and its home;
+/// `write OFF BYTES`, `read OFF LEN` and `commit`; and `fuse CALLS`.
 pub fn on_volume(
     alloc: Global,
     volume: &mut Volume<BlindDisk>,
     words: &[&str],
     text: &mut String,
 ) -> Mem<()> {
-    let first = u64::from(number(words, 1));
+    let file = volume.files();
     match word(words, 0) {
-        "boot" => boot(volume, text),
-        "tag" => tag(volume, text),
+        "boot" => tell_number(text, "boot ", u64::from(volume.boot()), ""),
+        "tag" => tell_number(text, "tag ", volume.tag(), ""),
         "info" => info(volume, text),
-        "write" => {
-            let bytes = bytes(alloc, words, 2)?;
-            tell_unwritten(text, write(volume, first, &bytes))
-        }
-        "read" => read(volume, first, number(words, 2) as usize, text),
-        "commit" => tell_unread(text, commit(volume)),
+        "write" => write(alloc, volume, words, text),
+        "read" => read(volume, file, (number(words, 1), number(words, 2)), text),
+        "commit" => tell_fault(text, &volume.commit(file)),
         "fuse" => {
-            volume.fuse(first);
+            volume.fuse(u64::from(number(words, 1)));
             Ok(())
         }
         _ => tell(text, "no such call"),
     }
 }
 
-fn boot(volume: &Volume<BlindDisk>, text: &mut String) -> Mem<()> {
-    next(text)?;
-    write!(text, "boot {}", volume.boot())?;
-    Ok(())
-}
-
-fn tag(volume: &Volume<BlindDisk>, text: &mut String) -> Mem<()> {
-    next(text)?;
-    write!(text, "tag {}", volume.tag())?;
-    Ok(())
-}
-
 fn info(volume: &Volume<BlindDisk>, text: &mut String) -> Mem<()> {
-    next(text)?;
     let file = volume.files();
-    let (info, home) = (volume.file(file), volume.home(file));
-    write!(text, "size {} change {}", info.size, info.change)?;
-    write!(text, " home {home}")?;
-    Ok(())
+    let info = volume.file(file);
+    tell_number(text, "size ", info.size, "")?;
+    add_number(text, " change ", info.change)?;
+    add_number(text, " home ", u64::from(volume.home(file)))
 }
 
-fn write(volume: &mut Volume<BlindDisk>, off: u64, bytes: &[u8]) -> Result<(), WriteFault> {
+fn write(
+    alloc: Global,
+    volume: &mut Volume<BlindDisk>,
+    words: &[&str],
+    text: &mut String,
+) -> Mem<()> {
     let file = volume.files();
-    volume.write(file, off, bytes)
+    let bytes = bytes(alloc, words, 2)?;
+    let off = u64::from(number(words, 1));
+    tell_fault(text, &volume.write(file, off, &bytes))
 }
 
-fn commit(volume: &mut Volume<BlindDisk>) -> Result<(), ReadFault> {
-    let file = volume.files();
-    volume.commit(file)
-}
-
-fn read(volume: &mut Volume<BlindDisk>, off: u64, len: usize, text: &mut String) -> Mem<()> {
+/// Tells bytes of a file.
+pub fn read(
+    volume: &mut Volume<BlindDisk>,
+    file: u32,
+    (off, len): (u32, u32),
+    text: &mut String,
+) -> Mem<()> {
+    if !has_file(volume, file) {
+        return tell(text, "no such file");
+    }
     let mut room = [0xee; MOST];
-    let len = len.min(MOST);
-    let file = volume.files();
-    match volume.read(file, off, &mut room[..len]) {
+    let len = (len as usize).min(MOST);
+    match volume.read(file, u64::from(off), &mut room[..len]) {
         Ok(()) => tell_bytes(text, &room[..len]),
-        Err(fault) => tell_unread(text, Err(fault)),
+        Err(fault) => tell_shown(text, &fault),
     }
 }
 
-fn tell_unwritten(text: &mut String, answer: Result<(), WriteFault>) -> Mem<()> {
-    if let Err(fault) = answer {
-        next(text)?;
-        write!(text, "{fault:?}")?;
-    }
-    Ok(())
-}
-
-fn tell_unread(text: &mut String, answer: Result<(), ReadFault>) -> Mem<()> {
-    if let Err(fault) = answer {
-        next(text)?;
-        write!(text, "{fault:?}")?;
-    }
-    Ok(())
+/// Whether a volume has a file of this number, which isn't the root.
+pub fn has_file(volume: &Volume<BlindDisk>, file: u32) -> bool
+    ensures no_root { IsTrue result → 1 ≤ file }
+    ensures there { IsTrue result → file < length volume.now.volume.files }
+{
+    1 <= file && file <= volume.files()
 }
