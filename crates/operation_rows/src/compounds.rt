@@ -1,10 +1,8 @@
 //! COMPOUND and CB_COMPOUND, and their replies.
 
-ghost use Rattle.std.specs.Prelude.{◌≡◌};
 ghost use Rattle.nfs_compound.specs.Compounds.{CbCompoundFits, CompoundFits};
 ghost use Rattle.nfs_compound.specs.Callbacks.{cb_reply};
 ghost use Rattle.nfs_compound.specs.Results.{reply};
-ghost use Rattle.nfs_compound.specs.declared.tail.Tail.TheVariants.{Whole};
 
 use crate::readings::{tell, tell_bad};
 use file_ops::{Claim, FileArg, OpenArgs, OpenHow};
@@ -30,24 +28,24 @@ fn tell_again(bytes: &[u8], written: &[u8], text: &mut String) -> Mem<()> {
 
 /// How many operations were read and what stands behind them; a whole one is written again.
 pub fn compound(alloc: Global, bytes: &[u8], text: &mut String) -> Mem<()> {
-    let compound = match read_compound(alloc, bytes)? {
-        Ok(compound) => compound,
-        Err(bad) => return tell_bad(bad, text),
-    };
-    write!(text, "{} ", compound.ops.len())?;
-    match compound.tail {
-        Tail::Whole => compound_again(alloc, &compound, bytes, text),
-        tail => tell_tail(tail, text),
+    match read_compound(alloc, bytes)? {
+        Ok(compound) => tell_compound(alloc, &compound, bytes, text),
+        Err(bad) => tell_bad(bad, text),
     }
 }
 
-fn compound_again(alloc: Global, compound: &Compound, bytes: &[u8], text: &mut String) -> Mem<()>
-    requires whole { compound.now.tail ≡ Whole }
-    requires fits { CompoundFits compound.now }
+fn tell_compound(alloc: Global, compound: &Compound, bytes: &[u8], text: &mut String) -> Mem<()>
+    requires { CompoundFits compound.now }
 {
-    tell(text, "whole")?;
-    let written = write_compound(alloc, compound)?;
-    tell_again(bytes, written.as_slice(), text)
+    write!(text, "{} ", compound.ops.len())?;
+    tell_tail(compound.tail, text)?;
+    match compound.tail {
+        Tail::Whole => {
+            let written = write_compound(alloc, compound)?;
+            tell_again(bytes, written.as_slice(), text)
+        }
+        _ => Ok(()),
+    }
 }
 
 /// The owners and the names of a compound's OPENs, moved out of it, by their lengths.
@@ -92,29 +90,29 @@ fn tell_claim(how: OpenHow, text: &mut String) -> Mem<()> {
 
 /// The same as of a compound of a CB_COMPOUND.
 pub fn cb_compound(alloc: Global, bytes: &[u8], text: &mut String) -> Mem<()> {
-    let compound = match read_cb_compound(alloc, bytes)? {
-        Ok(compound) => compound,
-        Err(bad) => return tell_bad(bad, text),
-    };
-    write!(text, "{} ", compound.ops.len())?;
-    match compound.tail {
-        Tail::Whole => cb_compound_again(alloc, &compound, bytes, text),
-        tail => tell_tail(tail, text),
+    match read_cb_compound(alloc, bytes)? {
+        Ok(compound) => tell_cb_compound(alloc, &compound, bytes, text),
+        Err(bad) => tell_bad(bad, text),
     }
 }
 
-fn cb_compound_again(
+fn tell_cb_compound(
     alloc: Global,
     compound: &CbCompound,
     bytes: &[u8],
     text: &mut String,
 ) -> Mem<()>
-    requires whole { compound.now.tail ≡ Whole }
-    requires fits { CbCompoundFits compound.now }
+    requires { CbCompoundFits compound.now }
 {
-    tell(text, "whole")?;
-    let written = write_cb_compound(alloc, compound)?;
-    tell_again(bytes, written.as_slice(), text)
+    write!(text, "{} ", compound.ops.len())?;
+    tell_tail(compound.tail, text)?;
+    match compound.tail {
+        Tail::Whole => {
+            let written = write_cb_compound(alloc, compound)?;
+            tell_again(bytes, written.as_slice(), text)
+        }
+        _ => Ok(()),
+    }
 }
 
 /// The status of a reply, and its results by number and status; it is written again.

@@ -1,8 +1,6 @@
 //! Operations of a copy.
 
-ghost use Rattle.copy_ops.specs.Forms.{cb_offload, copy_arg, copy_arg_number, copy_res, copy_res_number};
-
-use crate::readings::{Passed, refused, tell};
+use crate::readings::{again, refused, tell};
 use copy_ops::*;
 use outcome::Mem;
 use row_text::{bytes, number, word};
@@ -11,63 +9,57 @@ use std::fmt::Write;
 use wire_xdr::{Reader, Writer};
 
 /// The arguments of the operation with a number.
-pub fn args(alloc: Global, op: u32, bytes: &[u8], text: &mut String) -> Mem<()> {
+pub fn args(
+    alloc: Global,
+    op: u32,
+    bytes: &[u8],
+    writer: &mut Writer,
+    text: &mut String,
+) -> Mem<()> {
     if !is_copy_op(op) {
         return tell(text, "no such operation");
     }
     let mut reader = Reader::new(bytes);
     match read_copy_op(alloc, op, &mut reader)? {
-        Ok(value) => args_again(alloc, &value, Passed::by(bytes, &reader), text),
+        Ok(value) => {
+            write_copy_op(alloc, writer, &value)?;
+            again("read", bytes, &reader, writer, text)
+        }
         Err(bad) => refused(&reader, bad, text),
     }
 }
 
-fn args_again(alloc: Global, value: &CopyArg, passed: Passed<'_>, text: &mut String) -> Mem<()>
-    requires { (copy_arg (copy_arg_number value.now)).Fits value.now }
-{
-    tell(text, "read")?;
-    let mut writer = Writer::new(alloc)?;
-    write_copy_op(alloc, &mut writer, value)?;
-    passed.again(writer.as_slice(), text)
-}
-
 /// The result of the operation with a number.
-pub fn res(alloc: Global, op: u32, bytes: &[u8], text: &mut String) -> Mem<()> {
+pub fn res(
+    alloc: Global,
+    op: u32,
+    bytes: &[u8],
+    writer: &mut Writer,
+    text: &mut String,
+) -> Mem<()> {
     if !is_copy_op(op) {
         return tell(text, "no such operation");
     }
     let mut reader = Reader::new(bytes);
     match read_copy_res(alloc, op, &mut reader)? {
-        Ok(value) => res_again(alloc, &value, Passed::by(bytes, &reader), text),
+        Ok(value) => {
+            write_copy_res(alloc, writer, &value)?;
+            again("read", bytes, &reader, writer, text)
+        }
         Err(bad) => refused(&reader, bad, text),
     }
-}
-
-fn res_again(alloc: Global, value: &CopyRes, passed: Passed<'_>, text: &mut String) -> Mem<()>
-    requires { (copy_res (copy_res_number value.now)).Fits value.now }
-{
-    tell(text, "read")?;
-    let mut writer = Writer::new(alloc)?;
-    write_copy_res(alloc, &mut writer, value)?;
-    passed.again(writer.as_slice(), text)
 }
 
 /// CB_OFFLOAD.
-pub fn offload(alloc: Global, bytes: &[u8], text: &mut String) -> Mem<()> {
+pub fn offload(alloc: Global, bytes: &[u8], writer: &mut Writer, text: &mut String) -> Mem<()> {
     let mut reader = Reader::new(bytes);
     match read_cb_offload(alloc, &mut reader)? {
-        Ok(value) => offload_again(alloc, &value, Passed::by(bytes, &reader), text),
+        Ok(value) => {
+            write_cb_offload(alloc, writer, &value)?;
+            again("read", bytes, &reader, writer, text)
+        }
         Err(bad) => refused(&reader, bad, text),
     }
-}
-
-fn offload_again(alloc: Global, value: &CbOffload, passed: Passed<'_>, text: &mut String) -> Mem<()>
-    requires { cb_offload.Fits value.now }
-{
-    tell(text, "read")?;
-    let mut writer = Writer::new(alloc)?;
-    write_cb_offload(alloc, &mut writer, value)?;
-    passed.again(writer.as_slice(), text)
 }
 
 /// A kind of these three, and the number of the operation.
@@ -78,15 +70,22 @@ struct Asked<'a> {
 }
 
 impl Asked<'_> {
-    /// How bytes are told.
-    fn told(self, alloc: Global, bytes: &[u8]) -> Mem<String> {
-        let mut text = String::new(alloc);
+    /// Tells what bytes are.
+    fn tell(self, alloc: Global, bytes: &[u8], text: &mut String) -> Mem<()> {
+        let mut writer = Writer::new(alloc)?;
         match self.kind {
-            "args" => args(alloc, self.op, bytes, &mut text)?,
-            "res" => res(alloc, self.op, bytes, &mut text)?,
-            _ => offload(alloc, bytes, &mut text)?,
+            "args" => args(alloc, self.op, bytes, &mut writer, text),
+            "res" => res(alloc, self.op, bytes, &mut writer, text),
+            _ => offload(alloc, bytes, &mut writer, text),
         }
-        Ok(text)
+    }
+}
+
+/// The kind and the number that a call names.
+fn named<'a>(words: &[&'a str]) -> Asked<'a> {
+    Asked {
+        kind: word(words, 1),
+        op: number(words, 2),
     }
 }
 
@@ -94,17 +93,26 @@ impl Asked<'_> {
 /// their order, each once with the number of bytes at which it begins.
 pub fn fronts(alloc: Global, words: &[&str], text: &mut String) -> Mem<()> {
     let all = bytes(alloc, words, 3)?;
-    let asked = Asked {
-        kind: word(words, 1),
-        op: number(words, 2),
-    };
     let mut last = String::new(alloc);
     for len in 0..=all.len() {
-        let answer = asked.told(alloc, &all[..len])?;
-        if answer.as_str() != last.as_str() {
-            write!(text, "{len}: {answer}; ")?;
-            last = answer;
-        }
+        front(alloc, named(words), &all[..len], &mut last, text)?;
+    }
+    Ok(())
+}
+
+/// Tells a front where its answer is another one than the last, which it then becomes.
+fn front(
+    alloc: Global,
+    asked: Asked<'_>,
+    bytes: &[u8],
+    last: &mut String,
+    text: &mut String,
+) -> Mem<()> {
+    let mut answer = String::new(alloc);
+    asked.tell(alloc, bytes, &mut answer)?;
+    if answer.as_str() != last.as_str() {
+        write!(text, "{}: {answer}; ", bytes.len())?;
+        *last = answer;
     }
     Ok(())
 }
@@ -124,35 +132,52 @@ fn with_word(alloc: Global, all: &[u8], place: usize, number: u32) -> Mem<Vec<u8
 /// each word that can't be any number, with its five answers.
 pub fn turned(alloc: Global, words: &[&str], text: &mut String) -> Mem<()> {
     let all = bytes(alloc, words, 3)?;
-    let asked = Asked {
-        kind: word(words, 1),
-        op: number(words, 2),
+    let mut whole = String::new(alloc);
+    named(words).tell(alloc, &all, &mut whole)?;
+    let turn = Turn {
+        asked: named(words),
+        all: &all,
+        whole: &whole,
     };
-    let whole = asked.told(alloc, &all)?;
-    tell(text, whole.as_str())?;
-    for place in 0..all.len() / 4 {
-        turned_word(alloc, asked, (&all, whole.as_str()), place, text)?;
-    }
-    Ok(())
+    turn.tell(alloc, text)
 }
 
-/// Tells a word's five answers, where one is another than that of the whole.
-fn turned_word(
-    alloc: Global,
-    asked: Asked<'_>,
-    (all, whole): (&[u8], &str),
-    place: usize,
-    text: &mut String,
-) -> Mem<()> {
-    let mut row = String::new(alloc);
-    let mut others = false;
-    for turn in [0, 1, 2, 3, u32::MAX] {
-        let answer = asked.told(alloc, &with_word(alloc, all, place, turn)?)?;
-        others = others || answer.as_str() != whole;
-        write!(row, ", {answer}")?;
+/// The bytes whose words are turned, and how they are told as they stand.
+#[derive(Clone, Copy)]
+struct Turn<'a> {
+    asked: Asked<'a>,
+    all: &'a [u8],
+    whole: &'a str,
+}
+
+impl Turn<'_> {
+    fn tell(self, alloc: Global, text: &mut String) -> Mem<()> {
+        tell(text, self.whole)?;
+        for place in 0..self.all.len() / 4 {
+            self.tell_word(alloc, place, text)?;
+        }
+        Ok(())
     }
-    if others {
-        write!(text, "; {place}{row}")?;
+
+    /// Tells a word's five answers, where one is another than that of the whole.
+    fn tell_word(self, alloc: Global, place: usize, text: &mut String) -> Mem<()> {
+        let mut row = String::new(alloc);
+        let mut others = false;
+        for number in [0, 1, 2, 3, u32::MAX] {
+            others |= self.differs(alloc, place, number, &mut row)?;
+        }
+        if others {
+            write!(text, "; {place}{row}")?;
+        }
+        Ok(())
     }
-    Ok(())
+
+    /// Tells the answer with a number in a word's place, and says whether it is another than that of the whole.
+    fn differs(self, alloc: Global, place: usize, number: u32, row: &mut String) -> Mem<bool> {
+        let bytes = with_word(alloc, self.all, place, number)?;
+        row.push_str(", ")?;
+        let start = row.len();
+        self.asked.tell(alloc, &bytes, row)?;
+        Ok(row.as_bytes().get(start..) != Some(self.whole.as_bytes()))
+    }
 }

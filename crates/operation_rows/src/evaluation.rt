@@ -22,9 +22,13 @@ struct Counts {
 }
 
 impl Counts {
-    fn tell(&self, text: &mut String) -> Mem<()> {
-        let next = self.next.unwrap_or(0);
-        write!(text, "calls {} lost {} next {next}", self.calls, self.lost)?;
+    fn tell(&self, status: Status, text: &mut String) -> Mem<()> {
+        let (next, number) = (self.next.unwrap_or(0), status.number);
+        write!(
+            text,
+            "calls {} lost {} next {next} status {number}:",
+            self.calls, self.lost
+        )?;
         Ok(())
     }
 }
@@ -78,7 +82,6 @@ fn walked(alloc: Global, compound: &Compound, failing: u32, text: &mut String) -
         lost: false,
     };
     let reply = walk(alloc, compound, &mut actor)?;
-    actor.tell(text)?;
-    write!(text, " status {}:", reply.status.number)?;
+    actor.tell(reply.status, text)?;
     tell_results(&reply, text)
 }

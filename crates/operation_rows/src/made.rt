@@ -91,13 +91,15 @@ fn no_reqs(alloc: Global) -> Mem<Octets> {
 }
 
 fn print_bytes(rt: &HostRuntime, bytes: Mem<Octets>) -> io::Result<()> {
-    match bytes {
-        Ok(bytes) => match hex::encode(rt.alloc(), bytes.as_slice()) {
-            Ok(text) => println!(rt; "{text}"),
-            Err(_) => println!(rt; "out of memory"),
-        },
+    match in_hex(rt.alloc(), bytes) {
+        Ok(text) => println!(rt; "{text}"),
         Err(_) => println!(rt; "out of memory"),
     }
+}
+
+fn in_hex(alloc: Global, bytes: Mem<Octets>) -> Mem<String> {
+    let bytes = bytes?;
+    Ok(hex::encode(alloc, bytes.as_slice())?)
 }
 
 /// Prints the numbers of all statuses, and then some values.
@@ -107,8 +109,14 @@ pub fn print(rt: &HostRuntime) -> io::Result<()> {
     }
     print_bytes(rt, copy_within(rt.alloc()))?;
     print_bytes(rt, no_reqs(rt.alloc()))?;
+    print_statuses(rt)
+}
+
+/// Prints the statuses of a result and of answers.
+fn print_statuses(rt: &HostRuntime) -> io::Result<()> {
     let refused = CopyRes::Clone(Status::STALE);
-    println!(rt; "{} {}", refused.number(), refused.status().number)?;
-    println!(rt; "{}", Answer::Done(7u32).status().number)?;
-    println!(rt; "{}", Answer::<u32>::Refused(Status::STALE).status().number)
+    let (number, stale) = (refused.number(), refused.status().number);
+    let done = Answer::Done(7u32).status().number;
+    let answered = Answer::<u32>::Refused(Status::STALE).status().number;
+    println!(rt; "{number} {stale}\n{done}\n{answered}")
 }

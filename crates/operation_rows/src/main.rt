@@ -20,6 +20,7 @@ use outcome::Mem;
 use row_text::{Rows, bytes, compare, number, word, words};
 use std::alloc::Global;
 use std::io;
+use wire_xdr::Writer;
 
 #[derive(Drop)]
 struct OperationRows;
@@ -35,45 +36,72 @@ impl Rows for OperationRows {
 /// Tells the answer to a call.
 fn tell(alloc: Global, call: &str, text: &mut String) -> Mem<()> {
     let words = words(alloc, call)?;
-    match word(&words, 0) {
-        "fronts" => copies::fronts(alloc, &words, text),
-        "turned" => copies::turned(alloc, &words, text),
-        "show" => shows::shown(alloc, &words, text),
-        "name" => files::name(number(&words, 1), text),
-        "most" => shows::most(alloc, number(&words, 1), text),
+    told(alloc, &words, text)
+}
+
+fn told(alloc: Global, words: &[&str], text: &mut String) -> Mem<()> {
+    match word(words, 0) {
+        "fronts" => copies::fronts(alloc, words, text),
+        "turned" => copies::turned(alloc, words, text),
+        "show" => shows::shown(alloc, words, text),
+        "name" => files::name(number(words, 1), text),
+        "most" => shows::most(alloc, number(words, 1), text),
         "args" | "res" | "file_args" | "file_res" | "walk" | "cut" => {
-            by_number(alloc, &words, text)
+            of_number(alloc, words, text)
         }
-        _ => whole(alloc, &words, text),
+        _ => of_kind(alloc, words, text),
     }
+}
+
+fn of_number(alloc: Global, words: &[&str], text: &mut String) -> Mem<()> {
+    let bytes = bytes(alloc, words, 2)?;
+    let mut writer = Writer::new(alloc)?;
+    by_number(alloc, words, &bytes, &mut writer, text)
 }
 
 /// What bytes are to an operation of a number, `KIND NUMBER BYTES`.
-fn by_number(alloc: Global, words: &[&str], text: &mut String) -> Mem<()> {
-    let (number, bytes) = (number(words, 1), bytes(alloc, words, 2)?);
+fn by_number(
+    alloc: Global,
+    words: &[&str],
+    bytes: &[u8],
+    writer: &mut Writer,
+    text: &mut String,
+) -> Mem<()> {
+    let number = number(words, 1);
     match word(words, 0) {
-        "args" => copies::args(alloc, number, &bytes, text),
-        "res" => copies::res(alloc, number, &bytes, text),
-        "file_args" => files::args(alloc, number, &bytes, text),
-        "file_res" => files::res(alloc, number, &bytes, text),
-        "walk" => evaluation::evaluated(alloc, number, &bytes, text),
-        _ => shows::cut(alloc, number, &bytes, text),
+        "args" => copies::args(alloc, number, bytes, writer, text),
+        "res" => copies::res(alloc, number, bytes, writer, text),
+        "file_args" => files::args(alloc, number, bytes, writer, text),
+        "file_res" => files::res(alloc, number, bytes, writer, text),
+        "walk" => evaluation::evaluated(alloc, number, bytes, text),
+        _ => shows::cut(alloc, number, bytes, text),
     }
 }
 
-/// What bytes are that name their kind themselves, `KIND BYTES`.
-fn whole(alloc: Global, words: &[&str], text: &mut String) -> Mem<()> {
+fn of_kind(alloc: Global, words: &[&str], text: &mut String) -> Mem<()> {
     let bytes = bytes(alloc, words, 1)?;
-    match word(words, 0) {
-        "offload" => copies::offload(alloc, &bytes, text),
-        "cb_seq" => files::called_back(alloc, &bytes, text),
-        "cb_seq_res" => files::answered_back(alloc, &bytes, text),
-        "compound" => compounds::compound(alloc, &bytes, text),
-        "owners" => compounds::owners(alloc, &bytes, text),
-        "cb_compound" => compounds::cb_compound(alloc, &bytes, text),
-        "reply" => compounds::a_reply(alloc, &bytes, text),
-        "cb_reply" => compounds::a_cb_reply(alloc, &bytes, text),
-        kind => types::told(alloc, kind, &bytes, text),
+    let mut writer = Writer::new(alloc)?;
+    whole(alloc, word(words, 0), &bytes, &mut writer, text)
+}
+
+/// What bytes are that name their kind themselves, `KIND BYTES`.
+fn whole(
+    alloc: Global,
+    kind: &str,
+    bytes: &[u8],
+    writer: &mut Writer,
+    text: &mut String,
+) -> Mem<()> {
+    match kind {
+        "offload" => copies::offload(alloc, bytes, writer, text),
+        "cb_seq" => files::called_back(alloc, bytes, writer, text),
+        "cb_seq_res" => files::answered_back(alloc, bytes, writer, text),
+        "compound" => compounds::compound(alloc, bytes, text),
+        "owners" => compounds::owners(alloc, bytes, text),
+        "cb_compound" => compounds::cb_compound(alloc, bytes, text),
+        "reply" => compounds::a_reply(alloc, bytes, text),
+        "cb_reply" => compounds::a_cb_reply(alloc, bytes, text),
+        _ => types::told(alloc, kind, bytes, writer, text),
     }
 }
 

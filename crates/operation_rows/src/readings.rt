@@ -2,32 +2,23 @@
 
 use outcome::Mem;
 use std::fmt::Write;
-use wire_xdr::{BadXdr, Reader};
+use wire_xdr::{BadXdr, Reader, Writer};
 
-/// The bytes that were given, and how far a reader came in them.
-#[derive(Clone, Copy)]
-pub struct Passed<'a> {
-    bytes: &'a [u8],
-    at: usize,
-}
-
-impl Passed<'_> {
-    /// What a reader of these bytes passed.
-    pub fn by<'a>(bytes: &'a [u8], reader: &Reader<'_>) -> Passed<'a> {
-        Passed {
-            bytes,
-            at: reader.at(),
-        }
+/// Tells a word and the reader's place, where the bytes that it passed are the ones that were written; else
+/// `written otherwise`.
+pub fn again(
+    word: &str,
+    bytes: &[u8],
+    reader: &Reader<'_>,
+    writer: &Writer,
+    text: &mut String,
+) -> Mem<()> {
+    let at = reader.at();
+    match bytes.get(..at) {
+        Some(front) if front == writer.as_slice() => write!(text, "{word} {at}")?,
+        _ => write!(text, "{word} written otherwise")?,
     }
-
-    /// Tells a place, where the bytes that were passed are the ones that were written; else `written otherwise`.
-    pub fn again(self, written: &[u8], text: &mut String) -> Mem<()> {
-        match self.bytes.get(..self.at) {
-            Some(front) if front == written => write!(text, " {}", self.at)?,
-            _ => text.push_str(" written otherwise")?,
-        }
-        Ok(())
-    }
+    Ok(())
 }
 
 /// Tells a text.
@@ -38,12 +29,13 @@ pub fn tell(text: &mut String, what: &str) -> Mem<()> {
 
 /// Tells a refusal with its place, where the reader stands at the front still.
 pub fn refused(reader: &Reader<'_>, bad: BadXdr, text: &mut String) -> Mem<()> {
-    let at = reader.at();
-    if at != 0 {
-        write!(text, "moved to {at}")?;
-        return Ok(());
+    match reader.at() {
+        0 => tell_bad(bad, text),
+        at => {
+            write!(text, "moved to {at}")?;
+            Ok(())
+        }
     }
-    tell_bad(bad, text)
 }
 
 /// Tells the place of what isn't spelled.

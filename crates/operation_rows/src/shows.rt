@@ -61,9 +61,7 @@ fn sink(alloc: Global, fails: u32) -> Mem<MemSink> {
 /// What is shown where the calls with these numbers fail, `show READ PUT BYTES`; 0 is that of no call.
 pub fn shown(alloc: Global, words: &[&str], text: &mut String) -> Mem<()> {
     let mut input = source(alloc, bytes(alloc, words, 3)?, number(words, 1))?;
-    let mut output = sink(alloc, number(words, 2))?;
-    let answer = do_show(alloc, &mut input, &mut output)?;
-    tell_shown(answer, output.bytes(), text)
+    show(alloc, &mut input, number(words, 2), text)
 }
 
 /// What is shown of bytes that come in two pieces, `cut AT BYTES`.
@@ -73,8 +71,13 @@ pub fn cut(alloc: Global, at: u32, bytes: &[u8], text: &mut String) -> Mem<()> {
         at: 0,
         cut: at as usize,
     };
-    let mut output = sink(alloc, 0)?;
-    let answer = do_show(alloc, &mut input, &mut output)?;
+    show(alloc, &mut input, 0, text)
+}
+
+/// Tells what is shown of a source, where the put with this number fails.
+fn show<S: Source>(alloc: Global, input: &mut S, fails: u32, text: &mut String) -> Mem<()> {
+    let mut output = sink(alloc, fails)?;
+    let answer = do_show(alloc, input, &mut output)?;
     tell_shown(answer, output.bytes(), text)
 }
 
@@ -84,11 +87,20 @@ const RECORDS: u32 = 227;
 /// What is shown behind 227 records of the greatest length and 40,052 bytes, which are 16,777,216, where so many
 /// more stand behind them.
 pub fn most(alloc: Global, more: u32, text: &mut String) -> Mem<()> {
-    let mut input = source(alloc, long_stream(alloc, more)?, 0)?;
     let mut output = sink(alloc, 0)?;
-    let answer = do_show(alloc, &mut input, &mut output)?;
+    let answer = show_long(alloc, more, &mut output)?;
+    tell_behind(alloc, answer, output.bytes(), text)
+}
+
+fn show_long(alloc: Global, more: u32, output: &mut MemSink) -> Mem<Shown> {
+    let mut input = source(alloc, long_stream(alloc, more)?, 0)?;
+    do_show(alloc, &mut input, output)
+}
+
+/// Tells what is shown behind the lines of those records.
+fn tell_behind(alloc: Global, answer: Shown, shown: &[u8], text: &mut String) -> Mem<()> {
     let lines = long_lines(alloc)?;
-    match output.bytes().strip_prefix(lines.as_bytes()) {
+    match shown.strip_prefix(lines.as_bytes()) {
         Some(rest) => tell_shown(answer, rest, text),
         None => tell(text, "other lines"),
     }
