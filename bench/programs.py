@@ -23,13 +23,21 @@ class Run(NamedTuple):
     printed: bytes
 
 
+def stored_words(folder):
+    """The arguments of a program's stored run, if it has some."""
+    stored = os.path.join(folder, "args")
+    if not os.path.exists(stored):
+        return []
+    with open(stored, encoding="utf-8") as words:
+        return words.read().split()
+
+
 def built(name):
     """Proves and builds a program under crates/, and gives its path. Its own stored run is what `rt run` runs."""
     folder = os.path.join(TOP, "crates", name)
     program = os.path.join(folder, "out", name)
-    with open(os.path.join(folder, "args"), encoding="utf-8") as words:
-        done = subprocess.run(["rt", "run", "--", *words.read().split()], cwd=folder, stdin=subprocess.DEVNULL,
-                              stdout=subprocess.DEVNULL, stderr=subprocess.DEVNULL, check=False)
+    done = subprocess.run(["rt", "run", "--", *stored_words(folder)], cwd=folder, stdin=subprocess.DEVNULL,
+                          stdout=subprocess.DEVNULL, stderr=subprocess.DEVNULL, check=False)
     if done.returncode != 0 or not os.path.exists(program):
         sys.exit(f"the build of {name} failed")
     return program

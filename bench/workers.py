@@ -18,7 +18,7 @@ WORKERS = (1, 2, 4, 8)
 
 def seconds_of(program, workers):
     """Seconds that the program takes."""
-    ran = timed([program, str(workers), str(MEBIBYTES)])
+    ran = timed([program, "bench", str(workers), str(MEBIBYTES)])
     landed = MEBIBYTES * 1_048_576 if workers else 0
     if ran.printed != f"{workers} workers, {landed} bytes\n".encode():
         sys.exit(f"{workers}: {ran.printed!r}")
@@ -26,7 +26,7 @@ def seconds_of(program, workers):
 
 
 def main():
-    program = built("worker_bench")
+    program = built("desk_rows")
     best = dict.fromkeys((0, *WORKERS), float("inf"))
     for _ in range(ROUNDS):
         for workers in best:

@@ -5,6 +5,7 @@ ghost use Rattle.core_replay.specs.Counting.{one_more, IsAsBefore, IsCounted};
 
 use outcome::Mem;
 use std::alloc::Global;
+use std::fmt::Write;
 
 /// The case that is replayed, and how the ones before went. At its type's end a count stands still.
 #[derive(Drop)]
@@ -69,16 +70,15 @@ impl Cases {
         self.lines = self.lines.saturating_add(1);
     }
 
-    /// Leaves a case at this line, and answers what is to be told: what was to be told before, or else this.
-    pub fn leave(&mut self, alloc: Global, told: Option<String>) -> Mem<Option<String>>
+    /// Leaves a case at this line, and tells so where nothing is told of the line yet.
+    pub fn leave(&mut self, text: &mut String) -> Mem<()>
         ensures { IsAsBefore self.old self.new }
     {
         self.is_left = true;
-        if told.is_some() {
-            return Ok(told);
+        if text.is_empty() {
+            write!(text, "{}: stopped at line {}", self.name, self.lines)?;
         }
-        let (name, line) = (&self.name, self.lines);
-        Ok(Some(format!(in alloc; "{name}: stopped at line {line}")?))
+        Ok(())
     }
 
     /// These lines are the outcome of an event.
@@ -96,30 +96,28 @@ impl Cases {
         self.due.pop()
     }
 
-    /// Compares a line with the one that was given for it, and answers what is to be told.
-    pub fn meet(&mut self, alloc: Global, line: &str, given: &str) -> Mem<Option<String>>
+    /// Compares a line with the one that was given for it, and tells where that is another one.
+    pub fn meet(&mut self, line: &str, given: &str, text: &mut String) -> Mem<()>
         ensures same { given.now ≡ line.now → self.new ≡ self.old }
         ensures other { given.now ≢ line.now → IfOk result (λ _. IsCounted self.old self.new) }
     {
         if given == line {
-            return Ok(None);
+            return Ok(());
         }
-        self.tell(alloc, line, given)
+        self.tell(line, given, text)
     }
 
-    /// Counts a case with a line for which another one was given, and answers what is to be told of it: the first such
-    /// line of each case.
-    pub fn tell(&mut self, alloc: Global, line: &str, given: &str) -> Mem<Option<String>>
+    /// Counts a case with a line for which another one was given, and tells of it: the first such line of each case.
+    pub fn tell(&mut self, line: &str, given: &str, text: &mut String) -> Mem<()>
         ensures counted { IfOk result (λ _. IsCounted self.old self.new) }
         ensures err { OnErr result (self.new ≡ self.old) }
     {
         if self.is_told {
-            return Ok(None);
+            return Ok(());
         }
-        let name = &self.name;
-        let told = format!(in alloc; "{name}: {given} FOR {line}")?;
+        write!(text, "{}: {given} FOR {line}", self.name)?;
         self.is_told = true;
         self.differ = self.differ.saturating_add(1);
-        Ok(Some(told))
+        Ok(())
     }
 }

@@ -1,7 +1,6 @@
 //! The cores whose cases can be replayed.
 
-use crate::driver::Driver;
-use crate::playing::Playing;
+use crate::player::Player;
 use outcome::Mem;
 use std::alloc::Global;
 
@@ -10,6 +9,7 @@ use std::alloc::Global;
 pub enum Core {
     Source,
     Dest,
+    Client,
 }
 
 impl Core {
@@ -18,33 +18,28 @@ impl Core {
         match word {
             "source" => Some(Core::Source),
             "dest" => Some(Core::Dest),
+            "client" => Some(Core::Client),
             _ => None,
         }
     }
 }
 
-/// A source and a destination, and which of them the lines drive now.
+/// A source, a destination and a client, and which of them the lines drive now.
 #[derive(Drop)]
-pub struct Cores<S, D> {
+pub struct Cores<S, D, C> {
     pub now: Core,
-    source: Playing<S>,
-    dest: Playing<D>,
+    pub source: S,
+    pub dest: D,
+    pub client: C,
 }
 
-impl<S: Driver, D: Driver> Cores<S, D> {
-    pub fn new(now: Core) -> Cores<S, D> {
-        Cores {
-            now,
-            source: Playing::new(),
-            dest: Playing::new(),
-        }
-    }
-
+impl<S: Player, D: Player, C: Player> Cores<S, D, C> {
     /// Begins a case with a new core, by the words of its first line.
     pub fn begin(&mut self, alloc: Global, words: &[&str]) -> Mem<()> {
         match self.now {
             Core::Source => self.source.begin(alloc, words),
             Core::Dest => self.dest.begin(alloc, words),
+            Core::Client => self.client.begin(alloc, words),
         }
     }
 
@@ -54,6 +49,7 @@ impl<S: Driver, D: Driver> Cores<S, D> {
         match self.now {
             Core::Source => self.source.event(alloc, words),
             Core::Dest => self.dest.event(alloc, words),
+            Core::Client => self.client.event(alloc, words),
         }
     }
 
@@ -62,6 +58,7 @@ impl<S: Driver, D: Driver> Cores<S, D> {
         match self.now {
             Core::Source => self.source.held(alloc, words),
             Core::Dest => self.dest.held(alloc, words),
+            Core::Client => self.client.held(alloc, words),
         }
     }
 }

@@ -10,10 +10,12 @@ use crate::driver::Driver;
 use crate::setting::{dest_name, dest_place, dest_source, realm};
 use crate::volume::{formatted, new_disk};
 use block_file::FileInfo;
+use copy_privs::Peer;
 use dest_core::DestCore;
 use dest_tasks::WORKERS;
 use disk_model::{Disk, MemoryDisk};
 use gss_mech::Realm;
+use nfs_base::NetLoc;
 use outbox::Outbox;
 use outcome::Mem;
 use session_server::MOST_STEPS;
@@ -127,8 +129,20 @@ fn new_dest<D: Disk + Drop>(
 fn open<D: Disk + Drop>(alloc: Global, disk: D) -> Mem<Option<DestCore<D, Realm>>>
     requires { D.Told → (image : Image) → MayLeave (present (D.timeline disk)) image → CanBeOpened (D.size disk) image }
 {
-    let (realm, source) = (realm(alloc)?, dest_source(alloc)?);
-    let (name, own) = (dest_name(alloc)?, dest_place(alloc)?);
+    let (source, own) = (dest_source(alloc)?, dest_place(alloc)?);
+    open_at(alloc, disk, source, own)
+}
+
+/// Opens the destination of a case, which copies from this source and is found here.
+fn open_at<D: Disk + Drop>(
+    alloc: Global,
+    disk: D,
+    source: Peer,
+    own: NetLoc,
+) -> Mem<Option<DestCore<D, Realm>>>
+    requires { D.Told → (image : Image) → MayLeave (present (D.timeline disk)) image → CanBeOpened (D.size disk) image }
+{
+    let (realm, name) = (realm(alloc)?, dest_name(alloc)?);
     match DestCore::open(alloc, disk, realm, source, name, own)? {
         Ok(core) => Ok(Some(core)),
         Err(_) => Ok(None),

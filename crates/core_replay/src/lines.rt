@@ -53,7 +53,7 @@ fn is_outcome(word: &str) -> bool {
 }
 
 fn is_held(word: &str) -> bool {
-    word == "file" || word == "peek"
+    word == "file" || word == "peek" || word == "report" || word == "awaits"
 }
 
 /// Whether a line says nothing.

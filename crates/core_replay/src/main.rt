@@ -1,25 +1,32 @@
-//! Replays recorded cases of servers' cores from standard input, prints the first line of each case whose outcome is
-//! another one here, and then how many cases there were. The word says whose cases come first: `source` or `dest`.
+//! Replays recorded cases of cores from standard input, prints the first line of each case whose outcome is another one
+//! here, and then how many cases there were. The word says whose cases come first: `source`, `dest` or `client`.
 //!
-//! Words are parted by single spaces; bytes are hex, and `-` is none. A line `core source` or `core dest` says whose cases
-//! follow it. A case begins with `case NAME FILES BLOCKS TAG`: a core over a volume just made. Then come events and, behind
-//! each, its outcome: the lines `note`, `accepted`, `used`, `undrawn` and `sent`. `file` and `peek` tell what the volume
-//! holds in the end, and `end` ends the case. Empty lines and those that begin with `#` are passed over. At an event that
-//! the core doesn't make, as `work` at a source, its case is left, which is printed with the number of the line.
+//! Words are parted by single spaces; bytes are hex, and `-` is none. A line `core source`, `core dest` or `core client` says
+//! whose cases follow it. A case of a server begins with `case NAME FILES BLOCKS TAG`: a core over a volume just made. One of a
+//! client begins with `case NAME`. Then come events and, behind each, its outcome: the lines `note`, `accepted`, `used`,
+//! `undrawn` and `sent`. In the end `file` and `peek` tell what the volume holds, `report` what the client said of a copy, and
+//! `awaits` whether it awaits an answer of a server; `end` ends the case. Empty lines and those that begin with `#` are passed
+//! over. At an event that the core doesn't make, as `work` at a source, its case is left, which is printed with the number of
+//! the line; but a step of a client that can't be made, as a copy that was begun before, has no outcome.
 #![tactic(auto)]
 
 mod cases;
+mod client;
+mod client_lines;
 mod cores;
 mod dest;
 mod driver;
 mod lines;
+mod player;
 mod playing;
 mod replay;
 mod setting;
 mod source;
 mod volume;
 
+use crate::client::ClientPlaying;
 use crate::cores::{Core, Cores};
+use crate::playing::Playing;
 use crate::replay::replay;
 use dest_core::DestCore;
 use disk_model::MemoryDisk;
@@ -36,18 +43,26 @@ fn first_core(rt: &(impl Env + AllocGlobal)) -> io::Result<Option<Core>> {
     Ok(Core::named(word.as_str()))
 }
 
-/// Replays cases of both cores, those of this one first.
-fn replay_from(rt: &HostRuntime, core: Core) -> io::Result<()> {
-    let mut cores: Cores<SourceCore<MemoryDisk, Realm>, DestCore<MemoryDisk, Realm>> = Cores::new(
-        core,
-    );
-    replay(rt, &mut cores)
+/// Replays cases of all cores, those of this one first.
+fn replay_from(rt: &HostRuntime, now: Core) -> io::Result<()> {
+    let source: Playing<SourceCore<MemoryDisk, Realm>> = Playing::new();
+    let dest: Playing<DestCore<MemoryDisk, Realm>> = Playing::new();
+    let client = ClientPlaying::new();
+    replay(
+        rt,
+        &mut Cores {
+            now,
+            source,
+            dest,
+            client,
+        },
+    )
 }
 
 fn main(rt: HostRuntime) -> io::Result<()> {
     match first_core(&rt)? {
         Some(core) => replay_from(&rt, core)?,
-        None => println!(rt; "usage: source|dest")?,
+        None => println!(rt; "usage: source|dest|client")?,
     }
     Ok(())
 }

@@ -2,6 +2,7 @@
 
 use crate::driver::Driver;
 use crate::lines::{bytes_of, long};
+use crate::player::Player;
 use crate::setting::{few_draws, given_draws};
 use outbox::Outbox;
 use outbox_text::lines_of;
@@ -29,33 +30,36 @@ impl<D: Driver> Playing<D> {
             few: None,
         }
     }
+}
 
-    /// Begins a case with a new core, by the words of its first line.
-    pub fn begin(&mut self, alloc: Global, words: &[&str]) -> Mem<()> {
-        self.few = match given_draws(word(words, 1)) {
-            Some(given) => Some(few_draws(alloc, given)?),
-            None => None,
-        };
+impl<D: Driver> Player for Playing<D> {
+    fn begin(&mut self, alloc: Global, words: &[&str]) -> Mem<()> {
+        self.few = draws_of(alloc, word(words, 1))?;
         self.draws = CountDraws::new();
         self.core = D::begin(alloc, words)?;
         Ok(())
     }
 
-    /// Makes the step that an event's words say, and answers the lines of its outcome. None where the core doesn't make
-    /// such a step.
-    pub fn event(&mut self, alloc: Global, words: &[&str]) -> Mem<Option<Vec<String>>> {
+    fn event(&mut self, alloc: Global, words: &[&str]) -> Mem<Option<Vec<String>>> {
         match &mut self.core {
             Some(core) => event(alloc, core, &mut self.draws, &mut self.few, words),
             None => Ok(None),
         }
     }
 
-    /// What the core holds in the end, as the line with these words is to say it.
-    pub fn held(&mut self, alloc: Global, words: &[&str]) -> Mem<String> {
+    fn held(&mut self, alloc: Global, words: &[&str]) -> Mem<String> {
         match &mut self.core {
             Some(core) => held(alloc, core, words),
             None => Ok(format!(in alloc; "no volume")?),
         }
+    }
+}
+
+/// The draws of a case with this name, where they are few.
+fn draws_of(alloc: Global, name: &str) -> Mem<Option<MemDraws>> {
+    match given_draws(name) {
+        Some(given) => Ok(Some(few_draws(alloc, given)?)),
+        None => Ok(None),
     }
 }
 
@@ -66,17 +70,27 @@ fn event<D: Driver>(
     few: &mut Option<MemDraws>,
     words: &[&str],
 ) -> Mem<Option<Vec<String>>> {
-    let out = match word(words, 0) {
-        "record" => comes(alloc, core, draws, few, words)?,
-        "tick" => core.wait(alloc, long(words, 1))?,
-        "work" => works(alloc, core, draws, few, words)?,
-        "reply" => replies(alloc, core, words)?,
-        "failed" => core.fail(alloc, worker_of(words))?,
-        _ => None,
-    };
-    match out {
+    match step(alloc, core, draws, few, words)? {
         Some(out) => Ok(Some(lines_of(alloc, speaker(core, words), &out)?)),
         None => Ok(None),
+    }
+}
+
+/// Makes the step that an event's words say.
+fn step<D: Driver>(
+    alloc: Global,
+    core: &mut D,
+    draws: &mut CountDraws,
+    few: &mut Option<MemDraws>,
+    words: &[&str],
+) -> Mem<Option<Outbox>> {
+    match word(words, 0) {
+        "record" => comes(alloc, core, draws, few, words),
+        "tick" => core.wait(alloc, long(words, 1)),
+        "work" => works(alloc, core, draws, few, words),
+        "reply" => replies(alloc, core, words),
+        "failed" => core.fail(alloc, worker_of(words)),
+        _ => Ok(None),
     }
 }
 

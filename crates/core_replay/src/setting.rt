@@ -1,7 +1,8 @@
 //! What all cases have alike: the principals, where servers are found, and what is drawn.
 
-ghost use Rattle.std.specs.Prelude.{◌≡◌, ◌+◌, length, IfOk};
-ghost use Rattle.source_core.specs.Location.{location_bytes, IsShort};
+ghost use Rattle.std.specs.Prelude.{◌≤◌, length, IfOk};
+ghost use Rattle.nfs_base.specs.Forms.{net_loc};
+ghost use Rattle.source_core.specs.Location.{IsShort};
 
 use copy_privs::Peer;
 use gss_mech::Realm;
@@ -14,22 +15,33 @@ use wire_xdr::{Items, Octets};
 
 /// The principals of all cases, with their keys.
 pub fn realm(alloc: Global) -> Mem<Realm> {
-    let user = (Octets::from_slice(alloc, b"user")?, [1; 32]);
-    let dest = (Octets::from_slice(alloc, b"dest")?, [2; 32]);
-    let eve = (Octets::from_slice(alloc, b"eve")?, [3; 32]);
-    let other = (Octets::from_slice(alloc, b"other")?, [4; 32]);
-    Realm::new(alloc, &[user, dest, eve, other])
+    let mut keys = Vec::new(alloc);
+    add_key(alloc, &mut keys, b"user", 1)?;
+    add_key(alloc, &mut keys, b"dest", 2)?;
+    add_key(alloc, &mut keys, b"eve", 3)?;
+    add_key(alloc, &mut keys, b"other", 4)?;
+    Realm::new(alloc, keys.as_slice())
+}
+
+/// Adds a principal, whose key is 32 times this byte.
+fn add_key(alloc: Global, keys: &mut Vec<(Octets, [u8; 32])>, name: &[u8], byte: u8) -> Mem<()> {
+    let name = Octets::from_slice(alloc, name)?;
+    keys.push((name, [byte; 32]))?;
+    Ok(())
 }
 
 /// Where the source is found.
 pub fn source_place(alloc: Global) -> Mem<NetLoc>
-    ensures { IfOk result (λ loc. IsShort loc) }
+    ensures fits { IfOk result (λ loc. net_loc.Fits loc) }
+    ensures short { IfOk result IsShort }
 {
     tcp(alloc, b"127.0.0.1.8.1")
 }
 
 /// Where the destination is found.
-pub fn dest_place(alloc: Global) -> Mem<NetLoc> {
+pub fn dest_place(alloc: Global) -> Mem<NetLoc>
+    ensures { IfOk result (λ loc. net_loc.Fits loc) }
+{
     tcp(alloc, b"127.0.0.1.8.2")
 }
 
@@ -46,20 +58,33 @@ pub fn dest_source(alloc: Global) -> Mem<Peer> {
 /// The servers that the source knows.
 pub fn source_peers(alloc: Global) -> Mem<Items<Peer>> {
     let mut peers = Items::new(alloc);
-    peers.push(peer(alloc, b"dest", b"127.0.0.1.8.2")?)?;
-    peers.push(peer(alloc, b"other", b"10.0.0.2.8.1")?)?;
+    add_peer(alloc, &mut peers, b"dest", b"127.0.0.1.8.2")?;
+    add_peer(alloc, &mut peers, b"other", b"10.0.0.2.8.1")?;
     Ok(peers)
 }
 
-fn peer(alloc: Global, principal: &[u8], addr: &[u8]) -> Mem<Peer> {
+fn add_peer(alloc: Global, peers: &mut Items<Peer>, principal: &[u8], addr: &[u8]) -> Mem<()>
+    requires { length addr.now ≤ 64 }
+{
+    let peer = peer(alloc, principal, addr)?;
+    peers.push(peer)?;
+    Ok(())
+}
+
+fn peer(alloc: Global, principal: &[u8], addr: &[u8]) -> Mem<Peer>
+    requires { length addr.now ≤ 64 }
+{
     Ok(Peer {
         principal: Octets::from_slice(alloc, principal)?,
         loc: tcp(alloc, addr)?,
     })
 }
 
+#[tactic(auto, unfolding(nfs_base::specs::Forms::net_loc))]
 fn tcp(alloc: Global, addr: &[u8]) -> Mem<NetLoc>
-    ensures { IfOk result (λ loc. location_bytes loc ≡ 3 + length addr.now) }
+    requires { length addr.now ≤ 64 }
+    ensures fits { IfOk result (λ loc. net_loc.Fits loc) }
+    ensures short { IfOk result IsShort }
 {
     Ok(NetLoc::Addr {
         netid: Octets::from_slice(alloc, b"tcp")?,
@@ -78,14 +103,25 @@ const MOST_FAILING: u64 = 64;
 
 /// So many draws, each SHA-256 of a counter that begins at 0. Those behind them fail.
 pub fn few_draws(alloc: Global, given: u64) -> Mem<MemDraws> {
+    let drawn = drawn(alloc, given)?;
+    let failing = failing(alloc, given)?;
+    Ok(MemDraws::new(drawn, failing))
+}
+
+fn drawn(alloc: Global, given: u64) -> Mem<Vec<[u8; 32]>> {
     let mut drawn = Vec::new(alloc);
     for count in 0..given {
         let word: [u8; 8] = count.to_be_bytes();
         drawn.push(<[u8; 32]>::from(Sha256::digest(&word)))?;
     }
+    Ok(drawn)
+}
+
+/// Which draws fail, where so many don't.
+fn failing(alloc: Global, given: u64) -> Mem<Vec<u64>> {
     let mut failing = Vec::new(alloc);
     for place in 0..MOST_FAILING {
         failing.push(given.saturating_add(place).saturating_add(1))?;
     }
-    Ok(MemDraws::new(drawn, failing))
+    Ok(failing)
 }

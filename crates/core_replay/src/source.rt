@@ -3,13 +3,16 @@
 ghost use Rattle.block_file.specs.Opened.{CanBeOpened};
 ghost use Rattle.disk_model.specs.Disk.{Image, MayLeave};
 ghost use Rattle.disk_model.specs.Elapsed.{present};
+ghost use Rattle.source_core.specs.Location.{IsShort};
 
 use crate::driver::Driver;
 use crate::setting::{realm, source_peers, source_place};
 use crate::volume::{formatted, new_disk};
 use block_file::FileInfo;
+use copy_privs::Peer;
 use disk_model::{Disk, MemoryDisk};
 use gss_mech::Realm;
+use nfs_base::NetLoc;
 use outbox::Outbox;
 use outcome::Mem;
 use session_server::MOST_STEPS;
@@ -17,6 +20,7 @@ use source_core::SourceCore;
 use std::alloc::Global;
 use streams::Draws;
 use wire_lines::Speaker;
+use wire_xdr::Items;
 
 impl Driver for SourceCore<MemoryDisk, Realm> {
     fn begin(alloc: Global, words: &[&str]) -> Mem<Option<SourceCore<MemoryDisk, Realm>>> {
@@ -107,8 +111,21 @@ fn new_source<D: Disk + Drop>(
 fn open<D: Disk + Drop>(alloc: Global, disk: D) -> Mem<Option<SourceCore<D, Realm>>>
     requires { D.Told → (image : Image) → MayLeave (present (D.timeline disk)) image → CanBeOpened (D.size disk) image }
 {
-    let (realm, peers, own) = (realm(alloc)?, source_peers(alloc)?, source_place(alloc)?);
-    match SourceCore::open(alloc, disk, realm, peers, own)? {
+    let (peers, own) = (source_peers(alloc)?, source_place(alloc)?);
+    open_at(alloc, disk, peers, own)
+}
+
+/// Opens the source of a case, which knows these servers and is found here.
+fn open_at<D: Disk + Drop>(
+    alloc: Global,
+    disk: D,
+    peers: Items<Peer>,
+    own: NetLoc,
+) -> Mem<Option<SourceCore<D, Realm>>>
+    requires disk { D.Told → (image : Image) → MayLeave (present (D.timeline disk)) image → CanBeOpened (D.size disk) image }
+    requires short { IsShort own }
+{
+    match SourceCore::open(alloc, disk, realm(alloc)?, peers, own)? {
         Ok(core) => Ok(Some(core)),
         Err(_) => Ok(None),
     }

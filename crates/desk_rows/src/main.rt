@@ -1,101 +1,102 @@
-//! Tables over workers of a real destination, from standard input: over a source, a destination and a client in memory
-//! (`desk_ends`). A line is `CALL = ANSWER`; those that are answered otherwise are printed, and then how many there were.
+//! Tables over workers of a real destination, from standard input: over a source, a destination and a client in memory. A line is
+//! `CALL = ANSWER`; those that are answered otherwise are printed, and then how many there were. Where there are arguments, they are
+//! the words of one call, whose answer is printed.
 //!
-//! A call is `KIND WORKERS BYTES COPIED`, with one word more in `failing`. The kinds are those of [`Links`]. Workers that run one
-//! after the other find their links failing at a line of `together`, and it is answered otherwise.
+//! A call is `KIND WORKERS BYTES COPIED`, with one word more in `failing`, or `bench WORKERS MEBIBYTES`, which `bench/workers.py`
+//! times. The kinds are those of [`Links`](crate::plan::Links). Workers that run one after the other find their links failing at a
+//! line of `together`, and it is answered otherwise.
+//!
+//! A [`Plan`](crate::plan::Plan) says what is copied and by how many workers, and [`run`](crate::running::run) does it: the client's
+//! copies are taken by the destination, workers carry them out, each at a link of its own to the source, the client takes leave of
+//! both servers, and then the files are compared, where the plan says so. The source's file is written into its volume before the
+//! source is opened. Time stands still.
 #![tactic(auto)]
 
+mod calls;
+mod ends;
+mod link;
+mod making;
+mod plan;
+mod ran;
+mod reads;
+mod room;
+mod running;
 mod telling;
 
-use desk_ends::{Copied, Links, Plan, run};
+use crate::calls::answered;
 use outcome::Mem;
-use row_text::{number, word, words};
-use std::alloc::Global;
-use std::fmt::Write;
+use std::env::{self, Env};
 use std::io;
-use std::sync::Wait;
-use std::thread::Threads;
-use telling::tell;
-use two_ends::Wrong;
 
-/// So many turns each worker has: more than it needs.
-const TURNS: u32 = 100_000_000;
+/// How many lines were tried, and how many of these were answered otherwise.
+#[derive(Clone, Copy)]
+struct Tally {
+    tried: u32,
+    others: u32,
+}
 
-/// What a line is answered by.
-fn answered<R: Threads + Wait + Sync>(rt: &R, alloc: Global, call: &str) -> Mem<String> {
-    let mut text = String::new(alloc);
-    if let Err(why) = answer(rt, alloc, call, &mut text) {
-        write!(text, "{why:?}")?;
+/// Counts a row of which this was told, and prints it where that is another answer.
+fn compare(
+    rt: &HostRuntime,
+    tally: &mut Tally,
+    line: &str,
+    wanted: &str,
+    given: &str,
+) -> io::Result<()> {
+    tally.tried = tally.tried.saturating_add(1);
+    if given == wanted {
+        return Ok(());
     }
-    Ok(text)
+    tally.others = tally.others.saturating_add(1);
+    println!(rt; "{line} BUT {given}")
 }
 
-/// Adds what a line is answered by.
-fn answer<R: Threads + Wait + Sync>(
-    rt: &R,
-    alloc: Global,
-    call: &str,
-    text: &mut String,
-) -> Result<(), Wrong> {
-    let plan = read_plan(alloc, call)?;
-    let ran = run(rt, alloc, plan)?;
-    tell(&plan, &ran, text)?;
-    Ok(())
-}
-
-/// The plan that a line asks for.
-fn read_plan(alloc: Global, call: &str) -> Mem<Plan> {
-    let words = words(alloc, call)?;
-    Ok(Plan {
-        workers: number(&words, 1).min(8) as u8,
-        turns: TURNS,
-        size: number(&words, 2),
-        copied: copied(word(&words, 3)),
-        links: links(word(&words, 0), number(&words, 4)),
-        compares: true,
-    })
-}
-
-/// What a word says to copy.
-fn copied(word: &str) -> Copied {
-    match word {
-        "consecutive" => Copied::Consecutive,
-        "files" => Copied::Files,
-        "halves" => Copied::Halves,
-        _ => Copied::Whole,
+/// What is given for a call of which this was told.
+fn given(told: Mem<()>, text: &str) -> &str {
+    match told {
+        Ok(()) => text,
+        Err(_) => "out of memory",
     }
 }
 
-/// The links of a kind. Those that fail do so after so many answers.
-fn links(kind: &str, answers: u32) -> Links {
-    match kind {
-        "together" => Links::Together,
-        "breaking" => Links::Breaking,
-        "failing" => Links::Failing(answers),
-        _ => Links::Free,
+/// The call whose words the arguments are.
+fn call_of(rt: &(impl Env + AllocGlobal)) -> io::Result<String> {
+    let mut call = String::new(rt.alloc());
+    for word in env::args(rt)?.skip(1) {
+        call.push_str(word.as_str())?;
+        call.push_str(" ")?;
     }
+    Ok(call)
 }
 
 fn main(rt: HostRuntime) -> io::Result<()> {
-    let mut tried = 0_u32;
-    let mut others = 0_u32;
+    let call = call_of(&rt)?;
+    if !call.is_empty() {
+        let mut text = String::new(rt.alloc());
+        let told = answered(&rt, rt.alloc(), call.as_str(), &mut text);
+        return println!(rt; "{}", given(told, text.as_str()));
+    }
+    let mut tally = Tally {
+        tried: 0,
+        others: 0,
+    };
     for line in rt.lines(rt.alloc()) {
         let line = line?;
         let Some((call, wanted)) = line.as_str().split_once(" = ") else {
             continue;
         };
-        tried = tried.saturating_add(1);
-        match answered(&rt, rt.alloc(), call) {
-            Ok(given) if given.as_str() == wanted => {}
-            Ok(given) => {
-                others = others.saturating_add(1);
-                println!(rt; "{line} BUT {given}")?;
-            }
-            Err(_) => {
-                others = others.saturating_add(1);
-                println!(rt; "{line} BUT out of memory")?;
-            }
-        }
+        let mut text = String::new(rt.alloc());
+        let told = answered(&rt, rt.alloc(), call, &mut text);
+        compare(
+            &rt,
+            &mut tally,
+            line.as_str(),
+            wanted,
+            given(told, text.as_str()),
+        )?;
     }
-    println!(rt; "{tried} lines, {others} answered otherwise")
+    println!(rt;
+        "{} lines, {} answered otherwise",
+        tally.tried, tally.others
+    )
 }

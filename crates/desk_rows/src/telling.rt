@@ -1,7 +1,8 @@
 //! What is told of workers that ran: only what doesn't depend on which of them did what, and when.
 
+use crate::plan::{Links, Plan};
+use crate::ran::{Ran, Seen};
 use client_copies::Report;
-use desk_ends::{Links, Plan, Ran, Seen};
 use outcome::Mem;
 use std::fmt::Write;
 
@@ -65,5 +66,11 @@ fn tell_leave(text: &mut String, seen: &Seen) -> Mem<()> {
     if seen.faults > 0 {
         write!(text, ", {} faults", seen.faults)?;
     }
+    Ok(())
+}
+
+/// Adds how many bytes so many workers landed.
+pub fn tell_landed(workers: u32, landed: u64, text: &mut String) -> Mem<()> {
+    write!(text, "{workers} workers, {landed} bytes")?;
     Ok(())
 }

@@ -1,3 +1,5 @@
+//! How many READs are under way.
+
 /// The READs of all links, as far as their answers are large.
 #[derive(Clone, Copy)]
 pub(crate) struct Reads {

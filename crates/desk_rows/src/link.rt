@@ -1,3 +1,5 @@
+//! Workers' links to the source.
+
 ghost use Rattle.std.specs.Prelude.{◌≡◌, [], None};
 
 use crate::making::CHUNK;
@@ -54,16 +56,19 @@ impl<'a, R: Wait, L: Ledger, T: Ledger, G: Ledger> RoomLink<'a, R, L, T, G> {
         ensures { self.new.faults ≡ self.old.faults }
     {
         let before = self.answers.len();
-        let answered = match self.room.ask(self.worker, self.feed.record()) {
-            Ok(out) => put_marked(&mut self.answers, out.sent.as_slice()),
-            Err(why) => Err(why),
-        };
-        if answered.is_err() {
+        if self.put_answer().is_err() {
             self.broken = true;
         } else if self.answers.len() > before.saturating_add(CHUNK) {
             self.reading = true;
-            self.room.reads.lock(self.room.rt).begin();
+            self.room.begin_read();
         }
+    }
+
+    fn put_answer(&mut self) -> Result<(), Wrong>
+        ensures { self.new.faults ≡ self.old.faults }
+    {
+        let out = self.room.ask(self.worker, self.feed.record())?;
+        put_marked(&mut self.answers, out.sent.as_slice())
     }
 
     /// Whether the next answer is given. It may have to wait.
@@ -93,7 +98,7 @@ impl<'a, R: Wait, L: Ledger, T: Ledger, G: Ledger> RoomLink<'a, R, L, T, G> {
         self.answered = self.answered.saturating_add(1);
         if self.reading {
             self.reading = false;
-            self.room.reads.lock(self.room.rt).end();
+            self.room.end_read();
         }
     }
 }

@@ -1,3 +1,5 @@
+//! The ends, the desk and the workers of a plan, run.
+
 ghost use Rattle.std.specs.Prelude.{◌≡◌, ◌≤◌, length, IfOk};
 ghost use Rattle.copy_workers.specs.Workers.{AllUnsent};
 
@@ -23,14 +25,6 @@ use std::thread::Threads;
 use streams::CountDraws;
 use two_ends::Wrong;
 
-/// The three ends before anything was done.
-#[derive(Drop)]
-struct Ends {
-    source: SourceEnd,
-    dest: DestCore<MemoryDisk, Realm>,
-    client: ClientEnd,
-}
-
 /// The shares of landed bytes, of turns and of bytes given to send, each with all parts of its ledger.
 #[derive(Drop)]
 struct Shares<L: Ledger, T: Ledger, G: Ledger> {
@@ -42,23 +36,32 @@ struct Shares<L: Ledger, T: Ledger, G: Ledger> {
 /// Makes the ends, lets the client begin its copies, has them carried out by workers, and lets the client take leave. Then the
 /// files are compared, where the plan says so.
 pub fn run<R: Threads + Wait + Sync>(rt: &R, alloc: Global, plan: Plan) -> Result<Ran, Wrong> {
-    let ends = Ends::new(alloc, plan)?;
-    let (landed, turns, given) = (Blank::new(8), Blank::new(8), Blank::new(8));
-    run_over::<Brand, Brand, Brand, R>(rt, alloc, plan, ends, landed, turns, given)
+    let source = Mutex::new(SourceEnd::new(new_source(alloc, plan.size)?));
+    run_from(rt, alloc, plan, &source)
 }
 
-impl Ends {
-    /// The ends of a plan.
-    fn new(alloc: Global, plan: Plan) -> Result<Ends, Wrong> {
-        let source = SourceEnd::new(new_source(alloc, plan.size)?);
-        let dest = new_dest(alloc, plan.files(), plan.size)?;
-        let client = ClientEnd::new(new_client(alloc)?);
-        Ok(Ends {
-            source,
-            dest,
-            client,
-        })
-    }
+/// The same over this source.
+fn run_from<R: Threads + Wait + Sync>(
+    rt: &R,
+    alloc: Global,
+    plan: Plan,
+    source: &Mutex<SourceEnd>,
+) -> Result<Ran, Wrong> {
+    let client = Mutex::new(ClientEnd::new(new_client(alloc)?));
+    run_with(rt, alloc, plan, source, &client)
+}
+
+/// The same over this source and this client.
+fn run_with<R: Threads + Wait + Sync>(
+    rt: &R,
+    alloc: Global,
+    plan: Plan,
+    source: &Mutex<SourceEnd>,
+    client: &Mutex<ClientEnd>,
+) -> Result<Ran, Wrong> {
+    let dest = new_dest(alloc, plan.files(), plan.size)?;
+    let (landed, turns, given) = (Blank::new(8), Blank::new(8), Blank::new(8));
+    run_over::<Brand, Brand, Brand, R>(rt, alloc, plan, source, client, dest, landed, turns, given)
 }
 
 /// The same over these ends, with the books of these ledgers.
@@ -66,7 +69,9 @@ fn run_over<L: Ledger + Send, T: Ledger + Send, G: Ledger + Send, R: Threads + W
     rt: &R,
     alloc: Global,
     plan: Plan,
-    ends: Ends,
+    source: &Mutex<SourceEnd>,
+    client: &Mutex<ClientEnd>,
+    dest: DestCore<MemoryDisk, Realm>,
     landed: Blank,
     turns: Blank,
     given: Blank,
@@ -75,11 +80,6 @@ fn run_over<L: Ledger + Send, T: Ledger + Send, G: Ledger + Send, R: Threads + W
     requires turns { (turns.name ≡ T.name) × (turns.parts ≡ T.parts) × (8 ≤ turns.parts) }
     requires given { (given.name ≡ G.name) × (given.parts ≡ G.parts) × (8 ≤ given.parts) }
 {
-    let Ends {
-        source,
-        dest,
-        client,
-    } = ends;
     let (desk, shares) = new_desk::<L, T, G, _>(dest, landed, turns, given)?;
     run_at(rt, alloc, plan, source, client, desk, shares)
 }
@@ -127,8 +127,8 @@ fn run_at<L: Ledger + Send, T: Ledger + Send, G: Ledger + Send, R: Threads + Wai
     rt: &R,
     alloc: Global,
     plan: Plan,
-    source: SourceEnd,
-    client: ClientEnd,
+    source: &Mutex<SourceEnd>,
+    client: &Mutex<ClientEnd>,
     desk: MemoryDesk<L, T, G>,
     shares: Shares<L, T, G>,
 ) -> Result<Ran, Wrong>
@@ -136,21 +136,10 @@ fn run_at<L: Ledger + Send, T: Ledger + Send, G: Ledger + Send, R: Threads + Wai
     requires turned { (shares.turned.parts ≡ T.parts) × (shares.turned.amount ≡ 0) × (8 ≤ T.parts) }
     requires given { (shares.given.parts ≡ G.parts) × (shares.given.amount ≡ 0) × (8 ≤ G.parts) }
 {
-    let (source, desk) = (Mutex::new(source), Mutex::new(desk));
-    let seen = copy_all(rt, alloc, plan, &source, client, &desk, shares);
-    ended(alloc, plan, seen, source.into_inner(), desk.into_inner())
-}
-
-/// What came of it, by what was seen and what these ends are then.
-fn ended<L: Ledger, T: Ledger, G: Ledger>(
-    alloc: Global,
-    plan: Plan,
-    seen: Result<Seen, Wrong>,
-    source: SourceEnd,
-    desk: MemoryDesk<L, T, G>,
-) -> Result<Ran, Wrong> {
-    let (mut source, mut dest) = (source.core, desk.hand_back());
-    told(alloc, &plan, seen, &mut source, &mut dest)
+    let desk = Mutex::new(desk);
+    let seen = copy_all(rt, alloc, plan, source, client, &desk, shares);
+    let mut dest = desk.into_inner().hand_back();
+    told(alloc, &plan, seen?, &mut source.lock(rt).core, &mut dest)
 }
 
 /// The client begins its copies, the workers carry them out, and then the client takes leave.
@@ -159,7 +148,7 @@ fn copy_all<L: Ledger + Send, T: Ledger + Send, G: Ledger + Send, R: Threads + W
     alloc: Global,
     plan: Plan,
     source: &Mutex<SourceEnd>,
-    client: ClientEnd,
+    client: &Mutex<ClientEnd>,
     desk: &Mutex<MemoryDesk<L, T, G>>,
     shares: Shares<L, T, G>,
 ) -> Result<Seen, Wrong>
@@ -167,13 +156,13 @@ fn copy_all<L: Ledger + Send, T: Ledger + Send, G: Ledger + Send, R: Threads + W
     requires turned { (shares.turned.parts ≡ T.parts) × (shares.turned.amount ≡ 0) × (8 ≤ T.parts) }
     requires given { (shares.given.parts ≡ G.parts) × (shares.given.amount ≡ 0) × (8 ≤ G.parts) }
 {
-    let (client, reads) = (Mutex::new(client), Mutex::new(Reads::none()));
+    let reads = Mutex::new(Reads::none());
     let room = Room {
         rt,
         alloc,
         plan,
         source,
-        client: &client,
+        client,
         desk,
         reads: &reads,
     };

@@ -1,3 +1,5 @@
+//! The three ends, which workers and their links share.
+
 use crate::ends::{ClientEnd, SourceEnd, StillClock};
 use crate::plan::Plan;
 use crate::ran::{Counts, Seen};
@@ -51,13 +53,28 @@ impl<'a, R: Wait, L: Ledger, T: Ledger, G: Ledger> Room<'a, R, L, T, G> {
     /// The client begins its copies, and its calls are answered until nothing is under way.
     pub(crate) fn begin(&self) -> Result<(), Wrong> {
         for j in 1..=self.plan.copies() {
-            let out = self
-                .client
-                .lock(self.rt)
-                .begin(self.alloc, j, self.plan.spec(j))?;
+            let out = self.client_begins(j)?;
             let _sent = self.carry(out)?;
         }
         Ok(())
+    }
+
+    fn client_begins(&self, j: u8) -> Result<Outbox, Wrong> {
+        let spec = self.plan.spec(j);
+        self.client.lock(self.rt).begin(self.alloc, j, spec)
+    }
+
+    fn client_takes(&self, from: Side, bytes: &[u8]) -> Result<Outbox, Wrong> {
+        self.client.lock(self.rt).take(self.alloc, from, bytes)
+    }
+
+    fn client_leaves(&self) -> Result<Outbox, Wrong> {
+        self.client.lock(self.rt).leave(self.alloc)
+    }
+
+    /// The destination answers the client's call.
+    fn dest_takes(&self, bytes: &[u8]) -> Mem<Outbox> {
+        self.desk.lock(self.rt).on_record(self.alloc, CLIENT, bytes)
     }
 
     /// The source answers a worker's call.
@@ -68,25 +85,28 @@ impl<'a, R: Wait, L: Ledger, T: Ledger, G: Ledger> Room<'a, R, L, T, G> {
     /// The destination tells the client something. What the client says to it is answered, and the desk closed where all copies
     /// are over.
     pub(crate) fn tell(&self, bytes: &[u8]) -> Result<(), Wrong> {
-        let out = self
-            .client
-            .lock(self.rt)
-            .take(self.alloc, Side::Dest, bytes)?;
+        let out = self.client_takes(Side::Dest, bytes)?;
         let _sent = self.carry(out)?;
-        let is_over = self.client.lock(self.rt).is_over(self.plan.copies());
-        if is_over {
+        if self.is_over() {
             self.desk.lock(self.rt).close();
         }
         Ok(())
     }
 
+    fn is_over(&self) -> bool {
+        self.client.lock(self.rt).is_over(self.plan.copies())
+    }
+
+    fn has_left(&self) -> bool {
+        self.client.lock(self.rt).has_left()
+    }
+
     /// The client takes leave of both servers. How many calls that takes; None where an answer is awaited still, or a server
     /// could be called without being set up anew.
     pub(crate) fn leave(&self) -> Result<Option<u32>, Wrong> {
-        let out = self.client.lock(self.rt).leave(self.alloc)?;
+        let out = self.client_leaves()?;
         let calls = self.carry(out)?;
-        let has_left = self.client.lock(self.rt).has_left();
-        Ok(if has_left { Some(calls) } else { None })
+        Ok(if self.has_left() { Some(calls) } else { None })
     }
 
     /// Carries what the client sends to the servers, and the answers back, until nothing is under way. How many records the client
@@ -98,41 +118,48 @@ impl<'a, R: Wait, L: Ledger, T: Ledger, G: Ledger> Room<'a, R, L, T, G> {
                 return Ok(sent);
             }
             let next = waiting.remove(0);
-            self.deliver(&next, &mut waiting)?;
+            self.deliver(next.to, next.bytes.as_slice(), &mut waiting)?;
         }
         Err(Wrong::Lacks("an end"))
     }
 
     /// A server takes what the client sent, and the client the answers. What it sends then waits.
-    fn deliver(&self, sent: &Outgoing, waiting: &mut Vec<Outgoing>) -> Result<(), Wrong> {
-        let (from, answers) = self.answers(sent)?;
-        for answer in answers.sent.as_slice() {
-            let out = self
-                .client
-                .lock(self.rt)
-                .take(self.alloc, from, answer.bytes.as_slice())?;
+    fn deliver(&self, to: To, bytes: &[u8], waiting: &mut Vec<Outgoing>) -> Result<(), Wrong> {
+        match to {
+            To::Server(End::Source) => {
+                let answers = self.ask(CLIENT, bytes)?;
+                self.bring(Side::Source, answers.sent.as_slice(), waiting)
+            }
+            To::Server(End::Dest) => {
+                let answers = self.dest_takes(bytes)?;
+                self.bring(Side::Dest, answers.sent.as_slice(), waiting)
+            }
+            To::Server(End::Client) | To::Conn(_) | To::Source(_) => Err(Wrong::Lacks("a server")),
+        }
+    }
+
+    /// The client takes a server's answers.
+    fn bring(
+        &self,
+        from: Side,
+        answers: &[Outgoing],
+        waiting: &mut Vec<Outgoing>,
+    ) -> Result<(), Wrong> {
+        for answer in answers {
+            let out = self.client_takes(from, answer.bytes.as_slice())?;
             wait_for(waiting, out)?;
         }
         Ok(())
     }
 
-    /// What a server answers to what the client sent.
-    fn answers(&self, sent: &Outgoing) -> Result<(Side, Outbox), Wrong> {
-        let bytes = sent.bytes.as_slice();
-        match sent.to {
-            To::Server(End::Source) => {
-                let out = self.source.lock(self.rt).take(self.alloc, CLIENT, bytes)?;
-                Ok((Side::Source, out))
-            }
-            To::Server(End::Dest) => {
-                let out = self
-                    .desk
-                    .lock(self.rt)
-                    .on_record(self.alloc, CLIENT, bytes)?;
-                Ok((Side::Dest, out))
-            }
-            To::Server(End::Client) | To::Conn(_) | To::Source(_) => Err(Wrong::Lacks("a server")),
-        }
+    /// A large READ was put.
+    pub(crate) fn begin_read(&self) {
+        self.reads.lock(self.rt).begin();
+    }
+
+    /// The answer to one is given.
+    pub(crate) fn end_read(&self) {
+        self.reads.lock(self.rt).end();
     }
 
     /// What is seen of the links and of the client, where the workers came to this and the leave to that.

@@ -1,3 +1,5 @@
+//! What came of it.
+
 use crate::making::CHUNK;
 use crate::plan::Plan;
 use client_copies::Report;
@@ -82,44 +84,60 @@ pub(crate) fn count_all<L: Ledger, T: Ledger, G: Ledger>(
 pub(crate) fn told(
     alloc: Global,
     plan: &Plan,
-    seen: Result<Seen, Wrong>,
+    seen: Seen,
     source: &mut SourceCore<MemoryDisk, Realm>,
     dest: &mut DestCore<MemoryDisk, Realm>,
 ) -> Result<Ran, Wrong> {
-    let seen = seen?;
     if !plan.compares {
         return Ok(Ran { seen, same: None });
     }
-    let same = same_bytes(alloc, plan, source, dest)?;
+    let mut here = vec![in alloc; 0; CHUNK]?;
+    let mut there = vec![in alloc; 0; CHUNK]?;
+    let same = are_same(plan, source, dest, &mut here, &mut there);
     Ok(Ran {
         seen,
         same: Some(same),
     })
 }
 
-/// Whether each of the destination's files has the bytes of the source's.
-fn same_bytes(
-    alloc: Global,
+/// Whether each of the destination's files has the bytes of the source's. The room for those of a chunk is lent.
+fn are_same(
     plan: &Plan,
     source: &mut SourceCore<MemoryDisk, Realm>,
     dest: &mut DestCore<MemoryDisk, Realm>,
-) -> Result<bool, Wrong> {
-    let (mut here, mut there) = (vec![in alloc; 0; CHUNK]?, vec![in alloc; 0; CHUNK]?);
+    here: &mut [u8],
+    there: &mut [u8],
+) -> bool {
+    let size = u64::from(plan.size);
     for file in 1..=plan.files() {
-        if !have_size(source, dest, file, u64::from(plan.size)) {
-            return Ok(false);
-        }
-        for chunk in 0..1024_u64 {
-            let off = chunk * CHUNK as u64;
-            if off >= u64::from(plan.size) {
-                break;
-            }
-            if !is_same(source, dest, file, off, &mut here, &mut there) {
-                return Ok(false);
-            }
+        if !have_size(source, dest, file, size)
+            || !is_same_file(source, dest, file, size, here, there)
+        {
+            return false;
         }
     }
-    Ok(true)
+    true
+}
+
+/// Whether one of the destination's files has the first so many bytes of the source's.
+fn is_same_file(
+    source: &mut SourceCore<MemoryDisk, Realm>,
+    dest: &mut DestCore<MemoryDisk, Realm>,
+    file: u32,
+    size: u64,
+    here: &mut [u8],
+    there: &mut [u8],
+) -> bool {
+    for chunk in 0..1024_u64 {
+        let off = chunk * CHUNK as u64;
+        if off >= size {
+            break;
+        }
+        if !is_same(source, dest, file, off, here, there) {
+            return false;
+        }
+    }
+    true
 }
 
 /// Whether the source's file and one of the destination's have so many bytes.

@@ -1,3 +1,5 @@
+//! What is done: what is copied, by how many workers, over which links.
+
 use nfs_base::CopySpec;
 
 /// What the client copies.

@@ -51,6 +51,14 @@ pub(crate) fn new_dest(
 pub(crate) fn new_client(alloc: Global) -> Mem<Client<Realm>> {
     let source = place(alloc, SOURCE_ADDR)?;
     let dest = place(alloc, DEST_ADDR)?;
+    new_client_of(alloc, source, dest)
+}
+
+/// A client of servers at these places.
+fn new_client_of(alloc: Global, source: NetLoc, dest: NetLoc) -> Mem<Client<Realm>>
+    requires source { net_loc.Fits source }
+    requires dest { net_loc.Fits dest }
+{
     let me = Octets::from_slice(alloc, b"user")?;
     Client::new(alloc, realm(alloc)?, me, source, dest)
 }
@@ -92,6 +100,15 @@ fn filled<D: Disk + Drop>(alloc: Global, disk: D, size: u32) -> Result<D, Wrong>
 
 fn fill<D: Disk + Drop>(alloc: Global, volume: &mut Volume<D>, size: u32) -> Result<(), Wrong> {
     let mut bytes = vec![in alloc; 0; CHUNK]?;
+    write_all(volume, &mut bytes, size)
+}
+
+/// Writes so many bytes into file 1 of a volume and commits it. The bytes of a chunk are lent for that.
+fn write_all<D: Disk + Drop>(
+    volume: &mut Volume<D>,
+    bytes: &mut [u8],
+    size: u32,
+) -> Result<(), Wrong> {
     let mut word = 1;
     for chunk in 0..1024_u64 {
         let off = chunk * CHUNK as u64;
@@ -99,9 +116,13 @@ fn fill<D: Disk + Drop>(alloc: Global, volume: &mut Volume<D>, size: u32) -> Res
         if left == 0 {
             break;
         }
-        word = scramble(&mut bytes, word);
-        write(volume, off, first(&bytes, left))?;
+        word = scramble(bytes, word);
+        write(volume, off, first(bytes, left))?;
     }
+    commit(volume)
+}
+
+fn commit<D: Disk + Drop>(volume: &mut Volume<D>) -> Result<(), Wrong> {
     let _files = volume.files();
     match volume.commit(1) {
         Ok(()) => Ok(()),
@@ -141,9 +162,28 @@ fn scramble(bytes: &mut [u8], word: u32) -> u32 {
 fn open_source<D: Disk + Drop>(alloc: Global, disk: D) -> Result<SourceCore<D, Realm>, Wrong>
     requires { D.Told → (image : Image) → MayLeave (present (D.timeline disk)) image → CanBeOpened (D.size disk) image }
 {
+    let peers = source_peers(alloc)?;
+    let own = place(alloc, SOURCE_ADDR)?;
+    open_source_at(alloc, disk, peers, own)
+}
+
+/// The servers that the source knows.
+fn source_peers(alloc: Global) -> Mem<Items<Peer>> {
     let mut peers = Items::new(alloc);
     peers.push(peer(alloc, b"dest", DEST_ADDR)?)?;
-    let own = place(alloc, SOURCE_ADDR)?;
+    Ok(peers)
+}
+
+/// The source on a disk, which knows these servers and is found here.
+fn open_source_at<D: Disk + Drop>(
+    alloc: Global,
+    disk: D,
+    peers: Items<Peer>,
+    own: NetLoc,
+) -> Result<SourceCore<D, Realm>, Wrong>
+    requires disk { D.Told → (image : Image) → MayLeave (present (D.timeline disk)) image → CanBeOpened (D.size disk) image }
+    requires short { IsShort own }
+{
     match SourceCore::open(alloc, disk, realm(alloc)?, peers, own)? {
         Ok(core) => Ok(core),
         Err(_) => Err(Wrong::Lacks("a source")),
@@ -156,6 +196,18 @@ fn open_dest<D: Disk + Drop>(alloc: Global, disk: D) -> Result<DestCore<D, Realm
 {
     let source = peer(alloc, b"source", SOURCE_ADDR)?;
     let own = place(alloc, DEST_ADDR)?;
+    open_dest_at(alloc, disk, source, own)
+}
+
+/// The destination on a disk, which copies from this source and is found here.
+fn open_dest_at<D: Disk + Drop>(
+    alloc: Global,
+    disk: D,
+    source: Peer,
+    own: NetLoc,
+) -> Result<DestCore<D, Realm>, Wrong>
+    requires { D.Told → (image : Image) → MayLeave (present (D.timeline disk)) image → CanBeOpened (D.size disk) image }
+{
     let name = Octets::from_slice(alloc, b"dest")?;
     match DestCore::open(alloc, disk, realm(alloc)?, source, name, own)? {
         Ok(core) => Ok(core),

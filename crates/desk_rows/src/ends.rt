@@ -1,3 +1,5 @@
+//! The source and the client, each with what it draws.
+
 use client_copies::Report;
 use client_core::Client;
 use client_leaving::Leaving;

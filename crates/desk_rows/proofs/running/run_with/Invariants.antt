@@ -1,4 +1,4 @@
-use Rattle.desk_ends.proofs.running.run.Given as goal
+use Rattle.desk_rows.proofs.running.run_with.Given as goal
 
 abbrev pub ghosts-run_over-L-Ledger : goal.ghosts-run_over-L-Ledger
 ghosts-run_over-L-Ledger g a = record { name = a.landed.name; parts = a.landed.parts }

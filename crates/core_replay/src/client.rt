@@ -1,37 +1,96 @@
-//! The client that is replayed, as the cases have it, and its steps by the words of a line.
+//! Cases of a client: the client, and its steps by the words of a line.
 
-ghost use Rattle.std.specs.Prelude.{◌≡◌, ◌<◌, ◌≤◌, length, IfOk};
+ghost use Rattle.std.specs.Prelude.{◌≡◌, ◌<◌};
 ghost use Rattle.client_core.specs.declared.client.TheConstants.{MOST_STEPS};
 ghost use Rattle.nfs_base.specs.Forms.{net_loc};
 
-use crate::lines::{bytes_of, copy_number, copy_spec, long, side_of};
+use crate::client_lines::{awaits_line, copy_number, copy_spec, is_step, report_line, side_of};
+use crate::lines::{bytes_of, long};
+use crate::player::Player;
+use crate::setting::{dest_place, realm, source_place};
 use client_core::{Client, MOST_STEPS};
 use gss_mech::Realm;
 use nfs_base::{DATA_LIMIT, NetLoc};
 use outbox::Outbox;
+use outbox_text::lines_of;
 use outcome::Mem;
 use row_text::{number, word};
 use std::alloc::Global;
 use streams::CountDraws;
+use wire_lines::Speaker;
 use wire_xdr::Octets;
+
+/// The client of a case, once one was begun.
+#[derive(Drop)]
+pub struct ClientPlaying {
+    ends: Option<Ends>,
+}
+
+impl ClientPlaying {
+    pub fn new() -> ClientPlaying {
+        ClientPlaying { ends: None }
+    }
+}
+
+impl Player for ClientPlaying {
+    fn begin(&mut self, alloc: Global, _words: &[&str]) -> Mem<()> {
+        self.ends = Some(Ends::new(alloc)?);
+        Ok(())
+    }
+
+    fn event(&mut self, alloc: Global, words: &[&str]) -> Mem<Option<Vec<String>>> {
+        if !is_step(word(words, 0)) {
+            return Ok(None);
+        }
+        match &mut self.ends {
+            Some(ends) => Ok(Some(ends.outcome(alloc, words)?)),
+            None => Ok(None),
+        }
+    }
+
+    fn held(&mut self, alloc: Global, words: &[&str]) -> Mem<String> {
+        match &self.ends {
+            Some(ends) => ends.held(alloc, words),
+            None => Ok(format!(in alloc; "no client")?),
+        }
+    }
+}
 
 /// A client, and what it draws.
 #[derive(Drop)]
-pub struct Ends {
-    pub client: Client<Realm>,
+struct Ends {
+    client: Client<Realm>,
     draws: CountDraws,
 }
 
 impl Ends {
-    pub fn new(alloc: Global) -> Mem<Ends> {
+    fn new(alloc: Global) -> Mem<Ends> {
         Ok(Ends {
             client: new_client(alloc)?,
             draws: CountDraws::new(),
         })
     }
 
+    /// The lines of a step's outcome: none where the client makes no step.
+    fn outcome(&mut self, alloc: Global, words: &[&str]) -> Mem<Vec<String>> {
+        match self.step(alloc, words)? {
+            Some(out) => lines_of(alloc, Speaker::Client, &out),
+            None => Ok(Vec::new(alloc)),
+        }
+    }
+
+    /// What the client tells of a copy, or whether it awaits an answer of a server.
+    fn held(&self, alloc: Global, words: &[&str]) -> Mem<String> {
+        if word(words, 0) == "report" {
+            let j = copy_number(words);
+            return report_line(alloc, j, self.client.report(j));
+        }
+        let side = word(words, 1);
+        awaits_line(alloc, side, self.client.awaits(side_of(side)))
+    }
+
     /// A step, by the words of its line. None where the client makes none.
-    pub fn step(&mut self, alloc: Global, words: &[&str]) -> Mem<Option<Outbox>> {
+    fn step(&mut self, alloc: Global, words: &[&str]) -> Mem<Option<Outbox>> {
         if self.client.calls() >= MOST_STEPS {
             return Ok(None);
         }
@@ -108,27 +167,17 @@ impl Ends {
     }
 }
 
-/// A client of the case's realm, at its two servers.
+/// A client that has called nobody yet.
 fn new_client(alloc: Global) -> Mem<Client<Realm>> {
-    let source = tcp(alloc, b"127.0.0.1.8.1")?;
-    let dest = tcp(alloc, b"127.0.0.1.8.2")?;
+    let (source, dest) = (source_place(alloc)?, dest_place(alloc)?);
+    new_client_of(alloc, source, dest)
+}
+
+/// A client of servers at these places.
+fn new_client_of(alloc: Global, source: NetLoc, dest: NetLoc) -> Mem<Client<Realm>>
+    requires source { net_loc.Fits source }
+    requires dest { net_loc.Fits dest }
+{
     let me = Octets::from_slice(alloc, b"user")?;
     Client::new(alloc, realm(alloc)?, me, source, dest)
-}
-
-fn realm(alloc: Global) -> Mem<Realm> {
-    let user = (Octets::from_slice(alloc, b"user")?, [1; 32]);
-    let dest = (Octets::from_slice(alloc, b"dest")?, [2; 32]);
-    Realm::new(alloc, &[user, dest])
-}
-
-#[tactic(auto, unfolding(nfs_base::specs::Forms::net_loc))]
-fn tcp(alloc: Global, addr: &[u8]) -> Mem<NetLoc>
-    requires { length addr.now ≤ 64 }
-    ensures { IfOk result (λ loc. net_loc.Fits loc) }
-{
-    Ok(NetLoc::Addr {
-        netid: Octets::from_slice(alloc, b"tcp")?,
-        addr: Octets::from_slice(alloc, addr)?,
-    })
 }
