@@ -45,9 +45,7 @@ fn add(
 
 /// The client as the end that is called back, with its contexts: of `source`, and of `dest` with this key.
 fn called_end(alloc: Global, mech: Realm, key: &[u8; 32]) -> Result<Server, Wrong> {
-    let mut contexts = Contexts::new(alloc, End::Client, 0)?;
-    add(alloc, &mut contexts, &mech, (1, b"source", &[0; 32]))?;
-    add(alloc, &mut contexts, &mech, (2, b"dest", key))?;
+    let contexts = both_contexts(alloc, &mech, key)?;
     Ok(Server {
         mech,
         contexts,
@@ -56,14 +54,26 @@ fn called_end(alloc: Global, mech: Realm, key: &[u8; 32]) -> Result<Server, Wron
     })
 }
 
+fn both_contexts(alloc: Global, mech: &Realm, key: &[u8; 32]) -> Result<Contexts<u8>, Wrong> {
+    let mut contexts = Contexts::new(alloc, End::Client, 0)?;
+    add(alloc, &mut contexts, mech, (1, b"source", &[0; 32]))?;
+    add(alloc, &mut contexts, mech, (2, b"dest", key))?;
+    Ok(contexts)
+}
+
 /// `callback INIT REPLY CALL REPLY`: the destination's callback under context 2 of the client, whose key is that of the
 /// first exchange, and the reply to it by the call that seals at once.
 pub fn callback(alloc: Global, words: &[&str], text: &mut String) -> Result<(), Wrong> {
-    let mech = realm(alloc)?;
-    let key = key_of(alloc, &mech, words)?;
-    let mut client = called_end(alloc, mech, &key)?;
+    let mut client = client_of(alloc, words)?;
     let (sent, answered) = (bytes_at(alloc, words, 3)?, bytes_at(alloc, words, 4)?);
     answer(alloc, &mut client, (&sent, &answered), text)
+}
+
+/// The client that has the context which INIT and its reply made.
+fn client_of(alloc: Global, words: &[&str]) -> Result<Server, Wrong> {
+    let mech = realm(alloc)?;
+    let key = key_of(alloc, &mech, words)?;
+    called_end(alloc, mech, &key)
 }
 
 fn key_of(alloc: Global, mech: &Realm, words: &[&str]) -> Result<[u8; 32], Wrong> {

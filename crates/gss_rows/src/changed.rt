@@ -19,10 +19,16 @@ pub fn calls(alloc: Global, words: &[&str], text: &mut String) -> Result<(), Wro
     let call = bytes_at(alloc, words, 4)?;
     let mut places = Places::new(alloc);
     for at in from..to {
-        let (first, second) = both(alloc, &call, at, bits)?;
-        places.tell(text, at, format!(in alloc; "{first:?}, {second:?}")?)?;
+        let answer = call_at(alloc, &call, at, bits)?;
+        places.tell(text, at, answer)?;
     }
     Ok(())
+}
+
+/// How the two are told.
+fn call_at(alloc: Global, call: &[u8], at: usize, bits: u8) -> Result<String, Wrong> {
+    let (first, second) = both(alloc, call, at, bits)?;
+    Ok(format!(in alloc; "{first:?}, {second:?}")?)
 }
 
 /// What becomes of a call with these bits turned at a place, and then of the call itself.
@@ -35,7 +41,8 @@ fn both(alloc: Global, call: &[u8], at: usize, bits: u8) -> Result<(Told, Told),
 
 /// `reply RECORD`: what a client takes a record for that awaits the reply to its fifth call under context 1, xid 6.
 pub fn reply(alloc: Global, words: &[&str], text: &mut String) -> Result<(), Wrong> {
-    take(alloc, bytes_at(alloc, words, 1)?, text)
+    let record_ = bytes_at(alloc, words, 1)?;
+    take(alloc, &record_, text)
 }
 
 /// `turned_reply REPLY`: the same of a reply with the last bit of each byte turned.
@@ -43,18 +50,35 @@ pub fn replies(alloc: Global, words: &[&str], text: &mut String) -> Result<(), W
     let reply = bytes_at(alloc, words, 1)?;
     let mut places = Places::new(alloc);
     for at in 0..reply.len() {
-        let mut answer = String::new(alloc);
-        take(alloc, turned(alloc, &reply, at, 1)?, &mut answer)?;
+        let answer = reply_at(alloc, &reply, at)?;
         places.tell(text, at, answer)?;
     }
     Ok(())
 }
 
-fn take(alloc: Global, record_: Vec<u8>, text: &mut String) -> Result<(), Wrong> {
+fn reply_at(alloc: Global, reply: &[u8], at: usize) -> Result<String, Wrong> {
+    let record_ = turned(alloc, reply, at, 1)?;
+    let mut answer = String::new(alloc);
+    take(alloc, &record_, &mut answer)?;
+    Ok(answer)
+}
+
+fn take(alloc: Global, record_: &[u8], text: &mut String) -> Result<(), Wrong> {
     let source = Server::with_context(alloc, 0)?;
     let mut client = client(&source)?;
-    let sealed = fifth(alloc, &mut client, &source.mech)?;
-    let checked = client.check(alloc, &sealed, &record_, &source.mech)?;
+    awaited(alloc, &mut client, &source.mech, record_, text)
+}
+
+/// Tells what a record is to the fifth call.
+fn awaited(
+    alloc: Global,
+    client: &mut Client,
+    mech: &Realm,
+    record_: &[u8],
+    text: &mut String,
+) -> Result<(), Wrong> {
+    let sealed = fifth(alloc, client, mech)?;
+    let checked = client.check(alloc, &sealed, record_, mech)?;
     Ok(tell_checked(&checked, sealed.awaited.seq, text)?)
 }
 
@@ -78,7 +102,8 @@ fn tell_checked(checked: &Checked, seq: u32, text: &mut String) -> Mem<()> {
 
 /// `init_reply RECORD`: what a record makes at a client that awaits the reply to the INIT of `user`, xid 1.
 pub fn init(alloc: Global, words: &[&str], text: &mut String) -> Result<(), Wrong> {
-    begin(alloc, bytes_at(alloc, words, 1)?, text)
+    let record_ = bytes_at(alloc, words, 1)?;
+    begin(alloc, &record_, text)
 }
 
 /// `turned_init REPLY`: the same of a reply with the last bit of each byte turned.
@@ -86,18 +111,24 @@ pub fn inits(alloc: Global, words: &[&str], text: &mut String) -> Result<(), Wro
     let reply = bytes_at(alloc, words, 1)?;
     let mut places = Places::new(alloc);
     for at in 0..reply.len() {
-        let mut answer = String::new(alloc);
-        begin(alloc, turned(alloc, &reply, at, 1)?, &mut answer)?;
+        let answer = init_at(alloc, &reply, at)?;
         places.tell(text, at, answer)?;
     }
     Ok(())
 }
 
-fn begin(alloc: Global, record_: Vec<u8>, text: &mut String) -> Result<(), Wrong> {
+fn init_at(alloc: Global, reply: &[u8], at: usize) -> Result<String, Wrong> {
+    let record_ = turned(alloc, reply, at, 1)?;
+    let mut answer = String::new(alloc);
+    begin(alloc, &record_, &mut answer)?;
+    Ok(answer)
+}
+
+fn begin(alloc: Global, record_: &[u8], text: &mut String) -> Result<(), Wrong> {
     let source = Server::with_context(alloc, 0)?;
-    let nonce = drawn(&mut CountDraws::new())?;
-    let begun = init_reply(alloc, 1, b"user", &nonce, &record_, &source.mech)?;
-    Ok(tell_begun(begun, &source.key(1)?, text)?)
+    let (nonce, key) = (drawn(&mut CountDraws::new())?, source.key(1)?);
+    let begun = init_reply(alloc, 1, b"user", &nonce, record_, &source.mech)?;
+    Ok(tell_begun(begun, &key, text)?)
 }
 
 /// A context that is made is told with its handle, and whether its key is that of the source's context 1.

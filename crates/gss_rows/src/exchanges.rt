@@ -52,8 +52,22 @@ pub fn exchange(
         answered: &answered,
     };
     let told = source.admit(alloc, records.sent)?;
-    let sealed = called(alloc, client, &told, records, &source.mech, text)?;
-    replied(alloc, source, &told, records, text)?;
+    exchanged(alloc, source, client, &told, records, text)
+}
+
+/// What both ends make of a call that was admitted and its reply.
+fn exchanged(
+    alloc: Global,
+    source: &Server,
+    client: &mut Client,
+    told: &Call,
+    records: Records<'_>,
+    text: &mut String,
+) -> Result<(), Wrong>
+    requires { call.Fits told.now.head }
+{
+    let sealed = called(alloc, client, told, records, &source.mech, text)?;
+    replied(alloc, source, told, records, text)?;
     taken(alloc, client, &sealed, records, &source.mech, text)
 }
 

@@ -40,13 +40,19 @@ fn both_ends<M: Mechanism>(alloc: Global, mech: M, text: &mut String) -> Mem<()>
 }
 
 fn accepted<M: Mechanism>(alloc: Global, mech: &M, token: &[u8], text: &mut String) -> Mem<()> {
-    let Some(taken) = mech.accept(alloc, token, &[8; 32])? else {
-        return tell(text, "no token");
-    };
-    tell_taken(mech, &taken, text)?;
+    match mech.accept(alloc, token, &[8; 32])? {
+        Some(taken) => {
+            tell_taken(mech, &taken, text)?;
+            tell_other(alloc, mech, text)?;
+            apart(mech, &taken.key, text)
+        }
+        None => tell(text, "no token"),
+    }
+}
+
+fn tell_other<M: Mechanism>(alloc: Global, mech: &M, text: &mut String) -> Mem<()> {
     let none = mech.start(alloc, b"dest", &[7; 32])?.is_none();
-    tell_where(none, text, "none of another principal; ")?;
-    apart(mech, &taken.key, text)
+    tell_where(none, text, "none of another principal; ")
 }
 
 fn tell_taken<M: Mechanism>(mech: &M, taken: &Accepted, text: &mut String) -> Mem<()> {
@@ -72,18 +78,23 @@ fn apart<M: Mechanism>(mech: &M, key: &[u8; 32], text: &mut String) -> Mem<()> {
 pub fn tokens(alloc: Global, words: &[&str], text: &mut String) -> Mem<()> {
     let realm = realm_of_user(alloc)?;
     let token = bytes_at(alloc, words, 1)?;
-    let mut places = Places::new(alloc);
-    for at in 0..=token.len() {
-        let answer = taken(alloc, &realm, turned(alloc, &token, at, 1)?)?;
-        places.tell(text, at, answer)?;
-    }
-    let len = token.len().saturating_add(1);
-    places.tell(text, len, taken(alloc, &realm, longer(token)?)?)
+    changed(alloc, &realm, &token, text)
 }
 
-fn longer(mut token: Vec<u8>) -> Mem<Vec<u8>> {
-    token.push(0)?;
-    Ok(token)
+fn changed(alloc: Global, realm: &Realm, token: &[u8], text: &mut String) -> Mem<()> {
+    let mut places = Places::new(alloc);
+    for at in 0..=token.len() {
+        let answer = taken(alloc, realm, turned(alloc, token, at, 1)?)?;
+        places.tell(text, at, answer)?;
+    }
+    let answer = taken(alloc, realm, longer(alloc, token)?)?;
+    places.tell(text, token.len().saturating_add(1), answer)
+}
+
+fn longer(alloc: Global, token: &[u8]) -> Mem<Vec<u8>> {
+    let mut bytes = Vec::from_slice(alloc, token)?;
+    bytes.push(0)?;
+    Ok(bytes)
 }
 
 fn taken(alloc: Global, realm: &Realm, token: Vec<u8>) -> Mem<String> {

@@ -23,7 +23,13 @@ fn admitted(alloc: Global, source: &mut Server, version: u32) -> Result<Call, Wr
 pub fn served(alloc: Global, version: u32, text: &mut String) -> Result<(), Wrong> {
     let mut source = Server::with_context(alloc, 0)?;
     let told = admitted(alloc, &mut source, version)?;
-    let reply = source.reply(alloc, &told, b"result!!")?;
+    tell_served(alloc, &source, &told, text)
+}
+
+fn tell_served(alloc: Global, source: &Server, told: &Call, text: &mut String) -> Result<(), Wrong>
+    requires { call.Fits told.now.head }
+{
+    let reply = source.reply(alloc, told, b"result!!")?;
     Ok(tell_hex(text, reply.as_slice())?)
 }
 
@@ -31,6 +37,12 @@ pub fn served(alloc: Global, version: u32, text: &mut String) -> Result<(), Wron
 pub fn garbage(alloc: Global, version: u32, text: &mut String) -> Result<(), Wrong> {
     let mut source = Server::with_context(alloc, 0)?;
     let told = admitted(alloc, &mut source, version)?;
-    let reply = source.garbage(alloc, &told)?;
+    tell_garbage(alloc, &source, &told, text)
+}
+
+fn tell_garbage(alloc: Global, source: &Server, told: &Call, text: &mut String) -> Result<(), Wrong>
+    requires { call.Fits told.now.head }
+{
+    let reply = source.garbage(alloc, told)?;
     Ok(tell_hex(text, reply.as_slice())?)
 }

@@ -32,7 +32,7 @@ pub fn told(
         "undrawn" => undrawn(alloc, source, u64::from(first), text),
         "create" => create(alloc, source, first, u64::from(second), text),
         "call" => call(alloc, source, words, text),
-        "record" => taken(alloc, source, bytes_at(alloc, words, 2)?, first, text),
+        "record" => recorded(alloc, source, words, text),
         "token" => token(alloc, source, words, text),
         "accept" => accept(alloc, source, words, text),
         "destroy" => destroy(source, first, text),
@@ -112,7 +112,17 @@ fn call(
     let asked = asked(words);
     let key = source.key(if asked.number == 2 { 2 } else { 1 })?;
     let record_ = asked.record(alloc, &key)?;
-    taken(alloc, source, record_, number(words, 1), text)
+    taken(alloc, source, &record_, number(words, 1), text)
+}
+
+fn recorded(
+    alloc: Global,
+    source: &mut Server,
+    words: &[&str],
+    text: &mut String,
+) -> Result<(), Wrong> {
+    let record_ = bytes_at(alloc, words, 2)?;
+    taken(alloc, source, &record_, number(words, 1), text)
 }
 
 fn asked(words: &[&str]) -> Asked {
@@ -129,11 +139,11 @@ fn asked(words: &[&str]) -> Asked {
 fn taken(
     alloc: Global,
     source: &mut Server,
-    record_: Vec<u8>,
+    record_: &[u8],
     now: u32,
     text: &mut String,
 ) -> Result<(), Wrong> {
-    let told = source.take(alloc, &record_, u64::from(now))?;
+    let told = source.take(alloc, record_, u64::from(now))?;
     write!(text, "{told:?}")?;
     Ok(())
 }
