@@ -3,9 +3,10 @@
 
     tools/slow.py NAME [COUNT]
 
-A line is seconds, and of these seconds those for the borrows (what is lent, moved and let go of), and the function; the COUNT slowest, 20
-where no number is given. The prover keeps a file for each part of a function's proof as soon as it has it, so the time between two
-files is that of the part. The status is that of `rt check`.
+A line is seconds on the clock, and of these seconds those for the borrows (what is lent, moved and let go of), and the function; the COUNT
+slowest, 20 where no number is given. The prover keeps a file for each part of a function's proof as soon as it has it, so the time between
+two files is that of the part. Where another checkout on this machine keeps a proof of the same text, `rt check` begins with that, and
+there is nothing to tell. The status is that of `rt check`.
 """
 
 import collections
