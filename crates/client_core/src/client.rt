@@ -66,6 +66,8 @@ impl<M: Mechanism> Client<M> {
         requires dest { net_loc.Fits dest }
         ensures { IfOk result (λ client. client ≡ state.new_client (record { mech = mech; me = me; source = source; dest = dest })) }
     {
+        let copies = CopyTable::new(alloc)?;
+        let back = Contexts::new(alloc, End::Client, 0)?;
         Ok(Client {
             setting: Setting {
                 mech,
@@ -77,9 +79,9 @@ impl<M: Mechanism> Client<M> {
             calls: 0,
             source: Site::new(alloc, Side::Source),
             dest: Site::new(alloc, Side::Dest),
-            copies: CopyTable::new(alloc)?,
+            copies,
             queues: no_queues(alloc),
-            back: Contexts::new(alloc, End::Client, 0)?,
+            back,
             steps: 0,
         })
     }

@@ -33,25 +33,30 @@ impl<M> Client<M> {
     pub fn course(&self, alloc: Global, now: u64) -> Mem<Course>
         ensures { IfOk result (λ course. parts.course_of self.now course ≡ spec.acting_at now self.now) }
     {
+        let source_plan = self.queues.source.plan(alloc)?;
+        let dest_plan = self.queues.dest.plan(alloc)?;
         Ok(Course {
             desk: self.desk(alloc, now)?,
-            source_plan: self.queues.source.plan(alloc)?,
-            dest_plan: self.queues.dest.plan(alloc)?,
+            source_plan,
+            dest_plan,
         })
     }
 
     fn desk(&self, alloc: Global, now: u64) -> Mem<Desk>
         ensures { IfOk result (λ desk. desk ≡ spec.desk_at now self.now) }
     {
+        let out = empty_outbox(alloc)?;
+        let copies = self.copies.copy_all(alloc)?;
+        let source = self.source.copy(alloc)?;
         Ok(Desk {
             second: self.second_at(now),
             calls: self.calls,
-            source: self.source.copy(alloc)?,
+            source,
             dest: self.dest.copy(alloc)?,
-            copies: self.copies.copy_all(alloc)?,
+            copies,
             made: None,
             ended: Items::new(alloc),
-            out: empty_outbox(alloc)?,
+            out,
         })
     }
 
@@ -119,10 +124,16 @@ impl<M: Mechanism> Client<M> {
         ensures failing { W.failing draws.new ≡ W.failing draws.old }
     {
         let mut course = course;
-        if course.go_on(alloc, &self.setting, &self.queues, draws)? {
-            Ok(Some(course))
-        } else {
-            Ok(None)
+        match course.go_on(alloc, &self.setting, &self.queues, draws) {
+            Ok(true) => Ok(Some(course)),
+            Ok(false) => {
+                drop(course);
+                Ok(None)
+            }
+            Err(memory) => {
+                drop(course);
+                Err(memory)
+            }
         }
     }
 

@@ -42,11 +42,11 @@ impl XdrBy for CopyArg {
     #[tactic(auto, unfolding(crate::specs::Forms::copy_arg))]
     fn parse_by(alloc: Global, number: u32, reader: &mut Reader) -> Result<CopyArg, ReadError> {
         match number {
-            OP_COPY => Ok(CopyArg::Copy(CopyArgs::parse(alloc, reader)?)),
-            OP_COPY_NOTIFY => Ok(CopyArg::CopyNotify(NotifyArgs::parse(alloc, reader)?)),
-            OP_OFFLOAD_CANCEL => Ok(CopyArg::OffloadCancel(StateId::parse(alloc, reader)?)),
-            OP_OFFLOAD_STATUS => Ok(CopyArg::OffloadStatus(StateId::parse(alloc, reader)?)),
-            OP_CLONE => Ok(CopyArg::Clone(CloneArgs::parse(alloc, reader)?)),
+            OP_COPY => CopyArgs::parse(alloc, reader).map(CopyArg::Copy),
+            OP_COPY_NOTIFY => NotifyArgs::parse(alloc, reader).map(CopyArg::CopyNotify),
+            OP_OFFLOAD_CANCEL => StateId::parse(alloc, reader).map(CopyArg::OffloadCancel),
+            OP_OFFLOAD_STATUS => StateId::parse(alloc, reader).map(CopyArg::OffloadStatus),
+            OP_CLONE => CloneArgs::parse(alloc, reader).map(CopyArg::Clone),
             _ => Err(ReadError::at(reader.at())),
         }
     }

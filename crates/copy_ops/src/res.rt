@@ -58,11 +58,11 @@ impl XdrBy for CopyRes {
     #[tactic(auto, unfolding(crate::specs::Forms::copy_res))]
     fn parse_by(alloc: Global, number: u32, reader: &mut Reader) -> Result<CopyRes, ReadError> {
         match number {
-            OP_COPY => Ok(CopyRes::Copy(CopyAnswer::parse(alloc, reader)?)),
-            OP_COPY_NOTIFY => Ok(CopyRes::CopyNotify(Answer::parse(alloc, reader)?)),
-            OP_OFFLOAD_CANCEL => Ok(CopyRes::OffloadCancel(Status::parse(alloc, reader)?)),
-            OP_OFFLOAD_STATUS => Ok(CopyRes::OffloadStatus(Answer::parse(alloc, reader)?)),
-            OP_CLONE => Ok(CopyRes::Clone(Status::parse(alloc, reader)?)),
+            OP_COPY => CopyAnswer::parse(alloc, reader).map(CopyRes::Copy),
+            OP_COPY_NOTIFY => Answer::parse(alloc, reader).map(CopyRes::CopyNotify),
+            OP_OFFLOAD_CANCEL => Status::parse(alloc, reader).map(CopyRes::OffloadCancel),
+            OP_OFFLOAD_STATUS => Answer::parse(alloc, reader).map(CopyRes::OffloadStatus),
+            OP_CLONE => Status::parse(alloc, reader).map(CopyRes::Clone),
             _ => Err(ReadError::at(reader.at())),
         }
     }

@@ -119,11 +119,11 @@ impl<D: Disk + Drop, M: Mechanism> DestCore<D, M> {
     {
         let boot = volume.boot();
         let capacity = volume.capacity();
-        let copier = no_copier(alloc, boot, capacity, source, principal)?;
-        let extra = Destination { copier, own, mech };
         let opens = Opens::new(alloc, boot)?;
         let sessions = Sessions::new(alloc, boot)?;
         let contexts = Contexts::new(alloc, End::Dest, boot)?;
+        let copier = no_copier(alloc, boot, capacity, source, principal)?;
+        let extra = Destination { copier, own, mech };
         let files = Files {
             volume,
             opens,

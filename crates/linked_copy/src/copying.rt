@@ -95,10 +95,13 @@ fn prepare<M: Mechanism>(alloc: Global, setting: Setting<M>) -> Mem<Prepared<M>>
         source,
         dest,
     } = setting;
+    let source_feed = RecordFeed::new(alloc)?;
+    let dest_feed = RecordFeed::new(alloc)?;
+    let client = Client::new(alloc, mech, me, source, dest)?;
     Ok(Prepared {
-        client: Leaving::new(Client::new(alloc, mech, me, source, dest)?),
-        source: RecordFeed::new(alloc)?,
-        dest: RecordFeed::new(alloc)?,
+        client: Leaving::new(client),
+        source: source_feed,
+        dest: dest_feed,
     })
 }
 

@@ -109,6 +109,9 @@ impl<D: Disk + Drop, M: Mechanism> SourceCore<D, M> {
         ensures volume { IfOk result (λ core. core.server.files.volume ≡ volume) }
     {
         let boot = volume.boot();
+        let opens = Opens::new(alloc, boot)?;
+        let sessions = Sessions::new(alloc, boot)?;
+        let contexts = Contexts::new(alloc, End::Source, boot)?;
         let extra = Source {
             grants: Grants::new(alloc, boot)?,
             peers,
@@ -116,9 +119,6 @@ impl<D: Disk + Drop, M: Mechanism> SourceCore<D, M> {
             refusal: None,
             mech,
         };
-        let opens = Opens::new(alloc, boot)?;
-        let sessions = Sessions::new(alloc, boot)?;
-        let contexts = Contexts::new(alloc, End::Source, boot)?;
         let files = Files {
             volume,
             opens,

@@ -3,6 +3,8 @@
 ghost use Rattle.std.specs.Prelude.{◌≡◌, ◌↔◌, ◌≤◌, ◌++◌, ◌∷◌, [], List, ℕ, length, IfOk, IsTrue, MatchOption, OnErr, OnOk};
 ghost use Rattle.std.specs.String.{string_bytes};
 ghost use Rattle.run_ends.specs.Ends.{run_machines};
+ghost use Rattle.run_ends.specs.Setting as setting;
+ghost use Rattle.source_core.specs.Location.{IsShort};
 ghost use Rattle.wire_log.specs.Keeping.{reading};
 ghost use Rattle.wire_machine.specs.Runs.{most_bytes};
 ghost use Rattle.wire_machine.specs.World.{bytes_of};
@@ -15,9 +17,10 @@ use crate::ends::{DestEnd, SourceEnd};
 use crate::fresh::{Unmade, unopened};
 use crate::stage::{Acted, Fault, Lost, Stage, Stop};
 use crate::stop_laws::servers_stop;
+use copy_privs::Peer;
 use disk_model::CrashDisk;
 use gss_mech::Mechanism;
-use nfs_base::Side;
+use nfs_base::{NetLoc, Side};
 use outcome::Mem;
 use run_ends::stops::{
     kept_by_dest, kept_by_source, reopen_dest, reopen_source, servers_open_anew,
@@ -29,6 +32,30 @@ use std::mem;
 use volume_stops::{Kept, Pending};
 use wire_lines::Line;
 use wire_machine::Choice;
+use wire_xdr::{Items, Octets};
+
+/// The servers that a source knows, and where it is found.
+fn source_names(alloc: Global) -> Mem<(Items<Peer>, NetLoc)>
+    ensures peers { IfOk result (λ names. names.0 ≡ setting.source_peers) }
+    ensures own { IfOk result (λ names. names.1 ≡ setting.source_place) }
+    ensures short { IfOk result (λ names. IsShort names.1) }
+{
+    let peers = source_peers(alloc)?;
+    let own = source_place(alloc)?;
+    Ok((peers, own))
+}
+
+/// The source of a destination, its principal, and where it is found.
+fn dest_names(alloc: Global) -> Mem<(Peer, Octets, NetLoc)>
+    ensures source { IfOk result (λ names. names.0 ≡ setting.dest_source) }
+    ensures principal { IfOk result (λ names. names.1 ≡ setting.dest_name) }
+    ensures own { IfOk result (λ names. names.2 ≡ setting.dest_place) }
+{
+    let source = dest_source(alloc)?;
+    let principal = dest_name(alloc)?;
+    let own = dest_place(alloc)?;
+    Ok((source, principal, own))
+}
 
 impl<D: CrashDisk + Drop, M: Mechanism> SourceEnd<D, M> {
     /// Its disk crashes under a pick, and it is opened anew. A disk that refuses that comes back, and the end is away then.
@@ -37,14 +64,23 @@ impl<D: CrashDisk + Drop, M: Mechanism> SourceEnd<D, M> {
         ensures reopens { IfOk result (SourceReopens D.Told D.size D.fuse D.timeline D.faults self.old self.new) }
         ensures away { OnErr result (self.new ≡ SourceEnd.Away) }
     {
-        let SourceEnd::Open(core) = mem::replace(self, SourceEnd::Away) else {
-            unreachable!()
+        let core = match mem::replace(self, SourceEnd::Away) {
+            SourceEnd::Open(core) => core,
+            other => {
+                drop(other);
+                unreachable!()
+            }
         };
-        let peers = source_peers(alloc)?;
-        let own = source_place(alloc)?;
+        let (peers, own) = match source_names(alloc) {
+            Ok(names) => names,
+            Err(memory) => {
+                drop(core);
+                return Err(memory);
+            }
+        };
         match reopen_source(alloc, core, pick, peers, own)? {
             Ok(core) => {
-                *self = SourceEnd::Open(core);
+                drop(mem::replace(self, SourceEnd::Open(core)));
                 Ok(Ok(()))
             }
             Err((disk, fault)) => Ok(Err((disk, unopened(fault)))),
@@ -104,15 +140,23 @@ impl<D: CrashDisk + Drop, M: Mechanism> DestEnd<D, M> {
         ensures reopens { IfOk result (DestReopens D.Told D.size D.fuse D.timeline D.faults self.old self.new) }
         ensures away { OnErr result (self.new ≡ DestEnd.Away) }
     {
-        let DestEnd::Open(core) = mem::replace(self, DestEnd::Away) else {
-            unreachable!()
+        let core = match mem::replace(self, DestEnd::Away) {
+            DestEnd::Open(core) => core,
+            other => {
+                drop(other);
+                unreachable!()
+            }
         };
-        let source = dest_source(alloc)?;
-        let principal = dest_name(alloc)?;
-        let own = dest_place(alloc)?;
+        let (source, principal, own) = match dest_names(alloc) {
+            Ok(names) => names,
+            Err(memory) => {
+                drop(core);
+                return Err(memory);
+            }
+        };
         match reopen_dest(alloc, core, pick, source, principal, own)? {
             Ok(core) => {
-                *self = DestEnd::Open(core);
+                drop(mem::replace(self, DestEnd::Open(core)));
                 Ok(Ok(()))
             }
             Err((disk, fault)) => Ok(Err((disk, unopened(fault)))),

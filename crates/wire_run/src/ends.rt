@@ -80,17 +80,21 @@ impl<D: CrashDisk + Drop, M: Mechanism> SourceEnd<D, M> {
         ensures away { OnErr result (self.new ≡ SourceEnd.Away) }
         ensures unset { IfOk result (λ made. IfOk made (λ _. fuse_in D.fuse (source_disk self.new) ≡ Unset)) }
     {
-        let SourceEnd::Disk(disk) = mem::replace(self, SourceEnd::Away) else {
-            unreachable!()
+        let disk = match mem::replace(self, SourceEnd::Away) {
+            SourceEnd::Disk(disk) => disk,
+            other => {
+                drop(other);
+                unreachable!()
+            }
         };
         let disk = disarmed(disk, files, blocks);
         match open_source(alloc, disk, mech, files, blocks)? {
             Ok(core) => {
-                *self = SourceEnd::Open(core);
+                drop(mem::replace(self, SourceEnd::Open(core)));
                 Ok(Ok(()))
             }
             Err((disk, cause)) => {
-                *self = SourceEnd::Disk(disk);
+                drop(mem::replace(self, SourceEnd::Disk(disk)));
                 Ok(Err(cause))
             }
         }
@@ -164,17 +168,21 @@ impl<D: CrashDisk + Drop, M: Mechanism> DestEnd<D, M> {
         ensures away { OnErr result (self.new ≡ DestEnd.Away) }
         ensures unset { IfOk result (λ made. IfOk made (λ _. fuse_in D.fuse (dest_disk self.new) ≡ Unset)) }
     {
-        let DestEnd::Disk(disk) = mem::replace(self, DestEnd::Away) else {
-            unreachable!()
+        let disk = match mem::replace(self, DestEnd::Away) {
+            DestEnd::Disk(disk) => disk,
+            other => {
+                drop(other);
+                unreachable!()
+            }
         };
         let disk = disarmed(disk, files, blocks);
         match open_dest(alloc, disk, mech, files, blocks)? {
             Ok(core) => {
-                *self = DestEnd::Open(core);
+                drop(mem::replace(self, DestEnd::Open(core)));
                 Ok(Ok(()))
             }
             Err((disk, cause)) => {
-                *self = DestEnd::Disk(disk);
+                drop(mem::replace(self, DestEnd::Disk(disk)));
                 Ok(Err(cause))
             }
         }

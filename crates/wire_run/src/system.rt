@@ -14,6 +14,7 @@ use outcome::Mem;
 use run_ends::{dest_place, source_place, user};
 use std::alloc::Global;
 use std::marker::Model;
+use std::mem;
 use streams::CountDraws;
 use wire_log::Log;
 use wire_machine::{Choice, Mistake};
@@ -276,11 +277,11 @@ impl<D: CrashDisk + Drop, M: Mechanism + Copy> System<D, M> {
         match side {
             Side::Source => {
                 self.context.source = None;
-                self.stage.source = SourceEnd::Disk(disk);
+                drop(mem::replace(&mut self.stage.source, SourceEnd::Disk(disk)));
             }
             Side::Dest => {
                 self.context.dest = None;
-                self.stage.dest = DestEnd::Disk(disk);
+                drop(mem::replace(&mut self.stage.dest, DestEnd::Disk(disk)));
             }
         }
         Stepped::Lost { side, cause }
