@@ -1,5 +1,5 @@
 -- The text of each word of the transcript. Own format.
-use Rattle.std.specs.Prelude.{ℕ, List, ◌++◌, codes, decimal, ◌==◌, if◌then◌else◌}
+use Rattle.std.specs.Prelude.{ℕ, List, ◌++◌, codes, decimal}
 use Rattle.nfs_base.specs.declared.side.Side.{Side}
 use Rattle.nfs_base.specs.declared.side.Side.TheVariants.{Source, Dest}
 use Rattle.nfs_base.specs.declared.job.JobName.{JobName}
@@ -9,8 +9,6 @@ use Rattle.nfs_base.specs.declared.cause.PrivCause.{PrivCause}
 use Rattle.nfs_base.specs.declared.cause.PrivCause.TheVariants as priv
 use Rattle.nfs_base.specs.declared.cause.Cause.{Cause}
 use Rattle.nfs_base.specs.declared.cause.Cause.TheVariants as cause
-use Rattle.nfs_base.specs.declared.note.Note.{Note}
-use Rattle.nfs_base.specs.declared.note.Note.TheVariants.{Permit, Privilege, Accepted, Sized, Landed, Stopped, Committed, Written, Refused, Copied, Stable, Failed, Idle}
 
 abbrev pub side_text : Side → List ℕ
 side_text Source = codes "s"
@@ -46,23 +44,3 @@ cause_text cause.WrongFile = codes "wrongfile"
 cause_text cause.WrongDestination = codes "wrongdestination"
 cause_text cause.WrongUser = codes "wronguser"
 cause_text cause.Unconfirmed = codes "unconfirmed"
-
--- how much was asked for: a count of 0 goes to the end
-abbrev pub count_text : ℕ → List ℕ
-count_text count = if count == 0 then codes "end" else decimal count
-
--- a note's line, without its newline
-abbrev pub note_text : Note → List ℕ
-note_text (Permit why) = codes "permit " ++ cause_text why
-note_text (Privilege why) = codes "privilege " ++ priv_cause_text why
-note_text (Accepted job file to count) = codes "accepted " ++ job_text job ++ codes " " ++ decimal file ++ codes " " ++ decimal to ++ codes " " ++ count_text count
-note_text (Sized job len) = codes "sized " ++ job_text job ++ codes " " ++ decimal len
-note_text (Landed job off len) = codes "landed " ++ job_text job ++ codes " " ++ decimal off ++ codes " " ++ decimal len
-note_text (Stopped job cause) = codes "stopped " ++ job_text job ++ codes " " ++ stop_text cause
-note_text (Committed job) = codes "committed " ++ job_text job
-note_text (Written side file count) = codes "written " ++ side_text side ++ codes " " ++ decimal file ++ codes " " ++ decimal count
-note_text (Refused side file status) = codes "refused " ++ side_text side ++ codes " " ++ decimal file ++ codes " " ++ decimal status.number
-note_text (Copied copy count) = codes "copied " ++ decimal copy ++ codes " " ++ decimal count
-note_text (Stable copy) = codes "stable " ++ decimal copy
-note_text (Failed copy status) = codes "failed " ++ decimal copy ++ codes " " ++ decimal status.number
-note_text (Idle copy) = codes "idle " ++ decimal copy

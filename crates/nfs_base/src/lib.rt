@@ -1,11 +1,10 @@
 //! The words that every layer speaks: the servers, statuses, stateids, handles, network locations, jobs by
-//! name, notes, and the limits.
+//! name, and the limits.
 //!
 //! Types of the wire are those of RFC 8881 and RFC 7862 that more than one operation has. Each is spelled
 //! by a form of `specs/Forms.antt`, one a type; [`Answer`] is what any operation answers. The contract to
 //! read first is that of [`wire_xdr::read`], which [`read_state_id`] and its like have at one type each.
-//! A [`Note`] says one thing that happened in a step, and prints as one line of the transcript;
-//! `specs/Text.antt` has each line's exact text.
+//! What a transcript names (servers, jobs, why one was stopped, causes) prints as `specs/Text.antt` has it.
 #![tactic(auto)]
 
 mod answer;
@@ -17,7 +16,6 @@ mod job;
 mod lengths;
 mod limits;
 mod net_loc;
-mod note;
 mod programs;
 mod seal;
 mod side;
@@ -43,7 +41,6 @@ pub use limits::{
     SECRET_LIMIT, SLOTS, TEXT_LIMIT, TOKEN_LIMIT, WINDOW_SIZE,
 };
 pub use net_loc::NetLoc;
-pub use note::Note;
 pub use programs::{
     CALLBACK_PROGRAM, CALLBACK_VERSION, NFS_PROGRAM, NFS_VERSION, PROC_COMPOUND, PROC_NULL,
 };

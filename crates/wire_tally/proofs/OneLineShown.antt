@@ -4,7 +4,7 @@ use Rattle.std.proofs.lemmas.Bool.{and_parts}
 use Rattle.copy_ops.specs.declared.operation.TheConstants.{OP_COPY, OP_COPY_NOTIFY, OP_OFFLOAD_CANCEL, OP_OFFLOAD_STATUS, OP_CLONE, OP_CB_OFFLOAD}
 use Rattle.file_ops.specs.Operations.{name_in, operations}
 use Rattle.file_ops.specs.declared.operation.TheConstants.{OP_CB_SEQUENCE}
-use Rattle.nfs_base.specs.Text.{cause_text, count_text, job_text, priv_cause_text, side_text, stop_text}
+use Rattle.nfs_base.specs.Text.{cause_text, job_text, priv_cause_text, side_text, stop_text}
 use Rattle.nfs_base.specs.declared.cause.Cause.{Cause}
 use Rattle.nfs_base.specs.declared.cause.Cause.TheVariants as causes
 use Rattle.nfs_base.specs.declared.cause.PrivCause.{PrivCause}
@@ -28,7 +28,7 @@ use Rattle.outbox.specs.declared.note.Note.{Note}
 use Rattle.outbox.specs.declared.note.Note.TheVariants as notes
 use Rattle.volume_stops.specs.declared.kept.Kept.{Kept}
 use Rattle.volume_stops.specs.declared.kept.Kept.TheVariants as keeping
-use Rattle.wire_lines.specs.LineText.{call_text, dropped_text, end_text, kept_text, label_text, noted_text, same_text, seal_text, sealed_text, shown_text, speaker_text}
+use Rattle.wire_lines.specs.LineText.{call_text, count_text, dropped_text, end_text, kept_text, label_text, noted_text, same_text, seal_text, sealed_text, shown_text, speaker_text}
 use Rattle.wire_lines.specs.declared.letters.Speaker.{Speaker}
 use Rattle.wire_lines.specs.declared.letters.Speaker.TheVariants as speakers
 use Rattle.wire_lines.specs.declared.line.Line.{Line}
