@@ -1,6 +1,6 @@
 //! Calls under a context, made by hand.
 
-use crate::fields::{put_fields, put_opaque, word_named};
+use crate::fields::{put_fields, put_opaque, put_u32s, word_named};
 use gss_ctx::Awaited;
 use gss_mech::{ACCEPTOR, INITIATOR, Mechanism, Realm};
 use outcome::Mem;
@@ -41,13 +41,6 @@ pub struct Call {
     written: Writer,
 }
 
-/// A call as it is sent, and what is awaited of its reply.
-#[derive(Drop)]
-pub struct Sent {
-    pub bytes: Octets,
-    pub awaited: Awaited,
-}
-
 impl Call {
     /// A COMPOUND without operations, as DATA in version 3 with integrity under a context.
     pub fn under(alloc: Global, handle: u32, count: u32) -> Mem<Call> {
@@ -60,15 +53,23 @@ impl Call {
         })
     }
 
+    /// What words ask for.
+    pub fn ask_all(&mut self, alloc: Global, words: &[&str], round: u32) -> Mem<()> {
+        for word in words {
+            self.ask(alloc, word, round)?;
+        }
+        Ok(())
+    }
+
     /// What a word asks for: a number by its name, all of the body as `body:FIELDS`, and else one more operation.
     pub fn ask(&mut self, alloc: Global, word: &str, round: u32) -> Mem<()> {
-        if let Some((name, rest)) = word.split_once(':') {
-            if name == "body" {
-                return self.ask_body(alloc, rest, round);
-            }
-            if self.set(name, word_named(rest)) {
-                return Ok(());
-            }
+        let (name, rest) = word.split_once(':').unwrap_or((word, ""));
+        if name == "body" {
+            self.ops = None;
+            return self.ask_body(alloc, rest, round);
+        }
+        if self.set(name, rest) {
+            return Ok(());
         }
         if let Some(ops) = self.ops {
             self.ops = Some(ops.saturating_add(1));
@@ -78,7 +79,6 @@ impl Call {
 
     /// A body of these fields, and an empty one without any.
     fn ask_body(&mut self, alloc: Global, text: &str, round: u32) -> Mem<()> {
-        self.ops = None;
         if text.is_empty() {
             return Ok(());
         }
@@ -86,10 +86,10 @@ impl Call {
     }
 
     /// Sets a number. False: there is none of this name.
-    fn set(&mut self, name: &str, value: u32) -> bool {
+    fn set(&mut self, name: &str, value: &str) -> bool {
         for at in 0..FIELDS {
             if NAMES[at] == name {
-                self.numbers[at] = value;
+                self.numbers[at] = word_named(value);
                 return true;
             }
         }
@@ -97,54 +97,67 @@ impl Call {
     }
 
     /// The header from the xid through the credential. `kind` is the message type.
-    fn header(&self, alloc: Global, kind: u32) -> Mem<Writer> {
-        let mut header = Writer::new(alloc)?;
-        header.u32(self.numbers[XID])?;
-        header.u32(kind)?;
-        for word in &self.numbers[1..INNER] {
-            header.u32(*word)?;
-        }
-        Ok(header)
+    fn put_header(&self, record_: &mut Writer, kind: u32) -> Mem<()> {
+        record_.u32(self.numbers[XID])?;
+        record_.u32(kind)?;
+        put_u32s(record_, &self.numbers[1..INNER])
     }
 
     /// What stands under the seal: the number and the arguments.
-    fn sealed(&self, alloc: Global) -> Mem<Writer> {
-        let mut sealed = Writer::new(alloc)?;
+    fn put_sealed(&self, sealed: &mut Writer) -> Mem<()> {
         sealed.u32(self.numbers[SEQ].wrapping_add(self.numbers[INNER]))?;
         if let Some(ops) = self.ops {
-            sealed.u32(0)?;
-            sealed.u32(2)?;
-            sealed.u32(ops)?;
+            put_u32s(sealed, &[0, 2, ops])?;
         }
-        sealed.append(self.written.as_slice())?;
-        Ok(sealed)
+        sealed.append(self.written.as_slice())
     }
 
-    /// The record (RFC 2203 section 5.3), and what is awaited of the reply.
-    pub fn seal(&self, alloc: Global, key: &[u8; 32], mech: &Realm) -> Mem<Sent> {
-        let mut record_ = self.header(alloc, 0)?;
+    /// The record (RFC 2203 section 5.3).
+    pub fn seal(&self, alloc: Global, key: &[u8; 32], mech: &Realm) -> Mem<Octets> {
+        let mut record_ = Writer::new(alloc)?;
+        self.put_header(&mut record_, 0)?;
+        self.put_verifier(&mut record_, key, mech)?;
+        self.put_body(alloc, &mut record_, key, mech)?;
+        Ok(record_.finish())
+    }
+
+    /// The code of the header.
+    fn put_verifier(&self, record_: &mut Writer, key: &[u8; 32], mech: &Realm) -> Mem<()> {
         let code = mech.mic(key, INITIATOR, record_.as_slice());
         record_.u32(6)?;
-        record_.opaque(&turned(code, self.numbers[VERIFIER]))?;
-        let sealed = self.sealed(alloc)?;
-        put_opaque(&mut record_, sealed.as_slice())?;
-        let code = mech.mic(key, INITIATOR, sealed.as_slice());
-        record_.opaque(&turned(code, self.numbers[CODE]))?;
-        Ok(Sent {
-            bytes: record_.finish(),
-            awaited: self.awaited(alloc, key, mech)?,
-        })
+        record_.opaque(&turned(code, self.numbers[VERIFIER]))
     }
 
-    /// What is awaited: the code of the header as a reply's, and in version 1 that of the number.
-    fn awaited(&self, alloc: Global, key: &[u8; 32], mech: &Realm) -> Mem<Awaited> {
+    /// What stands under the seal, and its code.
+    fn put_body(
+        &self,
+        alloc: Global,
+        record_: &mut Writer,
+        key: &[u8; 32],
+        mech: &Realm,
+    ) -> Mem<()> {
+        let mut sealed = Writer::new(alloc)?;
+        self.put_sealed(&mut sealed)?;
+        put_opaque(record_, sealed.as_slice())?;
+        let code = mech.mic(key, INITIATOR, sealed.as_slice());
+        record_.opaque(&turned(code, self.numbers[CODE]))
+    }
+
+    /// What is awaited of the reply: the code of the header as a reply's, and in version 1 that of the number.
+    pub fn awaited(&self, alloc: Global, key: &[u8; 32], mech: &Realm) -> Mem<Awaited> {
         let (xid, seq) = (self.numbers[XID], self.numbers[SEQ]);
         let code = if self.numbers[VERSION] == 1 {
             mech.mic(key, ACCEPTOR, &seq.to_be_bytes())
         } else {
-            mech.mic(key, ACCEPTOR, self.header(alloc, 1)?.as_slice())
+            self.header_code(alloc, key, mech)?
         };
         Ok(Awaited { xid, seq, code })
+    }
+
+    fn header_code(&self, alloc: Global, key: &[u8; 32], mech: &Realm) -> Mem<[u8; 32]> {
+        let mut header = Writer::new(alloc)?;
+        self.put_header(&mut header, 1)?;
+        Ok(mech.mic(key, ACCEPTOR, header.as_slice()))
     }
 }
 

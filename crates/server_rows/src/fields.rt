@@ -25,10 +25,11 @@ fn put_field(writer: &mut Writer, alloc: Global, field: &str, round: u32) -> Mem
     if let Some(count) = field.strip_prefix('*') {
         return put_sevens(writer, alloc, word_named(count));
     }
-    if field == "#" {
-        return writer.u32(round);
-    }
-    writer.u32(word_named(field))
+    writer.u32(if field == "#" {
+        round
+    } else {
+        word_named(field)
+    })
 }
 
 fn put_sevens(writer: &mut Writer, alloc: Global, count: u32) -> Mem<()> {
@@ -44,11 +45,23 @@ pub fn put_opaque(writer: &mut Writer, bytes: &[u8]) -> Mem<()> {
     writer.opaque(bytes)
 }
 
+/// Adds words.
+pub fn put_u32s(writer: &mut Writer, words: &[u32]) -> Mem<()> {
+    for word in words {
+        writer.u32(*word)?;
+    }
+    Ok(())
+}
+
 /// The number that a word is, or that of the operation of this name. The greatest where it is neither.
 pub fn word_named(word: &str) -> u32 {
-    if let Ok(number) = word.parse::<u32>() {
-        return number;
+    match word.parse::<u32>() {
+        Ok(number) => number,
+        Err(_) => operation_named(word),
     }
+}
+
+fn operation_named(word: &str) -> u32 {
     for op in 3..72 {
         if name_of(op) == word {
             return op;
@@ -57,32 +70,44 @@ pub fn word_named(word: &str) -> u32 {
     u32::MAX
 }
 
-/// Adds the words that bytes are to a text. Where one stands four or more times in a row, how often it does.
-pub fn put_words(text: &mut String, bytes: &[u8]) -> Mem<()> {
-    let mut last = 0;
-    let mut times: u32 = 0;
-    for word in bytes.chunks(4) {
-        let word = word_of(word);
-        if last == word {
-            times = times.saturating_add(1);
-        } else {
-            put_run(text, last, times)?;
-            last = word;
-            times = 1;
-        }
-    }
-    put_run(text, last, times)
+/// A word, and how often it stood in a row.
+#[derive(Clone, Copy)]
+struct Run {
+    word: u32,
+    times: u32,
 }
 
-fn put_run(text: &mut String, word: u32, times: u32) -> Mem<()> {
-    if times > 3 {
-        write!(text, " {word}*{times}")?;
-        return Ok(());
+/// Adds the words that bytes are to a text. Where one stands four or more times in a row, how often it does.
+pub fn put_words(text: &mut String, bytes: &[u8]) -> Mem<()> {
+    let mut run = Run { word: 0, times: 0 };
+    for word in bytes.chunks(4) {
+        run.take(text, word_of(word))?;
     }
-    for _ in 0..times {
-        write!(text, " {word}")?;
+    run.put(text)
+}
+
+impl Run {
+    /// The next word: one that is another one ends the run.
+    fn take(&mut self, text: &mut String, word: u32) -> Mem<()> {
+        if self.word != word {
+            self.put(text)?;
+            self.word = word;
+            self.times = 0;
+        }
+        self.times = self.times.saturating_add(1);
+        Ok(())
     }
-    Ok(())
+
+    fn put(&self, text: &mut String) -> Mem<()> {
+        let Run { word, times } = *self;
+        if times > 3 {
+            return Ok(write!(text, " {word}*{times}")?);
+        }
+        for _ in 0..times {
+            put_number(text, "", word)?;
+        }
+        Ok(())
+    }
 }
 
 fn word_of(bytes: &[u8]) -> u32 {
@@ -91,4 +116,9 @@ fn word_of(bytes: &[u8]) -> u32 {
         word = word << 8 | u32::from(*byte);
     }
     word
+}
+
+/// Adds a number behind what it is of.
+pub fn put_number(text: &mut String, what: &str, number: u32) -> Mem<()> {
+    Ok(write!(text, "{what} {number}")?)
 }

@@ -1,25 +1,42 @@
-//! Tables over a server, from standard input (`row_text`): every call of it as a record on the wire, made by hand word for
-//! word, and what goes back. The server is `toy_server`'s.
+//! Tables over a server with a toy's extension, from standard input (`row_text`). Behind a line `server ..` every call is a record on
+//! the wire, made by hand word for word, and the answer is what goes back. Behind a line `new` a caller's mount, crate `mount`, makes
+//! the calls: these are lost, come late and twice, and so do the answers; they are denied and fail, and the mount begins again. An
+//! answer that no server gives is written by hand, and its line names it.
 //!
 //! Every expected answer is written down from RFC 5531, RFC 2203, RFC 7861, RFC 8881 and `docs/protocol.md`.
 #![tactic(auto)]
 
+mod answers;
 mod call;
+mod disk;
 mod ends;
 mod fields;
 mod labels;
+mod letters;
+mod mounts;
+mod said;
+mod scene;
+mod server;
 mod told;
+mod toy;
 
 use ends::Ends;
+use mounts::Mounts;
 use outcome::Mem;
-use row_text::{Rows, compare, word, words};
+use row_text::{Rows, compare, number, word, words};
 use std::alloc::Global;
 use std::io;
 
-/// A server and its callers, once a line has begun them.
+/// Who calls a server, once a line has begun them.
 #[derive(Drop)]
-struct ServerRows {
-    ends: Option<Ends>,
+enum ServerRows {
+    Nobody,
+
+    /// Those who make records by hand.
+    Hands(Box<Ends>),
+
+    /// A mount.
+    Mount(Box<Mounts>),
 }
 
 impl ServerRows {
@@ -33,15 +50,39 @@ impl ServerRows {
     }
 
     fn told(&mut self, alloc: Global, line: &str, round: u32) -> Mem<String> {
+        let mut text = String::new(alloc);
+        self.put_line(alloc, &mut text, line, round)?;
+        Ok(text)
+    }
+
+    fn put_line(&mut self, alloc: Global, text: &mut String, line: &str, round: u32) -> Mem<()> {
         let words = words(alloc, line)?;
-        let words = words.as_slice();
-        if word(words, 0) == "server" {
-            self.ends = Some(Ends::new(alloc, words)?);
+        self.put_answer(alloc, text, words.as_slice(), round)
+    }
+
+    fn put_answer(
+        &mut self,
+        alloc: Global,
+        text: &mut String,
+        words: &[&str],
+        round: u32,
+    ) -> Mem<()> {
+        self.begin(alloc, words)?;
+        match self {
+            ServerRows::Hands(ends) => ends.put_answer(alloc, text, words, round),
+            ServerRows::Mount(mounts) => mounts.put_answer(alloc, text, words),
+            ServerRows::Nobody => Ok(text.push_str("no server")?),
         }
-        match &mut self.ends {
-            Some(ends) => ends.told(alloc, words, round),
-            None => Ok(String::from_str(alloc, "no server")?),
+    }
+
+    /// `server ..` and `new ..` begin those who call, each before a server that nobody has called yet.
+    fn begin(&mut self, alloc: Global, words: &[&str]) -> Mem<()> {
+        match word(words, 0) {
+            "server" => *self = ServerRows::Hands(Ends::boxed(alloc, words)?),
+            "new" => *self = ServerRows::Mount(Mounts::boxed(alloc, number(words, 1))?),
+            _ => {}
         }
+        Ok(())
     }
 }
 
@@ -49,11 +90,10 @@ impl Rows for ServerRows {
     /// The answer to a line; to `times COUNT LINE` that of the last of so many times.
     fn answer(&mut self, alloc: Global, call: &str) -> Mem<String> {
         let (times, line) = times_of(call);
-        let mut last = self.tried(alloc, line, 1)?;
-        for round in 2..=times {
-            last = self.tried(alloc, line, round)?;
+        for round in 1..times {
+            self.tried(alloc, line, round)?;
         }
-        Ok(last)
+        self.tried(alloc, line, times)
     }
 }
 
@@ -63,11 +103,11 @@ fn times_of(call: &str) -> (u32, &str) {
         return (1, call);
     };
     match rest.split_once(' ') {
-        Some((times, line)) => (times.parse::<u32>().unwrap_or(1).min(1000), line),
+        Some((times, line)) => (times.parse::<u32>().unwrap_or(1).clamp(1, 1000), line),
         None => (1, call),
     }
 }
 
 fn main(rt: HostRuntime) -> io::Result<()> {
-    compare(&rt, &mut ServerRows { ends: None })
+    compare(&rt, &mut ServerRows::Nobody)
 }

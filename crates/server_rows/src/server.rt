@@ -1,11 +1,13 @@
 //! The server.
 
-ghost use Rattle.std.specs.Prelude.{◌≡◌, ◌≤◌, IfOk};
+ghost use Rattle.std.specs.Prelude.{◌≡◌, ◌≤◌, length, IfOk};
 ghost use Rattle.block_file.specs.Opened.{CanBeOpened};
 ghost use Rattle.disk_model.specs.Disk.{Image, MayLeave};
 ghost use Rattle.disk_model.specs.Elapsed.{present};
+ghost use Rattle.rpc_msg.specs.Heads.{call};
+ghost use Rattle.sess_slots.specs.Table.{numbers_made};
 ghost use Rattle.session_server.specs.Host.{IsCounted};
-ghost use Rattle.toy_server.specs.Toy.{given};
+ghost use Rattle.server_rows.specs.Toy.{given};
 
 use crate::disk::RoomDisk;
 use crate::toy::Toy;
@@ -18,12 +20,13 @@ use gss_mech::Realm;
 use nfs_base::End;
 use outbox::Outbox;
 use outcome::{Mem, NoMemory};
-use rpc_msg::read_call;
+use rpc_msg::{CallHead, read_call};
 use sess_slots::Sessions;
 use session_server::{Host, MOST_STEPS};
 use state_ids::Opens;
 use std::alloc::Global;
 use streams::MemDraws;
+use two_ends::realm;
 use wire_xdr::Octets;
 
 /// A server of the toy's rules, and what it draws from. It never gave out more numbers than its steps can have.
@@ -40,19 +43,9 @@ impl ToyServer {
     pub fn new(alloc: Global, boot: u32, files: u32, blocks: u32, fails: u64) -> Mem<ToyServer> {
         let disk = RoomDisk::new(alloc, fails)?;
         let volume = volume(alloc, disk, files.clamp(1, 64), blocks.clamp(1, 256))?;
-        let files = toy_files(alloc, boot, volume)?;
-        let draws = draws(alloc, 0)?;
         Ok(ToyServer {
-            draws,
-            host: Host {
-                contexts: Contexts::new(alloc, End::Source, boot)?,
-                server: Server {
-                    files,
-                    sessions: Sessions::new(alloc, boot)?,
-                },
-                second: 0,
-                steps: 0,
-            },
+            draws: draws(alloc, 0)?,
+            host: host(alloc, boot, volume)?,
         })
     }
 
@@ -89,19 +82,31 @@ impl ToyServer {
         told: &[u8],
         now: u64,
     ) -> Mem<Option<Octets>> {
-        let Ok((head, body)) = read_call(alloc, record_)? else {
-            return Ok(None);
-        };
+        match read_call(alloc, record_)? {
+            Ok((head, body)) if told.len() <= 1000 => {
+                self.forged_to(alloc, &head, &record_[body..], told, now)
+            }
+            _ => Ok(None),
+        }
+    }
+
+    fn forged_to(
+        &self,
+        alloc: Global,
+        head: &CallHead,
+        body: &[u8],
+        told: &[u8],
+        now: u64,
+    ) -> Mem<Option<Octets>>
+        requires head { call.Fits head.now }
+        requires told { length told.now ≤ 1000 }
+    {
         let contexts = &self.host.contexts;
-        let verdict = contexts.weigh(alloc, &head, &record_[body..], now, self.mech())?;
+        let verdict = contexts.weigh(alloc, head, body, now, self.mech())?;
         let Admit::Admitted { number, seq, .. } = verdict.answer else {
             return Ok(None);
         };
-        if told.len() > 1000 {
-            return Ok(None);
-        }
-        let most = told.len();
-        let sealer = contexts.sealer(alloc, number, seq, &head, most, self.mech())?;
+        let sealer = contexts.sealer(alloc, number, seq, head, told.len(), self.mech())?;
         Ok(Some(sealer.seal(told, self.mech())))
     }
 
@@ -118,29 +123,36 @@ impl ToyServer {
         }
     }
 
-    /// What the toy has, as text.
-    pub fn toy_text(&self, alloc: Global) -> Mem<String> {
-        self.host.server.files.extra.text(alloc)
+    /// Adds what the toy has to a text.
+    pub fn put_toy(&self, text: &mut String) -> Mem<()> {
+        self.host.server.files.extra.put(text)
     }
 }
 
-/// The realm: `user` and `dest`, whose keys repeat the bytes 1 and 2.
-fn realm(alloc: Global) -> Mem<Realm> {
-    let user = (Octets::from_slice(alloc, b"user")?, [1; 32]);
-    let dest = (Octets::from_slice(alloc, b"dest")?, [2; 32]);
-    Realm::new(alloc, &[user, dest])
+/// A server over a volume, of which nothing is open.
+fn host(alloc: Global, boot: u32, volume: Volume<RoomDisk>) -> Mem<Host<RoomDisk, Toy, u32>>
+    ensures { IfOk result (λ host. IsCounted given host) }
+{
+    Ok(Host {
+        server: server(alloc, boot, volume)?,
+        contexts: Contexts::new(alloc, End::Source, boot)?,
+        second: 0,
+        steps: 0,
+    })
 }
 
-/// The files of a new volume, of which nothing is open.
-fn toy_files(alloc: Global, boot: u32, volume: Volume<RoomDisk>) -> Mem<Files<RoomDisk, Toy>>
-    ensures { IfOk result (λ files. (given files.extra ≡ 0) × (files.opens.made ≡ 0)) }
+fn server(alloc: Global, boot: u32, volume: Volume<RoomDisk>) -> Mem<Server<RoomDisk, Toy>>
+    ensures given { IfOk result (λ server. given server.files.extra ≡ 0) }
+    ensures opens { IfOk result (λ server. server.files.opens.made ≡ 0) }
+    ensures clients { IfOk result (λ server. numbers_made server.sessions ≡ 0) }
 {
-    let opens = Opens::new(alloc, boot)?;
-    let extra = Toy::new(realm(alloc)?);
-    Ok(Files {
-        volume,
-        opens,
-        extra,
+    Ok(Server {
+        files: Files {
+            volume,
+            opens: Opens::new(alloc, boot)?,
+            extra: Toy::new(realm(alloc)?),
+        },
+        sessions: Sessions::new(alloc, boot)?,
     })
 }
 

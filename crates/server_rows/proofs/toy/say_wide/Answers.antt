@@ -5,9 +5,9 @@ use Rattle.copy_ops.specs.declared.operation.TheConstants.{OP_COPY_NOTIFY}
 use Rattle.nfs_base.specs.Forms.{net_loc, state_id, time}
 use Rattle.wire_xdr.specs.Parts.{list_spell}
 use Rattle.wire_xdr.specs.Words.{hyper_bytes, opaque_bytes, signed_bytes, word_bytes}
-use Rattle.toy_server.specs.Toy.{wide_grant}
-use Rattle.toy_server.specs.declared.toy.TheConstants.{HEAD}
-use Rattle.toy_server.proofs.toy.say_wide.Goals as goal
+use Rattle.server_rows.specs.Toy.{wide_grant}
+use Rattle.server_rows.specs.declared.toy.TheConstants.{HEAD}
+use Rattle.server_rows.proofs.toy.say_wide.Goals as goal
 
 wide_spelled : (name : List ℕ) → HEAD ++ opaque_bytes name ≡ word_bytes OP_COPY_NOTIFY ++ (word_bytes 0 ++ notify_grant.spell (wide_grant name))
 unfolding notify_grant time state_id net_loc list_spell signed_bytes hyper_bytes word_bytes

@@ -1,13 +1,19 @@
 //! Replies that are written by hand, by name: what no server tells, or this one only after many calls.
 
-use crate::told::{DELAY, DELAYED, STALE};
+use crate::fields::put_u32s;
+use crate::server::ToyServer;
 use outcome::Mem;
 use std::alloc::Global;
-use toy_server::ToyServer;
 use two_ends::Wrong;
+use wire_xdr::{Octets, Writer};
 
-/// Bytes that go out, or that come back.
-pub type Bytes = Vec<u8>;
+/// Results in words (RFC 8881 sections 18.36 and 18.46): CREATE_SESSION refused with DELAY, and with STALE_CLIENTID.
+const DELAY: [u32; 5] = [10_008, 0, 1, 43, 10_008];
+
+const STALE: [u32; 5] = [10_022, 0, 1, 43, 10_022];
+
+/// SEQUENCE refused with DELAY.
+const DELAYED: [u32; 5] = [10_008, 0, 1, 53, 10_008];
 
 /// The reply of this name to a call that comes in a second. The server isn't asked.
 pub fn written(
@@ -16,7 +22,7 @@ pub fn written(
     call: &[u8],
     name: &str,
     now: u64,
-) -> Result<Bytes, Wrong> {
+) -> Result<Octets, Wrong> {
     match name {
         "delay" => sealed(alloc, server, call, &DELAY, now),
         "stale" => sealed(alloc, server, call, &STALE, now),
@@ -29,11 +35,8 @@ pub fn written(
 }
 
 /// These words behind the xid of the call.
-fn plain(alloc: Global, call: &[u8], told: &[u32]) -> Result<Bytes, Wrong> {
-    let mut bytes = Vec::new(alloc);
-    bytes.extend_from_slice(call.get(..4).unwrap_or(&[]))?;
-    put(&mut bytes, told)?;
-    Ok(bytes)
+fn plain(alloc: Global, call: &[u8], told: &[u32]) -> Result<Octets, Wrong> {
+    Ok(spelled(alloc, call.get(..4).unwrap_or(&[]), told)?)
 }
 
 /// The reply to a call under a context, with these words as its result.
@@ -43,25 +46,18 @@ fn sealed(
     call: &[u8],
     told: &[u32],
     now: u64,
-) -> Result<Bytes, Wrong> {
-    let mut body = Vec::new(alloc);
-    put(&mut body, told)?;
+) -> Result<Octets, Wrong> {
+    let body = spelled(alloc, &[], told)?;
     match server.forged(alloc, call, body.as_slice(), now)? {
-        Some(reply) => copied(alloc, reply.as_slice()),
+        Some(reply) => Ok(reply),
         None => Err(Wrong::Lacks("an admission")),
     }
 }
 
-/// A copy of these bytes.
-pub fn copied(alloc: Global, bytes: &[u8]) -> Result<Bytes, Wrong> {
-    let mut copy = Vec::new(alloc);
-    copy.extend_from_slice(bytes)?;
-    Ok(copy)
-}
-
-fn put(bytes: &mut Bytes, words: &[u32]) -> Mem<()> {
-    for word in words {
-        bytes.extend_from_slice(&word.to_be_bytes())?;
-    }
-    Ok(())
+/// Bytes, and words behind them.
+fn spelled(alloc: Global, bytes: &[u8], words: &[u32]) -> Mem<Octets> {
+    let mut writer = Writer::new(alloc)?;
+    writer.append(bytes)?;
+    put_u32s(&mut writer, words)?;
+    Ok(writer.finish())
 }

@@ -28,7 +28,7 @@ use Rattle.outbox.specs.declared.note.Note.TheVariants as notes
 use Rattle.server_volume.specs.Choices.{Choice}
 use Rattle.session_server.specs.declared.extending.Judgement.{Judgement}
 use Rattle.session_server.specs.declared.extending.Judgement.TheVariants as judgements
-use Rattle.toy_server.specs.declared.toy.Toy.{Toy}
+use Rattle.server_rows.specs.declared.toy.Toy.{Toy}
 
 -- ---- what a context lets its calls do
 

@@ -1,18 +1,18 @@
 //! A caller's mount, and the server that it calls.
 
-ghost use Rattle.std.specs.Prelude.{◌≡◌, ◌<◌, IfOk, None};
-ghost use Rattle.mount.specs.State.{awaited_at, IsChild};
+ghost use Rattle.std.specs.Prelude.{◌≡◌, ◌<◌, false, IfOk, None};
+ghost use Rattle.mount.specs.State.{awaited_at, is_setting_up, IsChild};
 ghost use Rattle.mount.specs.declared.state.TheConstants.{PLACES};
 
+use crate::server::ToyServer;
 use mount::{Ending, Heard, Mount, PLACES, SendAt, Sent, Under};
 use nfs_base::{End, NAME_LIMIT, PRIVILEGE_LIMIT};
 use outbox::Outbox;
-use outcome::{Mem, Planned};
+use outcome::Mem;
 use session_calls::SlotCall;
 use session_client::Setup;
 use std::alloc::Global;
 use streams::CountDraws;
-use toy_server::ToyServer;
 use two_ends::{Wrong, drawn};
 
 /// The principal of every call, and its owner where no other one is named.
@@ -29,25 +29,30 @@ pub struct Scene {
     pub second: u64,
     kept: Mount,
     draws: CountDraws,
-    plan: Planned,
+
+    /// How many draws the caller asked for, and the number of the one that fails.
+    drawn: u32,
+    failing: u32,
 }
 
 impl Scene {
     /// Nothing is set up. The caller's draw with this number fails.
-    pub fn new(alloc: Global, failing: u32) -> Result<Scene, Wrong> {
+    pub fn new(alloc: Global, failing: u32) -> Mem<Scene> {
         Ok(Scene {
-            server: toy_server(alloc, 1)?,
+            server: sound_server(alloc, 1)?,
             mount: Mount::new(alloc, End::Source, true),
             xid: 0,
             second: 0,
             kept: Mount::new(alloc, End::Source, true),
             draws: CountDraws::new(),
-            plan: planned(alloc, failing)?,
+            drawn: 0,
+            failing,
         })
     }
 
     fn nonce(&mut self) -> Result<[u8; 32], Wrong> {
-        if self.plan.fails() {
+        self.drawn = self.drawn.saturating_add(1);
+        if self.drawn == self.failing {
             return Err(Wrong::Lacks("a draw"));
         }
         drawn(&mut self.draws)
@@ -82,29 +87,36 @@ impl Scene {
         self.numbered(place)
     }
 
-    /// INIT goes out at a place, with a new nonce.
-    pub fn begin(&mut self, alloc: Global, place: u32) -> Result<Sent, Wrong> {
-        let nonce = self.nonce()?;
+    /// A call of the setup goes out where nothing is awaited, and no other one of the setup is.
+    fn ready_alone(&mut self, place: u32) -> Result<SendAt, Wrong>
+        ensures at { IfOk result (λ at. at.place ≡ place) }
+        ensures place { IfOk result (λ at. place < PLACES) }
+        ensures xid { IfOk result (λ at. self.new.mount.calls < at.xid) }
+        ensures free { IfOk result (λ at. awaited_at self.new.mount place ≡ None) }
+        ensures alone { IfOk result (λ at. is_setting_up self.new.mount ≡ false) }
+    {
         let at = self.ready(place)?;
         if self.mount.is_setting_up() {
             return Err(Wrong::Lacks("no other setup"));
         }
+        Ok(at)
+    }
+
+    /// INIT goes out at a place, with a new nonce.
+    pub fn begin(&mut self, alloc: Global, place: u32) -> Result<Sent, Wrong> {
+        let nonce = self.nonce()?;
+        let at = self.ready_alone(place)?;
         let Setup::Down = self.mount.setup() else {
             return Err(Wrong::Lacks("a setup that is down"));
         };
         let mech = self.server.mech();
-        let sent = self.mount.begin(alloc, at, PRINCIPAL, &nonce, mech)?;
-        out(sent)
+        out(self.mount.begin(alloc, at, PRINCIPAL, &nonce, mech))
     }
 
     /// The INIT that is kept goes out anew.
     pub fn begin_anew(&mut self, alloc: Global, place: u32) -> Result<Sent, Wrong> {
-        let at = self.ready(place)?;
-        if self.mount.is_setting_up() {
-            return Err(Wrong::Lacks("no other setup"));
-        }
-        let sent = self.mount.begin_anew(alloc, at)?;
-        out(sent)
+        let at = self.ready_alone(place)?;
+        out(self.mount.begin_anew(alloc, at))
     }
 
     /// The next step of the setup goes out at a place, as that of this owner.
@@ -112,13 +124,9 @@ impl Scene {
         if owner.len() > NAME_LIMIT as usize {
             return Err(Wrong::Lacks("a short name"));
         }
-        let at = self.ready(place)?;
-        if self.mount.is_setting_up() {
-            return Err(Wrong::Lacks("no other setup"));
-        }
+        let at = self.ready_alone(place)?;
         let mech = self.server.mech();
-        let sent = self.mount.step(alloc, at, owner, None, mech)?;
-        out(sent)
+        out(self.mount.step(alloc, at, owner, None, mech))
     }
 
     /// RECLAIM_COMPLETE goes out in the slot of a place.
@@ -127,8 +135,7 @@ impl Scene {
         if !self.mount.has_numbers(place) {
             return Err(Wrong::Lacks("a number of the slot"));
         }
-        let sent = self.mount.reclaim(alloc, at, self.server.mech())?;
-        out(sent)
+        out(self.mount.reclaim(alloc, at, self.server.mech()))
     }
 
     /// RECLAIM_COMPLETE goes out in the slot of a place, as what the machine above asks there.
@@ -139,10 +146,11 @@ impl Scene {
         if !self.mount.has_numbers(place) {
             return Err(Wrong::Lacks("a number of the slot"));
         }
-        let call = SlotCall::ReclaimComplete;
         let mech = self.server.mech();
-        let sent = self.mount.send(alloc, at, under, call, mech)?;
-        out(sent)
+        out(
+            self.mount
+                .send(alloc, at, under, SlotCall::ReclaimComplete, mech),
+        )
     }
 
     /// CREATE of a child goes out at a place, with this privilege of this name.
@@ -154,31 +162,28 @@ impl Scene {
         name: &str,
         privilege: &str,
     ) -> Result<Sent, Wrong> {
-        if child >= PLACES {
-            return Err(Wrong::Lacks("a child"));
-        }
         let (name, privilege) = (name.as_bytes(), privilege.as_bytes());
-        if name.len() > NAME_LIMIT as usize || privilege.len() > PRIVILEGE_LIMIT as usize {
-            return Err(Wrong::Lacks("a short name"));
+        if child >= PLACES
+            || name.len() > NAME_LIMIT as usize
+            || privilege.len() > PRIVILEGE_LIMIT as usize
+        {
+            return Err(Wrong::Lacks("a child with a short name"));
         }
         let at = self.ready(place)?;
         let mech = self.server.mech();
-        let sent = self.mount.create(alloc, at, child, name, privilege, mech)?;
-        out(sent)
+        out(self.mount.create(alloc, at, child, name, privilege, mech))
     }
 
     /// What ends something goes out at a place.
     pub fn end(&mut self, alloc: Global, place: u32, ending: Ending) -> Result<Sent, Wrong> {
         let at = self.ready(place)?;
-        let sent = self.mount.end(alloc, at, ending, self.server.mech())?;
-        out(sent)
+        out(self.mount.end(alloc, at, ending, self.server.mech()))
     }
 
     /// What is awaited at a place goes out again.
     pub fn again(&mut self, alloc: Global, place: u32) -> Result<Sent, Wrong> {
         let at = self.numbered(place)?;
-        let sent = self.mount.send_again(alloc, at, self.server.mech())?;
-        out(sent)
+        out(self.mount.send_again(alloc, at, self.server.mech()))
     }
 
     /// A record is taken at a place.
@@ -199,39 +204,32 @@ impl Scene {
     }
 
     /// A server in its boot of this number stands in the place of the one that was there. Nobody has called it yet.
-    pub fn boot(&mut self, alloc: Global, boot: u32) -> Result<(), Wrong> {
-        self.server = toy_server(alloc, boot)?;
+    pub fn boot(&mut self, alloc: Global, boot: u32) -> Mem<()> {
+        self.server = sound_server(alloc, boot)?;
         Ok(())
     }
 
     /// A copy of the mount is kept.
-    pub fn keep(&mut self, alloc: Global) -> Result<(), Wrong> {
+    pub fn keep(&mut self, alloc: Global) -> Mem<()> {
         self.kept = self.mount.copy(alloc)?;
         Ok(())
     }
 
     /// The copy is the mount from here on.
-    pub fn go_back(&mut self, alloc: Global) -> Result<(), Wrong> {
+    pub fn go_back(&mut self, alloc: Global) -> Mem<()> {
         self.mount = self.kept.copy(alloc)?;
         Ok(())
     }
 }
 
 /// A server whose disk doesn't fail.
-fn toy_server(alloc: Global, boot: u32) -> Mem<ToyServer> {
+fn sound_server(alloc: Global, boot: u32) -> Mem<ToyServer> {
     ToyServer::new(alloc, boot, 1, 1, u64::MAX)
 }
 
-/// The call with this number fails.
-fn planned(alloc: Global, failing: u32) -> Mem<Planned> {
-    let mut plan = Vec::new(alloc);
-    plan.push(u64::from(failing))?;
-    Ok(Planned::new(plan))
-}
-
 /// What went out.
-fn out(sent: Option<Sent>) -> Result<Sent, Wrong> {
-    match sent {
+fn out(sent: Mem<Option<Sent>>) -> Result<Sent, Wrong> {
+    match sent? {
         Some(sent) => Ok(sent),
         None => Err(Wrong::Lacks("a call")),
     }

@@ -6,7 +6,7 @@ ghost use Rattle.copy_ops.specs.declared.operation.TheConstants.{OP_COPY_NOTIFY}
 ghost use Rattle.file_server.specs.Answering.{Says};
 ghost use Rattle.nfs_base.specs.declared.status.TheConstants.Status.{OK};
 ghost use Rattle.wire_xdr.specs.Words.{word_bytes};
-ghost use Rattle.toy_server.specs.Toy.{attributes_gate, given, judged, operation_gate, permits, read_gate, wide_grant};
+ghost use Rattle.server_rows.specs.Toy.{attributes_gate, given, judged, operation_gate, permits, read_gate, wide_grant};
 
 use compound_server::{ClientEnd, Serving};
 use copy_ops::{CopyArg, OP_CLONE, OP_COPY, OP_OFFLOAD_CANCEL, OP_OFFLOAD_STATUS};
@@ -20,6 +20,7 @@ use outbox::{Note, NoteList};
 use outcome::Mem;
 use session_server::{Extending, Judgement};
 use std::alloc::Global;
+use std::fmt::Write;
 
 /// How many bytes the name of the place has that COPY_NOTIFY tells, so that its result has as many as one may have.
 const WIDE: usize = 348;
@@ -63,19 +64,19 @@ impl Toy {
         }
     }
 
-    /// How many READs it permitted, how many numbers it gave out, and the client that ended last.
-    pub fn text(&self, alloc: Global) -> Mem<String> {
+    /// Adds how many READs it permitted, how many numbers it gave out, and the client that ended last.
+    pub fn put(&self, text: &mut String) -> Mem<()> {
         let (reads, given, ended) = (self.reads, self.given, self.ended % (1 << 32));
         let why = match self.why {
             ClientEnd::Lapsed => "lapsed",
             ClientEnd::Gone => "gone",
         };
-        Ok(format!(in alloc; "reads {reads} given {given} ended {ended} {why}")?)
+        Ok(write!(text, "reads {reads} given {given} ended {ended} {why}")?)
     }
 }
 
 impl Extension<Option<u32>> for Toy {
-    ghost use Rattle.toy_server.specs.Toy.{gated};
+    ghost use Rattle.server_rows.specs.Toy.{gated};
 
     ghost gated = { gated };
 
@@ -139,8 +140,8 @@ impl Toy {
 
 impl Serving<u32> for Toy {
     ghost use Rattle.std.specs.Prelude.{refl};
-    ghost use Rattle.toy_server.specs.Laws.{gates_give_none, none_given, same_gate, still};
-    ghost use Rattle.toy_server.specs.Toy.{given, lapses, leaves, serves, suits};
+    ghost use Rattle.server_rows.specs.Laws.{gates_give_none, none_given, same_gate, still};
+    ghost use Rattle.server_rows.specs.Toy.{given, lapses, leaves, serves, suits};
 
     type Room = ();
 
@@ -226,8 +227,8 @@ fn say_wide(p: &mut Progress, wide: &[u8; WIDE]) -> Status
 
 impl Extending<u32> for Toy {
     ghost use Rattle.std.specs.Prelude.{refl};
-    ghost use Rattle.toy_server.specs.Laws.{none_given};
-    ghost use Rattle.toy_server.specs.Toy.{judges, silent, tells};
+    ghost use Rattle.server_rows.specs.Laws.{none_given};
+    ghost use Rattle.server_rows.specs.Toy.{judges, silent, tells};
 
     type Mech = Realm;
 

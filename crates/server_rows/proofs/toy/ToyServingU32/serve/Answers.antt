@@ -8,8 +8,8 @@ use Rattle.file_server.specs.Answering.{going_of, machine_of}
 use Rattle.nfs_base.specs.declared.answer.Answer.TheVariants.{Done, Refused}
 use Rattle.nfs_base.specs.declared.status.TheConstants.Status.{NOTSUPP, OK}
 use Rattle.server_volume.specs.Store.{seat_of}
-use Rattle.toy_server.specs.Toy.{serves, wide_grant}
-use Rattle.toy_server.proofs.toy.ToyServingU32.serve.Goals as goal
+use Rattle.server_rows.specs.Toy.{serves, wide_grant}
+use Rattle.server_rows.proofs.toy.ToyServingU32.serve.Goals as goal
 
 pub returns-in-Copy-clause-serves : goal.returns-in-Copy-clause-serves
 unfolding serves

@@ -6,8 +6,8 @@ use Rattle.file_server.specs.declared.extension.Ask.{Ask}
 use Rattle.file_server.specs.declared.extension.Ask.TheVariants as asks
 use Rattle.file_server.specs.declared.extension.Caller.{Caller}
 use Rattle.nfs_base.specs.declared.state_id.StateId.{StateId}
-use Rattle.toy_server.specs.Toy.{gated, given, lapses, permits, read_gate, read_permitted}
-use Rattle.toy_server.specs.declared.toy.Toy.{Toy}
+use Rattle.server_rows.specs.Toy.{gated, given, lapses, permits, read_gate, read_permitted}
+use Rattle.server_rows.specs.declared.toy.Toy.{Toy}
 
 by_permit : (permitted : Bool) (x : Toy) → given (read_permitted permitted x).0 ≤ given x
 by_permit true x = le_refl x.given

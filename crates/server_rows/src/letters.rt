@@ -1,13 +1,13 @@
 //! Records that were sent or made, by the place that they belong to.
 
-use crate::answers::Bytes;
 use outcome::Mem;
 use std::alloc::Global;
+use wire_xdr::Octets;
 
 #[derive(Drop)]
 struct Letter {
     place: u32,
-    bytes: Bytes,
+    bytes: Octets,
 }
 
 /// Records by their places, the newest last.
@@ -24,9 +24,8 @@ impl Letters {
     }
 
     /// A record of a place more.
-    pub fn add(&mut self, place: u32, bytes: Bytes) -> Mem<()> {
-        self.items.push(Letter { place, bytes })?;
-        Ok(())
+    pub fn add(&mut self, place: u32, bytes: Octets) -> Mem<()> {
+        Ok(self.items.push(Letter { place, bytes })?)
     }
 
     /// The newest record of a place but so many, and no bytes where there is none.
