@@ -12,9 +12,6 @@ use std::fmt::Write;
 pub struct Cases {
     name: String,
 
-    /// The lines of the last event's outcome that weren't met yet, the next one last.
-    due: Vec<String>,
-
     /// How many lines were taken.
     lines: u64,
 
@@ -38,7 +35,6 @@ impl Cases {
     {
         Cases {
             name: String::new(alloc),
-            due: Vec::new(alloc),
             lines: 0,
             is_left: false,
             is_told: false,
@@ -54,9 +50,7 @@ impl Cases {
         ensures differ { self.new.differ ≡ self.old.differ }
         ensures err { OnErr result (self.new ≡ self.old) }
     {
-        let name = format!(in alloc; "{name}")?;
-        self.name = name;
-        self.due = Vec::new(alloc);
+        self.name = String::from_str(alloc, name)?;
         self.is_left = false;
         self.is_told = false;
         self.begun = self.begun.saturating_add(1);
@@ -75,25 +69,10 @@ impl Cases {
         ensures { IsAsBefore self.old self.new }
     {
         self.is_left = true;
-        if text.is_empty() {
-            write!(text, "{}: stopped at line {}", self.name, self.lines)?;
+        if !text.is_empty() {
+            return Ok(());
         }
-        Ok(())
-    }
-
-    /// These lines are the outcome of an event.
-    pub fn expect(&mut self, lines: Vec<String>)
-        ensures { IsAsBefore self.old self.new }
-    {
-        self.due = lines;
-        self.due.reverse();
-    }
-
-    /// The next line of the outcome, if one is due.
-    pub fn next_due(&mut self) -> Option<String>
-        ensures { IsAsBefore self.old self.new }
-    {
-        self.due.pop()
+        Ok(write!(text, "{}: stopped at line {}", self.name, self.lines)?)
     }
 
     /// Compares a line with the one that was given for it, and tells where that is another one.
@@ -102,9 +81,10 @@ impl Cases {
         ensures other { given.now ≢ line.now → IfOk result (λ _. IsCounted self.old self.new) }
     {
         if given == line {
-            return Ok(());
+            Ok(())
+        } else {
+            self.tell(line, given, text)
         }
-        self.tell(line, given, text)
     }
 
     /// Counts a case with a line for which another one was given, and tells of it: the first such line of each case.

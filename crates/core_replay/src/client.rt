@@ -1,18 +1,19 @@
 //! Cases of a client: the client, and its steps by the words of a line.
 
-ghost use Rattle.std.specs.Prelude.{◌≡◌, ◌<◌};
+ghost use Rattle.std.specs.Prelude.{◌≡◌, ◌≤◌, ◌<◌, length};
 ghost use Rattle.client_core.specs.declared.client.TheConstants.{MOST_STEPS};
 ghost use Rattle.nfs_base.specs.Forms.{net_loc};
+ghost use Rattle.nfs_base.specs.declared.limits.TheConstants.{DATA_LIMIT};
 
-use crate::client_lines::{awaits_line, copy_number, copy_spec, is_step, report_line, side_of};
+use crate::client_lines::{copy_number, copy_spec, is_step, side_of, tell_awaits, tell_report};
 use crate::lines::{bytes_of, long};
+use crate::outbox_lines::tell_step;
 use crate::player::Player;
 use crate::setting::{dest_place, realm, source_place};
 use client_core::{Client, MOST_STEPS};
-use gss_mech::Realm;
+use gss_mech::{Mechanism, Realm};
 use nfs_base::{DATA_LIMIT, NetLoc};
 use outbox::Outbox;
-use outbox_text::lines_of;
 use outcome::Mem;
 use row_text::{number, word};
 use std::alloc::Global;
@@ -20,73 +21,46 @@ use streams::CountDraws;
 use wire_lines::Speaker;
 use wire_xdr::Octets;
 
-/// The client of a case, once one was begun.
+/// The client of a case, and what it draws from.
 #[derive(Drop)]
-pub struct ClientPlaying {
-    ends: Option<Ends>,
-}
-
-impl ClientPlaying {
-    pub fn new() -> ClientPlaying {
-        ClientPlaying { ends: None }
-    }
-}
-
-impl Player for ClientPlaying {
-    fn begin(&mut self, alloc: Global, _words: &[&str]) -> Mem<()> {
-        self.ends = Some(Ends::new(alloc)?);
-        Ok(())
-    }
-
-    fn event(&mut self, alloc: Global, words: &[&str]) -> Mem<Option<Vec<String>>> {
-        if !is_step(word(words, 0)) {
-            return Ok(None);
-        }
-        match &mut self.ends {
-            Some(ends) => Ok(Some(ends.outcome(alloc, words)?)),
-            None => Ok(None),
-        }
-    }
-
-    fn held(&mut self, alloc: Global, words: &[&str]) -> Mem<String> {
-        match &self.ends {
-            Some(ends) => ends.held(alloc, words),
-            None => Ok(format!(in alloc; "no client")?),
-        }
-    }
-}
-
-/// A client, and what it draws.
-#[derive(Drop)]
-struct Ends {
-    client: Client<Realm>,
+pub struct Calling<M> {
+    client: Client<M>,
     draws: CountDraws,
 }
 
-impl Ends {
-    fn new(alloc: Global) -> Mem<Ends> {
-        Ok(Ends {
-            client: new_client(alloc)?,
-            draws: CountDraws::new(),
-        })
+impl Player for Calling<Realm> {
+    fn begin(alloc: Global, _words: &[&str]) -> Mem<Option<Calling<Realm>>> {
+        new_calling(alloc, realm(alloc)?).map(Some)
     }
 
-    /// The lines of a step's outcome: none where the client makes no step.
-    fn outcome(&mut self, alloc: Global, words: &[&str]) -> Mem<Vec<String>> {
-        match self.step(alloc, words)? {
-            Some(out) => lines_of(alloc, Speaker::Client, &out),
-            None => Ok(Vec::new(alloc)),
+    fn event(&mut self, alloc: Global, words: &[&str], text: &mut String) -> Mem<bool> {
+        self.take(alloc, words, text)
+    }
+
+    fn held(&mut self, words: &[&str], text: &mut String) -> Mem<()> {
+        self.tell_held(words, text)
+    }
+}
+
+impl<M: Mechanism> Calling<M> {
+    /// Makes a step and adds the lines of its outcome: none where the client makes no step.
+    fn take(&mut self, alloc: Global, words: &[&str], text: &mut String) -> Mem<bool> {
+        if !is_step(word(words, 0)) {
+            return Ok(false);
         }
+        let given = self.step(alloc, words)?;
+        let _is_made = tell_step(text, Speaker::Client, given)?;
+        Ok(true)
     }
 
-    /// What the client tells of a copy, or whether it awaits an answer of a server.
-    fn held(&self, alloc: Global, words: &[&str]) -> Mem<String> {
+    /// Adds what the client tells of a copy, or whether it awaits an answer of a server.
+    fn tell_held(&self, words: &[&str], text: &mut String) -> Mem<()> {
         if word(words, 0) == "report" {
             let j = copy_number(words);
-            return report_line(alloc, j, self.client.report(j));
+            return tell_report(text, j, self.client.report(j));
         }
         let side = word(words, 1);
-        awaits_line(alloc, side, self.client.awaits(side_of(side)))
+        tell_awaits(text, side, self.client.awaits(side_of(side)))
     }
 
     /// A step, by the words of its line. None where the client makes none.
@@ -97,8 +71,8 @@ impl Ends {
         match word(words, 0) {
             "copy" => self.copy(alloc, words),
             "write" => self.write(alloc, words),
-            "record" => Ok(Some(self.record(alloc, words)?)),
-            _ => Ok(Some(self.plain(alloc, words)?)),
+            "record" => self.record(alloc, words).map(Some),
+            _ => self.plain(alloc, words).map(Some),
         }
     }
 
@@ -111,36 +85,35 @@ impl Ends {
             return Ok(None);
         }
         let now = long(words, 2);
-        Ok(Some(
-            self.client
-                .begin_copy(alloc, j, copy_spec(words), now, &mut self.draws)?,
-        ))
+        self.client
+            .begin_copy(alloc, j, copy_spec(words), now, &mut self.draws)
+            .map(Some)
     }
 
     fn write(&mut self, alloc: Global, words: &[&str]) -> Mem<Option<Outbox>>
         requires { self.old.client.steps < MOST_STEPS }
     {
-        let bytes = bytes_of(alloc, word(words, 5))?;
+        let bytes = bytes_of(alloc, word(words, 5));
         if bytes.len() > DATA_LIMIT as usize {
             return Ok(None);
         }
-        Ok(Some(
-            self.client.write(
-                alloc,
-                side_of(word(words, 1)),
-                number(words, 3),
-                long(words, 4),
-                bytes.as_slice(),
-                long(words, 2),
-                &mut self.draws,
-            )?,
-        ))
+        self.write_bytes(alloc, words, bytes.as_slice()).map(Some)
+    }
+
+    fn write_bytes(&mut self, alloc: Global, words: &[&str], bytes: &[u8]) -> Mem<Outbox>
+        requires steps { self.old.client.steps < MOST_STEPS }
+        requires len { length bytes.now ≤ DATA_LIMIT }
+    {
+        let (file, off, now) = (number(words, 3), long(words, 4), long(words, 2));
+        let at = side_of(word(words, 1));
+        self.client
+            .write(alloc, at, file, off, bytes, now, &mut self.draws)
     }
 
     fn record(&mut self, alloc: Global, words: &[&str]) -> Mem<Outbox>
         requires { self.old.client.steps < MOST_STEPS }
     {
-        let record_ = bytes_of(alloc, word(words, 3))?;
+        let record_ = bytes_of(alloc, word(words, 3));
         let (from, now) = (side_of(word(words, 1)), long(words, 2));
         self.client
             .on_record(alloc, from, record_.as_slice(), now, &mut self.draws)
@@ -168,16 +141,28 @@ impl Ends {
 }
 
 /// A client that has called nobody yet.
-fn new_client(alloc: Global) -> Mem<Client<Realm>> {
+fn new_calling<M: Mechanism + Drop>(alloc: Global, mech: M) -> Mem<Calling<M>> {
+    Ok(Calling {
+        client: new_client(alloc, mech)?,
+        draws: CountDraws::new(),
+    })
+}
+
+fn new_client<M: Mechanism + Drop>(alloc: Global, mech: M) -> Mem<Client<M>> {
     let (source, dest) = (source_place(alloc)?, dest_place(alloc)?);
-    new_client_of(alloc, source, dest)
+    new_client_of(alloc, mech, source, dest)
 }
 
 /// A client of servers at these places.
-fn new_client_of(alloc: Global, source: NetLoc, dest: NetLoc) -> Mem<Client<Realm>>
+fn new_client_of<M: Mechanism + Drop>(
+    alloc: Global,
+    mech: M,
+    source: NetLoc,
+    dest: NetLoc,
+) -> Mem<Client<M>>
     requires source { net_loc.Fits source }
     requires dest { net_loc.Fits dest }
 {
     let me = Octets::from_slice(alloc, b"user")?;
-    Client::new(alloc, realm(alloc)?, me, source, dest)
+    Client::new(alloc, mech, me, source, dest)
 }

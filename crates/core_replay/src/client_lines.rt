@@ -5,7 +5,6 @@ use client_copies::Report;
 use nfs_base::{CopySpec, Side};
 use outcome::Mem;
 use row_text::{number, word};
-use std::alloc::Global;
 use std::fmt::Write;
 
 /// Whether a word names a step of the client.
@@ -40,28 +39,29 @@ pub fn copy_spec(words: &[&str]) -> CopySpec {
     }
 }
 
-/// What is told of a copy in the end.
-pub fn report_line(alloc: Global, j: u8, report: Option<Report>) -> Mem<String> {
-    let mut text = format!(in alloc; "report {j} {}", report_word(report))?;
-    if let Some(Report::Failed(status)) = report {
-        write!(text, " {}", status.number)?;
+/// Adds what is told of a copy in the end.
+pub fn tell_report(text: &mut String, j: u8, report: Option<Report>) -> Mem<()> {
+    let (word, status) = report_words(report);
+    write!(text, "report {j} {word}")?;
+    if let Some(status) = status {
+        write!(text, " {status}")?;
     }
-    Ok(text)
+    Ok(text.push_str("\n")?)
 }
 
-fn report_word(report: Option<Report>) -> &'static str {
+fn report_words(report: Option<Report>) -> (&'static str, Option<u32>) {
     match report {
-        None => "none",
-        Some(Report::Stable) => "stable",
-        Some(Report::Exact) => "exact",
-        Some(Report::Unsure) => "unsure",
-        Some(Report::Cancelled) => "cancelled",
-        Some(Report::Failed(_)) => "failed",
+        None => ("none", None),
+        Some(Report::Stable) => ("stable", None),
+        Some(Report::Exact) => ("exact", None),
+        Some(Report::Unsure) => ("unsure", None),
+        Some(Report::Cancelled) => ("cancelled", None),
+        Some(Report::Failed(status)) => ("failed", Some(status.number)),
     }
 }
 
-/// Whether answers of a server are awaited.
-pub fn awaits_line(alloc: Global, side: &str, awaits: bool) -> Mem<String> {
+/// Adds whether answers of a server are awaited.
+pub fn tell_awaits(text: &mut String, side: &str, awaits: bool) -> Mem<()> {
     let told = if awaits { "yes" } else { "no" };
-    Ok(format!(in alloc; "awaits {side} {told}")?)
+    Ok(writeln!(text, "awaits {side} {told}")?)
 }

@@ -1,6 +1,6 @@
 //! The cores whose cases can be replayed.
 
-use crate::player::Player;
+use crate::player::{Player, begin, event, held};
 use outcome::Mem;
 use std::alloc::Global;
 
@@ -24,41 +24,55 @@ impl Core {
     }
 }
 
-/// A source, a destination and a client, and which of them the lines drive now.
+/// The source, the destination and the client of the last case of each, and which of them the lines drive now.
 #[derive(Drop)]
 pub struct Cores<S, D, C> {
-    pub now: Core,
-    pub source: S,
-    pub dest: D,
-    pub client: C,
+    now: Core,
+    source: Option<S>,
+    dest: Option<D>,
+    client: Option<C>,
 }
 
 impl<S: Player, D: Player, C: Player> Cores<S, D, C> {
+    /// No case was begun yet, and the first are for this core.
+    pub fn new(now: Core) -> Cores<S, D, C> {
+        Cores {
+            now,
+            source: None,
+            dest: None,
+            client: None,
+        }
+    }
+
+    /// From here on cases are for the core that a word names, if it names one.
+    pub fn choose(&mut self, word: &str) {
+        self.now = Core::named(word).unwrap_or(self.now);
+    }
+
     /// Begins a case with a new core, by the words of its first line.
     pub fn begin(&mut self, alloc: Global, words: &[&str]) -> Mem<()> {
         match self.now {
-            Core::Source => self.source.begin(alloc, words),
-            Core::Dest => self.dest.begin(alloc, words),
-            Core::Client => self.client.begin(alloc, words),
+            Core::Source => begin(&mut self.source, alloc, words),
+            Core::Dest => begin(&mut self.dest, alloc, words),
+            Core::Client => begin(&mut self.client, alloc, words),
         }
     }
 
-    /// Makes the step that an event's words say, and answers the lines of its outcome. None where the core doesn't make
-    /// such a step.
-    pub fn event(&mut self, alloc: Global, words: &[&str]) -> Mem<Option<Vec<String>>> {
+    /// Makes the step that an event's words say, adds the lines of its outcome, and tells whether the core makes such a step.
+    pub fn event(&mut self, alloc: Global, words: &[&str], text: &mut String) -> Mem<bool> {
         match self.now {
-            Core::Source => self.source.event(alloc, words),
-            Core::Dest => self.dest.event(alloc, words),
-            Core::Client => self.client.event(alloc, words),
+            Core::Source => event(&mut self.source, alloc, words, text),
+            Core::Dest => event(&mut self.dest, alloc, words, text),
+            Core::Client => event(&mut self.client, alloc, words, text),
         }
     }
 
-    /// What the core holds in the end, as the line with these words is to say it.
-    pub fn held(&mut self, alloc: Global, words: &[&str]) -> Mem<String> {
+    /// Adds what the core holds in the end, as the line with these words is to say it.
+    pub fn held(&mut self, words: &[&str], text: &mut String) -> Mem<()> {
         match self.now {
-            Core::Source => self.source.held(alloc, words),
-            Core::Dest => self.dest.held(alloc, words),
-            Core::Client => self.client.held(alloc, words),
+            Core::Source => held(&mut self.source, words, text),
+            Core::Dest => held(&mut self.dest, words, text),
+            Core::Client => held(&mut self.client, words, text),
         }
     }
 }

@@ -1,6 +1,5 @@
 //! The lines of cases.
 
-use outcome::Mem;
 use row_text::word;
 use std::alloc::Global;
 
@@ -13,16 +12,16 @@ pub enum Kind {
     /// It begins a case.
     Case,
 
-    /// It is one of a case.
-    Line(Within),
-}
-
-/// What a line is within a case.
-#[derive(Clone, Copy)]
-pub enum Within {
+    /// It is one of a case, and says what happens.
     Event,
+
+    /// It says what an event gave.
     Outcome,
+
+    /// It says what is held in the end.
     Held,
+
+    /// It ends a case.
     End,
 }
 
@@ -31,21 +30,11 @@ pub fn kind_of(word: &str) -> Kind {
     match word {
         "core" => Kind::Core,
         "case" => Kind::Case,
-        _ => Kind::Line(place_of(word)),
+        "end" => Kind::End,
+        _ if is_outcome(word) => Kind::Outcome,
+        _ if is_held(word) => Kind::Held,
+        _ => Kind::Event,
     }
-}
-
-fn place_of(word: &str) -> Within {
-    if is_outcome(word) {
-        return Within::Outcome;
-    }
-    if is_held(word) {
-        return Within::Held;
-    }
-    if word == "end" {
-        return Within::End;
-    }
-    Within::Event
 }
 
 fn is_outcome(word: &str) -> bool {
@@ -67,9 +56,9 @@ pub fn long(words: &[&str], at: usize) -> u64 {
 }
 
 /// The bytes of a word, and none where it isn't hex.
-pub fn bytes_of(alloc: Global, word: &str) -> Mem<Vec<u8>> {
+pub fn bytes_of(alloc: Global, word: &str) -> Vec<u8> {
     match hex::decode(alloc, word) {
-        Ok(bytes) => Ok(bytes),
-        Err(_) => Ok(Vec::new(alloc)),
+        Ok(bytes) => bytes,
+        Err(_) => Vec::new(alloc),
     }
 }

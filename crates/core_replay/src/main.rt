@@ -15,19 +15,22 @@ mod client;
 mod client_lines;
 mod cores;
 mod dest;
+mod draws;
 mod driver;
+mod due;
 mod lines;
+mod outbox_lines;
 mod player;
-mod playing;
 mod replay;
+mod serving;
 mod setting;
 mod source;
 mod volume;
 
-use crate::client::ClientPlaying;
+use crate::client::Calling;
 use crate::cores::{Core, Cores};
-use crate::playing::Playing;
-use crate::replay::replay;
+use crate::replay::replay_cases;
+use crate::serving::Serving;
 use dest_core::DestCore;
 use disk_model::MemoryDisk;
 use gss_mech::Realm;
@@ -43,26 +46,22 @@ fn first_core(rt: &(impl Env + AllocGlobal)) -> io::Result<Option<Core>> {
     Ok(Core::named(word.as_str()))
 }
 
+/// A source, a destination and a client, over disks in memory.
+type MemoryCores = Cores<
+    Serving<SourceCore<MemoryDisk, Realm>>,
+    Serving<DestCore<MemoryDisk, Realm>>,
+    Calling<Realm>,
+>;
+
 /// Replays cases of all cores, those of this one first.
 fn replay_from(rt: &HostRuntime, now: Core) -> io::Result<()> {
-    let source: Playing<SourceCore<MemoryDisk, Realm>> = Playing::new();
-    let dest: Playing<DestCore<MemoryDisk, Realm>> = Playing::new();
-    let client = ClientPlaying::new();
-    replay(
-        rt,
-        &mut Cores {
-            now,
-            source,
-            dest,
-            client,
-        },
-    )
+    let cores: MemoryCores = Cores::new(now);
+    replay_cases(rt, cores)
 }
 
 fn main(rt: HostRuntime) -> io::Result<()> {
     match first_core(&rt)? {
-        Some(core) => replay_from(&rt, core)?,
-        None => println!(rt; "usage: source|dest|client")?,
+        Some(core) => replay_from(&rt, core),
+        None => println!(rt; "usage: source|dest|client"),
     }
-    Ok(())
 }

@@ -5,13 +5,39 @@ use std::alloc::Global;
 
 /// A core as the lines of cases drive it.
 pub trait Player: Drop {
-    /// Begins a case with a new core, by the words of its first line.
-    fn begin(&mut self, alloc: Global, words: &[&str]) -> Mem<()>;
+    /// The core of a new case, by the words of its first line. None where there can't be one.
+    fn begin(alloc: Global, words: &[&str]) -> Mem<Option<Self>>;
 
-    /// Makes the step that an event's words say, and answers the lines of its outcome. None where the core doesn't make
-    /// such a step.
-    fn event(&mut self, alloc: Global, words: &[&str]) -> Mem<Option<Vec<String>>>;
+    /// Makes the step that an event's words say, adds the lines of its outcome, and tells whether the core makes such a step.
+    fn event(&mut self, alloc: Global, words: &[&str], text: &mut String) -> Mem<bool>;
 
-    /// What the core holds in the end, as the line with these words is to say it.
-    fn held(&mut self, alloc: Global, words: &[&str]) -> Mem<String>;
+    /// Adds what the core holds in the end, as the line with these words is to say it.
+    fn held(&mut self, words: &[&str], text: &mut String) -> Mem<()>;
+}
+
+/// Puts the core of a new case in the place of the last one's.
+pub fn begin<P: Player>(player: &mut Option<P>, alloc: Global, words: &[&str]) -> Mem<()> {
+    *player = P::begin(alloc, words)?;
+    Ok(())
+}
+
+/// Has the core make an event's step, where there is a core.
+pub fn event<P: Player>(
+    player: &mut Option<P>,
+    alloc: Global,
+    words: &[&str],
+    text: &mut String,
+) -> Mem<bool> {
+    match player {
+        Some(player) => player.event(alloc, words, text),
+        None => Ok(false),
+    }
+}
+
+/// Has the core say what it holds, where there is a core.
+pub fn held<P: Player>(player: &mut Option<P>, words: &[&str], text: &mut String) -> Mem<()> {
+    match player {
+        Some(player) => player.held(words, text),
+        None => Ok(text.push_str("no core\n")?),
+    }
 }

@@ -1,8 +1,9 @@
 //! Cases from standard input, line by line.
 
 use crate::cases::Cases;
-use crate::cores::{Core, Cores};
-use crate::lines::{Kind, Within, is_passed_over, kind_of};
+use crate::cores::Cores;
+use crate::due::Due;
+use crate::lines::{Kind, is_passed_over, kind_of};
 use crate::player::Player;
 use outcome::Mem;
 use row_text::{word, words};
@@ -10,132 +11,123 @@ use std::alloc::Global;
 use std::io;
 
 /// Replays the cases of standard input, and prints what is to be told of them.
-pub fn replay<S: Player, D: Player, C: Player>(
+pub fn replay_cases<S: Player, D: Player, C: Player>(
     rt: &HostRuntime,
-    cores: &mut Cores<S, D, C>,
+    cores: Cores<S, D, C>,
 ) -> io::Result<()> {
-    let mut cases = Cases::new(rt.alloc());
-    for line in rt.lines(rt.alloc()) {
+    let mut replay = Replay {
+        cores,
+        cases: Cases::new(rt.alloc()),
+        due: Due::new(rt.alloc()),
+        told: String::new(rt.alloc()),
+    };
+    replay.take_lines(rt)?;
+    replay.print_counts(rt)
+}
+
+/// What is replayed, and how it goes.
+#[derive(Drop)]
+struct Replay<S, D, C> {
+    cores: Cores<S, D, C>,
+    cases: Cases,
+
+    /// The lines that the last event gave.
+    due: Due,
+
+    /// What is to be told of a line.
+    told: String,
+}
+
+impl<S: Player, D: Player, C: Player> Replay<S, D, C> {
+    fn print_counts(&self, rt: &HostRuntime) -> io::Result<()> {
+        println!(rt; "{} cases, {} differ", self.cases.begun, self.cases.differ)
+    }
+
+    fn take_lines(&mut self, rt: &HostRuntime) -> io::Result<()> {
+        for line in rt.lines(rt.alloc()) {
+            self.take_line(rt, line)?;
+        }
+        Ok(())
+    }
+
+    /// Takes a line, and prints what is to be told of it.
+    fn take_line(&mut self, rt: &HostRuntime, line: io::Result<String>) -> io::Result<()> {
         let line = line?;
-        print_line(rt, cores, &mut cases, line.as_str())?;
+        self.told.clear();
+        let taken = self.take(rt.alloc(), line.as_str());
+        self.print_told(rt, taken.is_ok())
     }
-    println!(rt; "{} cases, {} differ", cases.begun, cases.differ)
-}
 
-/// Takes a line, and prints what is to be told of it.
-fn print_line<S: Player, D: Player, C: Player>(
-    rt: &HostRuntime,
-    cores: &mut Cores<S, D, C>,
-    cases: &mut Cases,
-    line: &str,
-) -> io::Result<()> {
-    let mut text = String::new(rt.alloc());
-    let taken = take(rt.alloc(), cores, cases, line, &mut text);
-    print_told(rt, taken.is_ok(), text.as_str())
-}
-
-fn print_told(rt: &HostRuntime, is_taken: bool, text: &str) -> io::Result<()> {
-    if !is_taken {
-        return println!(rt; "out of memory");
-    }
-    if text.is_empty() {
-        return Ok(());
-    }
-    println!(rt; "{text}")
-}
-
-/// Takes a line, and adds what is to be told of it.
-fn take<S: Player, D: Player, C: Player>(
-    alloc: Global,
-    cores: &mut Cores<S, D, C>,
-    cases: &mut Cases,
-    line: &str,
-    text: &mut String,
-) -> Mem<()> {
-    cases.count_line();
-    if is_passed_over(line) {
-        return Ok(());
-    }
-    let words = words(alloc, line)?;
-    take_words(alloc, cores, cases, line, words.as_slice(), text)
-}
-
-fn take_words<S: Player, D: Player, C: Player>(
-    alloc: Global,
-    cores: &mut Cores<S, D, C>,
-    cases: &mut Cases,
-    line: &str,
-    words: &[&str],
-    text: &mut String,
-) -> Mem<()> {
-    match kind_of(word(words, 0)) {
-        Kind::Core => {
-            choose(cores, word(words, 1));
-            Ok(())
+    fn print_told(&self, rt: &HostRuntime, is_taken: bool) -> io::Result<()> {
+        if is_taken && self.told.is_empty() {
+            return Ok(());
         }
-        Kind::Case => {
-            cases.begin(alloc, word(words, 1))?;
-            cores.begin(alloc, words)
+        let told = if is_taken {
+            self.told.as_str()
+        } else {
+            "out of memory"
+        };
+        println!(rt; "{told}")
+    }
+
+    /// Takes a line, and adds what is to be told of it.
+    fn take(&mut self, alloc: Global, line: &str) -> Mem<()> {
+        self.cases.count_line();
+        if is_passed_over(line) {
+            return Ok(());
         }
-        Kind::Line(_) if cases.is_left => Ok(()),
-        Kind::Line(kind) => follow(alloc, cores, cases, line, words, kind, text),
+        let words = words(alloc, line)?;
+        self.take_words(alloc, line, words.as_slice())
     }
-}
 
-/// From here on cases are for the core that a word names, if it names one.
-fn choose<S: Player, D: Player, C: Player>(cores: &mut Cores<S, D, C>, word: &str) {
-    if let Some(core) = Core::named(word) {
-        cores.now = core;
-    }
-}
-
-/// Takes a line of a case behind its first one.
-fn follow<S: Player, D: Player, C: Player>(
-    alloc: Global,
-    cores: &mut Cores<S, D, C>,
-    cases: &mut Cases,
-    line: &str,
-    words: &[&str],
-    kind: Within,
-    text: &mut String,
-) -> Mem<()> {
-    match kind {
-        Within::Event => {
-            ends_outcome(cases, line, text)?;
-            follow_event(cases, cores.event(alloc, words)?, text)
+    fn take_words(&mut self, alloc: Global, line: &str, words: &[&str]) -> Mem<()> {
+        match kind_of(word(words, 0)) {
+            Kind::Core => {
+                self.cores.choose(word(words, 1));
+                Ok(())
+            }
+            Kind::Case => self.begin(alloc, words),
+            _ if self.cases.is_left => Ok(()),
+            Kind::Event => self.event(alloc, line, words),
+            Kind::Outcome => self.meets(line),
+            Kind::Held => self.held(line, words),
+            Kind::End => self.ends_outcome(line),
         }
-        Within::Outcome => meets_outcome(cases, line, text),
-        Within::Held => {
-            let given = cores.held(alloc, words)?;
-            cases.meet(line, given.as_str(), text)
+    }
+
+    fn begin(&mut self, alloc: Global, words: &[&str]) -> Mem<()> {
+        let _none_due = self.due.anew();
+        self.cases.begin(alloc, word(words, 1))?;
+        self.cores.begin(alloc, words)
+    }
+
+    /// An event. What is due behind it is its outcome, where the core makes it.
+    fn event(&mut self, alloc: Global, line: &str, words: &[&str]) -> Mem<()> {
+        self.ends_outcome(line)?;
+        if self.cores.event(alloc, words, self.due.anew())? {
+            return Ok(());
         }
-        Within::End => ends_outcome(cases, line, text),
+        self.cases.leave(&mut self.told)
     }
-}
 
-/// What is due behind an event is its outcome, where the core made it.
-fn follow_event(cases: &mut Cases, outcome: Option<Vec<String>>, text: &mut String) -> Mem<()> {
-    match outcome {
-        Some(lines) => {
-            cases.expect(lines);
-            Ok(())
+    /// A line that says what a core holds, as the core is to say it.
+    fn held(&mut self, line: &str, words: &[&str]) -> Mem<()> {
+        self.ends_outcome(line)?;
+        self.cores.held(words, self.due.anew())?;
+        self.meets(line)
+    }
+
+    /// A line behind which no line of the outcome may be due.
+    fn ends_outcome(&mut self, line: &str) -> Mem<()> {
+        match self.due.next() {
+            Some(left) => self.cases.tell(line, left, &mut self.told),
+            None => Ok(()),
         }
-        None => cases.leave(text),
     }
-}
 
-/// A line behind which no line of the outcome may be due.
-fn ends_outcome(cases: &mut Cases, line: &str, text: &mut String) -> Mem<()> {
-    match cases.next_due() {
-        Some(left) => cases.tell(line, left.as_str(), text),
-        None => Ok(()),
-    }
-}
-
-/// A line of an outcome, which is to be the next one that is due.
-fn meets_outcome(cases: &mut Cases, line: &str, text: &mut String) -> Mem<()> {
-    match cases.next_due() {
-        Some(given) => cases.meet(line, given.as_str(), text),
-        None => cases.tell(line, "nothing", text),
+    /// A line that is to be the next one that is due.
+    fn meets(&mut self, line: &str) -> Mem<()> {
+        let given = self.due.next().unwrap_or("nothing");
+        self.cases.meet(line, given, &mut self.told)
     }
 }

@@ -1,4 +1,4 @@
-//! What all cases have alike: the principals, where servers are found, and what is drawn.
+//! What all cases have alike: the principals, and where servers are found.
 
 ghost use Rattle.std.specs.Prelude.{◌≤◌, length, IfOk};
 ghost use Rattle.nfs_base.specs.Forms.{net_loc};
@@ -8,26 +8,27 @@ use copy_privs::Peer;
 use gss_mech::Realm;
 use nfs_base::NetLoc;
 use outcome::Mem;
-use sha2::{Digest, Sha256};
 use std::alloc::Global;
-use streams::MemDraws;
 use wire_xdr::{Items, Octets};
 
 /// The principals of all cases, with their keys.
 pub fn realm(alloc: Global) -> Mem<Realm> {
     let mut keys = Vec::new(alloc);
-    add_key(alloc, &mut keys, b"user", 1)?;
-    add_key(alloc, &mut keys, b"dest", 2)?;
-    add_key(alloc, &mut keys, b"eve", 3)?;
-    add_key(alloc, &mut keys, b"other", 4)?;
+    add_keys(alloc, &mut keys)?;
     Realm::new(alloc, keys.as_slice())
+}
+
+fn add_keys(alloc: Global, keys: &mut Vec<(Octets, [u8; 32])>) -> Mem<()> {
+    add_key(alloc, keys, b"user", 1)?;
+    add_key(alloc, keys, b"dest", 2)?;
+    add_key(alloc, keys, b"eve", 3)?;
+    add_key(alloc, keys, b"other", 4)
 }
 
 /// Adds a principal, whose key is 32 times this byte.
 fn add_key(alloc: Global, keys: &mut Vec<(Octets, [u8; 32])>, name: &[u8], byte: u8) -> Mem<()> {
     let name = Octets::from_slice(alloc, name)?;
-    keys.push((name, [byte; 32]))?;
-    Ok(())
+    Ok(keys.push((name, [byte; 32]))?)
 }
 
 /// Where the source is found.
@@ -66,9 +67,7 @@ pub fn source_peers(alloc: Global) -> Mem<Items<Peer>> {
 fn add_peer(alloc: Global, peers: &mut Items<Peer>, principal: &[u8], addr: &[u8]) -> Mem<()>
     requires { length addr.now ≤ 64 }
 {
-    let peer = peer(alloc, principal, addr)?;
-    peers.push(peer)?;
-    Ok(())
+    peers.push(peer(alloc, principal, addr)?)
 }
 
 fn peer(alloc: Global, principal: &[u8], addr: &[u8]) -> Mem<Peer>
@@ -90,38 +89,4 @@ fn tcp(alloc: Global, addr: &[u8]) -> Mem<NetLoc>
         netid: Octets::from_slice(alloc, b"tcp")?,
         addr: Octets::from_slice(alloc, addr)?,
     })
-}
-
-/// How many draws a case has by its name, where they are few.
-pub fn given_draws(name: &str) -> Option<u64> {
-    let (_, given) = name.split_once("-draws-")?;
-    given.parse::<u64>().ok()
-}
-
-/// How many draws of a case may fail.
-const MOST_FAILING: u64 = 64;
-
-/// So many draws, each SHA-256 of a counter that begins at 0. Those behind them fail.
-pub fn few_draws(alloc: Global, given: u64) -> Mem<MemDraws> {
-    let drawn = drawn(alloc, given)?;
-    let failing = failing(alloc, given)?;
-    Ok(MemDraws::new(drawn, failing))
-}
-
-fn drawn(alloc: Global, given: u64) -> Mem<Vec<[u8; 32]>> {
-    let mut drawn = Vec::new(alloc);
-    for count in 0..given {
-        let word: [u8; 8] = count.to_be_bytes();
-        drawn.push(<[u8; 32]>::from(Sha256::digest(&word)))?;
-    }
-    Ok(drawn)
-}
-
-/// Which draws fail, where so many don't.
-fn failing(alloc: Global, given: u64) -> Mem<Vec<u64>> {
-    let mut failing = Vec::new(alloc);
-    for place in 0..MOST_FAILING {
-        failing.push(given.saturating_add(place).saturating_add(1))?;
-    }
-    Ok(failing)
 }

@@ -30,10 +30,7 @@ pub fn formatted<D: Disk + Drop>(disk: D, words: &[&str]) -> Mem<Option<D>>
     if !is_volume(files, blocks) {
         return Ok(None);
     }
-    match Volume::format(disk, files, blocks, long(words, 4))? {
-        Ok(disk) => Ok(Some(disk)),
-        Err(_) => Ok(None),
-    }
+    Ok(Volume::format(disk, files, blocks, long(words, 4))?.ok())
 }
 
 /// Whether a volume may have so many files of so many blocks.
