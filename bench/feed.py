@@ -5,7 +5,7 @@ pieces, and prints the bytes that each goes through in a second, and their ratio
 
 import sys
 
-from programs import built, timed
+from programs import layer_bench, timed
 
 BLOCK = 65_536
 BLOCKS = (1 << 30) // BLOCK
@@ -13,11 +13,11 @@ SIZES = (1, 4096, 65_536)
 
 
 def main():
-    program = built("feed_bench")
+    words = layer_bench("feed")
     print(f"{'piece':>6} {'copy B/s':>15} {'feed B/s':>15} {'ratio':>7}")
     for size in SIZES:
-        copied = timed([program, "copy", str(BLOCKS), str(size)])
-        fed = timed([program, "feed", str(BLOCKS), str(size)])
+        copied = timed([*words, "copy", str(BLOCKS), str(size)])
+        fed = timed([*words, "feed", str(BLOCKS), str(size)])
         if copied.printed != fed.printed:
             sys.exit(f"{size}: {copied.printed!r} {fed.printed!r}")
         total = BLOCKS * BLOCK

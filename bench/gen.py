@@ -14,7 +14,7 @@ sealed in room for the largest.
 
 import sys
 
-from programs import NFSCOPY, built, nfscopy, timed
+from programs import NFSCOPY, layer_bench, nfscopy, timed
 
 SIZES = (16, 64)
 HASHINGS = 4
@@ -40,12 +40,12 @@ def fastest(words, printed):
 
 def main():
     nfscopy("show")
-    hasher = built("seal_bench")
+    seal = layer_bench("seal")
     print(f"{'gen':>4} {'seconds':>8} {'hashed B/s':>14} {'sha2 s':>7} {'ratio':>6} {'peak KiB':>9}")
     rows = []
     for size in SIZES:
         hashed = HASHINGS * (size << 20)
-        bare = fastest([hasher, str(hashed // PIECE), "hash"], f"hash {hashed}\n")
+        bare = fastest([*seal, str(hashed // PIECE), "hash"], f"hash {hashed}\n")
         ran = fastest([NFSCOPY, "gen", str(size)], summary(size))
         rows.append(ran)
         print(f"{size:4} {ran.seconds:8.3f} {hashed / ran.seconds:14,.0f} {bare.seconds:7.3f} "

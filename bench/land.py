@@ -3,7 +3,7 @@
 
 The whole of a chunk is a READ that the source answers, and its answer that the destination takes and lands on a volume in
 memory: the difference of two runs of `nfscopy`, of which one makes no copy. What the source's sealing takes is timed apart
-(`seal_bench`), and the rest is the destination's: it checks the answer's code, writes the chunk and enters it, with what the
+(`layer_bench seal`), and the rest is the destination's: it checks the answer's code, writes the chunk and enters it, with what the
 runner keeps of a record. All runs alternate, and the fastest of each counts.
 
 Where a whole copy's time goes, by a sampling profiler (`perf record` of the run that copies): about half is
@@ -15,7 +15,7 @@ volume and the runner. So of what the destination takes beside its hash, the mos
 keep, and no call of the destination's own.
 """
 
-from programs import built, nfscopy, timed, timed_over
+from programs import layer_bench, nfscopy, timed, timed_over
 
 CHUNK = 65_536
 CHUNKS = 1024
@@ -27,13 +27,13 @@ COPY = FILE + b"copy 1 1 0 1 0 0 c\nrounds 2112\npeek d 1 67108863 1\n"
 
 
 def main():
-    program, seal = nfscopy("run"), built("seal_bench")
+    program, seal = nfscopy("run"), layer_bench("seal")
     runs = {
         "none": lambda: timed_over(program, FILE),
         "copy": lambda: timed_over(program, COPY),
-        "hash": lambda: timed([seal, str(CHUNKS), "hash"]),
-        "serve": lambda: timed([seal, str(CHUNKS), "serve"]),
-        "start": lambda: timed([seal, "1", "hash"]),
+        "hash": lambda: timed([*seal, str(CHUNKS), "hash"]),
+        "serve": lambda: timed([*seal, str(CHUNKS), "serve"]),
+        "start": lambda: timed([*seal, "1", "hash"]),
     }
     best = dict.fromkeys(runs, float("inf"))
     for _ in range(ROUNDS):

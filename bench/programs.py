@@ -43,6 +43,11 @@ def built(name):
     return program
 
 
+def layer_bench(name):
+    """The words of a bench of `layer_bench`, which is built first."""
+    return [built("layer_bench"), name]
+
+
 def nfscopy(command):
     """The words of a command of the program, which is built by a first run of it over no input."""
     words = [NFSCOPY, command]

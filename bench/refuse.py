@@ -29,10 +29,10 @@ HOOK = os.path.join(TOP, "bench", "refuse.c")
 # Where a growth is made, by how the name of a function on the stack begins: the first of these decides. What `send` does
 # besides a step of the server takes no memory.
 PLACES = (
-    ("disk", "toy_server::disk::RoomDiskDisk"),
+    ("disk", "server_rows::disk::RoomDiskDisk"),
     ("step", "server_rows::ends::Ends::send"),
     ("making", "server_rows::ends::Ends::new"),
-    ("making", "toy_server::server::ToyServer::new"),
+    ("making", "server_rows::server::ToyServer::new"),
     ("table", "server_rows::ServerRows"),
 )
 LINE = "line"

@@ -7,7 +7,7 @@ Each round runs all of them one after the other, and the fastest run of each cou
 
 import sys
 
-from programs import built, timed
+from programs import layer_bench, timed
 
 SIZE = 65_536
 TIMES = 4096
@@ -15,20 +15,20 @@ ROUNDS = 5
 WORDS = ("hash", "serve", "check")
 
 
-def seconds_of(program, word):
-    """Seconds that the program takes."""
-    ran = timed([program, str(TIMES), word])
+def seconds_of(seal, word):
+    """Seconds that the bench takes."""
+    ran = timed([*seal, str(TIMES), word])
     if ran.printed != f"{word} {TIMES * SIZE}\n".encode():
         sys.exit(f"{word}: {ran.printed!r}")
     return ran.seconds
 
 
 def main():
-    program = built("seal_bench")
+    seal = layer_bench("seal")
     best = dict.fromkeys(WORDS, float("inf"))
     for _ in range(ROUNDS):
         for word in WORDS:
-            best[word] = min(best[word], seconds_of(program, word))
+            best[word] = min(best[word], seconds_of(seal, word))
     print(f"{'':>5} {'B/s':>15} {'ratio':>7}")
     for word in WORDS:
         print(f"{word:>5} {TIMES * SIZE / best[word]:15,.0f} {best['hash'] / best[word]:7.3f}")

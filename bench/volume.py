@@ -13,7 +13,7 @@ import tempfile
 import time
 from statistics import median
 
-from programs import built, timed
+from programs import layer_bench, timed
 
 FILES, BLOCKS = "1", "16384"
 
@@ -48,9 +48,9 @@ def peak_kib(words):
 
 
 def main():
-    program = built("volume_bench")
+    bench = layer_bench("volume")
     volume = os.path.join(tempfile.gettempdir(), "nfscopy-volume-bench")
-    timed([program, "make", FILES, BLOCKS])
+    timed([*bench, "make", FILES, BLOCKS])
     places = Places()
     rows = {}
     with tempfile.NamedTemporaryFile() as copy:
@@ -74,7 +74,7 @@ def main():
         for _ in range(TIMES):
             for work, name, other in works:
                 base = other()
-                ran = timed([program, work, FILES, BLOCKS])
+                ran = timed([*bench, work, FILES, BLOCKS])
                 if work == "read" and ran.printed != b"read 171\n":
                     sys.exit(f"{work}: {ran.printed!r}")
                 rows.setdefault((work, name), []).append((base, ran.seconds))
@@ -82,7 +82,7 @@ def main():
     for (work, name), pairs in rows.items():
         base, ran = (median(column) for column in zip(*pairs))
         ratio = median(other / own for other, own in pairs)
-        print(f"{work:6} {name:7} {base:8.3f} {ran:7.3f} {ratio:6.2f} {peak_kib([program, work, FILES, BLOCKS]):9}")
+        print(f"{work:6} {name:7} {base:8.3f} {ran:7.3f} {ratio:6.2f} {peak_kib([*bench, work, FILES, BLOCKS]):9}")
     os.remove(volume)
 
 
