@@ -182,8 +182,7 @@ pub fn serve_crowd<R: Threads + Wait + Sync>(
 ) -> Mem<()> {
     let (tally, put) = run_crowd(rt, alloc, conns, together);
     tell(&tally, text)?;
-    write!(text, "; {put} put")?;
-    Ok(())
+    Ok(write!(text, "; {put} put")?)
 }
 
 fn run_crowd<R: Threads + Wait + Sync>(

@@ -37,14 +37,21 @@ fn waiting(alloc: Global, ports: &str) -> Mem<Vec<Dial>> {
 
 fn dial_each(net: &mut MemNet, words: &[&str], text: &mut String) -> Mem<()> {
     for port in words.iter().skip(3) {
-        match net.dial(port.parse::<u16>().unwrap_or(0)) {
-            Dialed::Up(link) => tell_number(link, text)?,
-            Dialed::End => text.push_str("end; ")?,
-            Dialed::Failed => text.push_str("failed; ")?,
-        }
+        dial(net, port.parse::<u16>().unwrap_or(0), text)?;
     }
-    text.push_str("done")?;
-    Ok(())
+    tell("done", text)
+}
+
+fn dial(net: &mut MemNet, port: u16, text: &mut String) -> Mem<()> {
+    match net.dial(port) {
+        Dialed::Up(link) => tell_number(link, text),
+        Dialed::End => tell("end; ", text),
+        Dialed::Failed => tell("failed; ", text),
+    }
+}
+
+fn tell(what: &str, text: &mut String) -> Mem<()> {
+    Ok(text.push_str(what)?)
 }
 
 fn port_of(port: u64) -> u16 {
@@ -60,13 +67,15 @@ fn numbered(alloc: Global, number: u8) -> Mem<Connection> {
     })
 }
 
-fn tell_number(link: MemLink, text: &mut String) -> Mem<()> {
-    let mut link = link;
+fn tell_number(mut link: MemLink, text: &mut String) -> Mem<()> {
+    tell_taken(&mut link, text)
+}
+
+fn tell_taken(link: &mut MemLink, text: &mut String) -> Mem<()> {
     let mut room = [0];
     match link.take(&mut room) {
-        Take::Took(_) => write!(text, "up {}; ", room[0])?,
-        Take::End => text.push_str("ended; ")?,
-        Take::Failed => text.push_str("fault; ")?,
+        Take::Took(_) => Ok(write!(text, "up {}; ", room[0])?),
+        Take::End => tell("ended; ", text),
+        Take::Failed => tell("fault; ", text),
     }
-    Ok(())
 }

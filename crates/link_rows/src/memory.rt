@@ -45,15 +45,20 @@ fn coming(alloc: Global, words: &[&str]) -> Mem<VecDeque<Connection>> {
 fn connection(alloc: Global, word: &str) -> Mem<Connection> {
     let (parts, fails) = word.split_once('/').unwrap_or((word, ""));
     let (takes, puts) = fails.split_once('/').unwrap_or((fails, ""));
+    Ok(Connection {
+        bytes: joined(alloc, parts)?,
+        takes: numbers(alloc, takes)?,
+        puts: numbers(alloc, puts)?,
+    })
+}
+
+/// The bytes of parts in hex with a `+` between them.
+fn joined(alloc: Global, parts: &str) -> Mem<Vec<u8>> {
     let mut hex = Vec::new(alloc);
     for part in parts.split('+') {
         hex.push(part)?;
     }
-    Ok(Connection {
-        bytes: bytes(alloc, &hex, 0)?,
-        takes: numbers(alloc, takes)?,
-        puts: numbers(alloc, puts)?,
-    })
+    bytes(alloc, &hex, 0)
 }
 
 /// Numbers with commas between them. What isn't one is left out.
@@ -75,8 +80,7 @@ pub fn tell(tally: &Tally, text: &mut String) -> Mem<()> {
         left,
         stop,
     } = *tally;
-    write!(text, "{stop:?} {accepted} {starved} {left}")?;
-    Ok(())
+    Ok(write!(text, "{stop:?} {accepted} {starved} {left}")?)
 }
 
 fn tell_net(alloc: Global, tally: &Tally, net: &MemNet, text: &mut String) -> Mem<()> {
@@ -87,9 +91,7 @@ fn tell_net(alloc: Global, tally: &Tally, net: &MemNet, text: &mut String) -> Me
 fn tell_hung(alloc: Global, hung: &[HungLink], text: &mut String) -> Mem<()> {
     let mut lines = Vec::new(alloc);
     for link in hung {
-        let mut line = String::new(alloc);
-        tell_link(link, &mut line)?;
-        lines.push(line)?;
+        lines.push(line_of(alloc, link)?)?;
     }
     lines.sort()?;
     for line in &lines {
@@ -98,11 +100,16 @@ fn tell_hung(alloc: Global, hung: &[HungLink], text: &mut String) -> Mem<()> {
     Ok(())
 }
 
+fn line_of(alloc: Global, link: &HungLink) -> Mem<String> {
+    let mut line = String::new(alloc);
+    tell_link(link, &mut line)?;
+    Ok(line)
+}
+
 fn tell_link(link: &HungLink, text: &mut String) -> Mem<()> {
     text.push_str("; [")?;
     for byte in link.taken() {
         write!(text, "{byte:02x}")?;
     }
-    write!(text, "] {}", link.left().len())?;
-    Ok(())
+    Ok(write!(text, "] {}", link.left().len())?)
 }

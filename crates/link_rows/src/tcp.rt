@@ -2,6 +2,7 @@
 
 use crate::memory::tell;
 use crate::run::run;
+use link_server::Tally;
 use net_links::{Dialed, Halves, Net, TcpLink, TcpNet};
 use outcome::Mem;
 use std::alloc::Global;
@@ -26,19 +27,31 @@ pub fn serve_tcp<R: net::Net<Listener = TcpListener, Stream = TcpStream> + Threa
     conns: u32,
     text: &mut String,
 ) -> Mem<()> {
-    let Ok(mut net) = TcpNet::listening(rt, 0) else {
-        text.push_str("no listener")?;
-        return Ok(());
-    };
+    match TcpNet::listening(rt, 0) {
+        Ok(net) => serve_net(rt, alloc, conns, net, text),
+        Err(_) => Ok(text.push_str("no listener")?),
+    }
+}
+
+fn serve_net<R: net::Net<Listener = TcpListener, Stream = TcpStream> + Threads + Wait + Sync>(
+    rt: &R,
+    alloc: Global,
+    conns: u32,
+    mut net: TcpNet<'_, R>,
+    text: &mut String,
+) -> Mem<()> {
     let port = net.port().unwrap_or(0);
     let (right, tally) = join(
         rt,
         || ask_all(rt, port, conns),
         || run(rt, alloc, conns, &mut net),
     );
-    tell(&tally, text)?;
-    write!(text, "; {right} right")?;
-    Ok(())
+    tell_right(right, &tally, text)
+}
+
+fn tell_right(right: u32, tally: &Tally, text: &mut String) -> Mem<()> {
+    tell(tally, text)?;
+    Ok(write!(text, "; {right} right")?)
 }
 
 /// Asks at a port so often, and counts the right replies.
@@ -60,9 +73,11 @@ fn ask_all<R: net::Net<Listener = TcpListener, Stream = TcpStream>>(
 /// Puts the record, and takes its reply.
 fn asks(link: TcpLink) -> bool {
     let (mut from, mut to) = link.halves();
-    if put_all(&mut to, &RECORD).is_err() {
-        return false;
-    }
+    put_all(&mut to, &RECORD).is_ok() && is_reply(&mut from)
+}
+
+/// Takes a reply, and says whether it is right but for the connection's number.
+fn is_reply<F: Source>(from: &mut F) -> bool {
     let mut reply = [0; REPLY_LEN];
     let mut at = 0;
     for _ in 0..REPLY_LEN {
@@ -71,8 +86,7 @@ fn asks(link: TcpLink) -> bool {
         }
         match from.take(&mut reply[at..]) {
             Take::Took(count) => at += count,
-            Take::End => return false,
-            Take::Failed => return false,
+            Take::End | Take::Failed => return false,
         }
     }
     reply[..4] == [0x80, 0, 0, 5] && reply[5..] == [1, 2, 3, 4]

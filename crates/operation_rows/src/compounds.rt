@@ -13,12 +13,18 @@ use std::fmt::Write;
 
 fn tell_tail(tail: Tail, text: &mut String) -> Mem<()> {
     match tail {
-        Tail::Whole => text.push_str("whole")?,
-        Tail::Unreadable { place, op, at } => write!(text, "unreadable {place} {op} {at}")?,
-        Tail::Unsupported { place, op } => write!(text, "unsupported {place} {op}")?,
-        Tail::Illegal { place, op } => write!(text, "illegal {place} {op}")?,
+        Tail::Whole => tell(text, "whole"),
+        Tail::Unreadable { place, op, at } => {
+            tell_place("unreadable", place, op, text)?;
+            Ok(write!(text, " {at}")?)
+        }
+        Tail::Unsupported { place, op } => tell_place("unsupported", place, op, text),
+        Tail::Illegal { place, op } => tell_place("illegal", place, op, text),
     }
-    Ok(())
+}
+
+fn tell_place(word: &str, place: u32, op: u32, text: &mut String) -> Mem<()> {
+    Ok(write!(text, "{word} {place} {op}")?)
 }
 
 /// Tells `again`, where what was written are the bytes that were read.
@@ -59,12 +65,16 @@ pub fn owners(alloc: Global, bytes: &[u8], text: &mut String) -> Mem<()> {
 
 fn tell_owners(ops: Vec<Op>, text: &mut String) -> Mem<()> {
     for op in ops {
-        match op {
-            Op::File(FileArg::Open(args)) => tell_open(args, text)?,
-            _other => {}
-        }
+        tell_owner(op, text)?;
     }
     Ok(())
+}
+
+fn tell_owner(op: Op, text: &mut String) -> Mem<()> {
+    match op {
+        Op::File(FileArg::Open(args)) => tell_open(args, text),
+        _other => Ok(()),
+    }
 }
 
 /// The lengths of an OPEN's owner and of the name that it claims.

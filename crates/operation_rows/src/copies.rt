@@ -1,84 +1,74 @@
 //! Operations of a copy.
 
-use crate::readings::{again, refused, tell};
+ghost use Rattle.copy_ops.specs.Forms.{copy_arg, copy_arg_number};
+
+use crate::readings::{Asked, tell, tell_read, told};
 use copy_ops::*;
 use outcome::Mem;
 use row_text::{bytes, number, word};
 use std::alloc::Global;
 use std::fmt::Write;
-use wire_xdr::{Reader, Writer};
+use wire_xdr::{BadXdr, Reader, Writer};
 
 /// The arguments of the operation with a number.
 pub fn args(
     alloc: Global,
     op: u32,
-    bytes: &[u8],
+    reader: &mut Reader<'_>,
     writer: &mut Writer,
     text: &mut String,
-) -> Mem<()> {
+) -> Mem<Option<BadXdr>> {
     if !is_copy_op(op) {
-        return tell(text, "no such operation");
+        return tell_read(text, "no such operation");
     }
-    let mut reader = Reader::new(bytes);
-    match read_copy_op(alloc, op, &mut reader)? {
-        Ok(value) => {
-            write_copy_op(alloc, writer, &value)?;
-            again("read", bytes, &reader, writer, text)
-        }
-        Err(bad) => refused(&reader, bad, text),
+    match read_copy_op(alloc, op, reader)? {
+        Ok(value) => args_again(alloc, &value, writer, text),
+        Err(bad) => Ok(Some(bad)),
     }
+}
+
+fn args_again(
+    alloc: Global,
+    value: &CopyArg,
+    writer: &mut Writer,
+    text: &mut String,
+) -> Mem<Option<BadXdr>>
+    requires { (copy_arg (copy_arg_number value.now)).Fits value.now }
+{
+    write_copy_op(alloc, writer, value)?;
+    tell_read(text, "read")
 }
 
 /// The result of the operation with a number.
 pub fn res(
     alloc: Global,
     op: u32,
-    bytes: &[u8],
+    reader: &mut Reader<'_>,
     writer: &mut Writer,
     text: &mut String,
-) -> Mem<()> {
+) -> Mem<Option<BadXdr>> {
     if !is_copy_op(op) {
-        return tell(text, "no such operation");
+        return tell_read(text, "no such operation");
     }
-    let mut reader = Reader::new(bytes);
-    match read_copy_res(alloc, op, &mut reader)? {
-        Ok(value) => {
-            write_copy_res(alloc, writer, &value)?;
-            again("read", bytes, &reader, writer, text)
-        }
-        Err(bad) => refused(&reader, bad, text),
+    match read_copy_res(alloc, op, reader)? {
+        Ok(value) => write_copy_res(alloc, writer, &value)?,
+        Err(bad) => return Ok(Some(bad)),
     }
+    tell_read(text, "read")
 }
 
 /// CB_OFFLOAD.
-pub fn offload(alloc: Global, bytes: &[u8], writer: &mut Writer, text: &mut String) -> Mem<()> {
-    let mut reader = Reader::new(bytes);
-    match read_cb_offload(alloc, &mut reader)? {
-        Ok(value) => {
-            write_cb_offload(alloc, writer, &value)?;
-            again("read", bytes, &reader, writer, text)
-        }
-        Err(bad) => refused(&reader, bad, text),
+pub fn offload(
+    alloc: Global,
+    reader: &mut Reader<'_>,
+    writer: &mut Writer,
+    text: &mut String,
+) -> Mem<Option<BadXdr>> {
+    match read_cb_offload(alloc, reader)? {
+        Ok(value) => write_cb_offload(alloc, writer, &value)?,
+        Err(bad) => return Ok(Some(bad)),
     }
-}
-
-/// A kind of these three, and the number of the operation.
-#[derive(Clone, Copy)]
-struct Asked<'a> {
-    kind: &'a str,
-    op: u32,
-}
-
-impl Asked<'_> {
-    /// Tells what bytes are.
-    fn tell(self, alloc: Global, bytes: &[u8], text: &mut String) -> Mem<()> {
-        let mut writer = Writer::new(alloc)?;
-        match self.kind {
-            "args" => args(alloc, self.op, bytes, &mut writer, text),
-            "res" => res(alloc, self.op, bytes, &mut writer, text),
-            _ => offload(alloc, bytes, &mut writer, text),
-        }
-    }
+    tell_read(text, "read")
 }
 
 /// The kind and the number that a call names.
@@ -109,7 +99,7 @@ fn front(
     text: &mut String,
 ) -> Mem<()> {
     let mut answer = String::new(alloc);
-    asked.tell(alloc, bytes, &mut answer)?;
+    told(alloc, asked, bytes, &mut answer)?;
     if answer.as_str() != last.as_str() {
         write!(text, "{}: {answer}; ", bytes.len())?;
         *last = answer;
@@ -133,7 +123,7 @@ fn with_word(alloc: Global, all: &[u8], place: usize, number: u32) -> Mem<Vec<u8
 pub fn turned(alloc: Global, words: &[&str], text: &mut String) -> Mem<()> {
     let all = bytes(alloc, words, 3)?;
     let mut whole = String::new(alloc);
-    named(words).tell(alloc, &all, &mut whole)?;
+    told(alloc, named(words), &all, &mut whole)?;
     let turn = Turn {
         asked: named(words),
         all: &all,
@@ -177,7 +167,7 @@ impl Turn<'_> {
         let bytes = with_word(alloc, self.all, place, number)?;
         row.push_str(", ")?;
         let start = row.len();
-        self.asked.tell(alloc, &bytes, row)?;
+        told(alloc, self.asked, &bytes, row)?;
         Ok(row.as_bytes().get(start..) != Some(self.whole.as_bytes()))
     }
 }

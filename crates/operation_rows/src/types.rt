@@ -1,75 +1,79 @@
 //! The types that more than one operation has.
 
-use crate::readings::{again, refused, tell};
+use crate::readings::tell_read;
 use nfs_base::*;
 use outcome::Mem;
 use std::alloc::Global;
 use std::fmt::Write;
-use wire_xdr::{Reader, Writer, Xdr, read, write};
+use wire_xdr::{BadXdr, Reader, Writer, Xdr, read, write};
 
-/// What bytes are as a type.
-pub fn told(
+/// Reads bytes as a type, and writes the value again.
+pub fn read_as(
     alloc: Global,
     kind: &str,
-    bytes: &[u8],
+    reader: &mut Reader<'_>,
     writer: &mut Writer,
     text: &mut String,
-) -> Mem<()> {
+) -> Mem<Option<BadXdr>> {
     match kind {
-        "status" => a_status(alloc, bytes, writer, text),
-        "state_id" => a_state_id(alloc, bytes, writer, text),
-        "handle" => a_handle(alloc, bytes, writer, text),
-        "net_loc" => a_net_loc(alloc, bytes, writer, text),
-        "time" => a_time(alloc, bytes, writer, text),
-        "stability" => reading::<Stability>(alloc, bytes, writer, text),
-        "answer" => reading::<Answer<Status>>(alloc, bytes, writer, text),
-        "response" => reading::<WriteResponse>(alloc, bytes, writer, text),
-        "made_handle" => tell(text, made_word(Handle::new(bytes).is_some())),
-        _ => tell(text, "no such type"),
+        "status" => status(alloc, reader, writer, text),
+        "state_id" => state_id(alloc, reader, writer, text),
+        "handle" => handle(alloc, reader, writer, text),
+        "net_loc" => net_loc(alloc, reader, writer, text),
+        "time" => time(alloc, reader, writer, text),
+        "stability" => reading::<Stability>(alloc, reader, writer, text),
+        "answer" => reading::<Answer<Status>>(alloc, reader, writer, text),
+        "response" => reading::<WriteResponse>(alloc, reader, writer, text),
+        _ => tell_read(text, "no such type"),
     }
-}
-
-fn made_word(made: bool) -> &'static str {
-    if made { "made" } else { "none" }
 }
 
 /// A value that is read by its type.
-fn reading<T: Xdr>(alloc: Global, bytes: &[u8], writer: &mut Writer, text: &mut String) -> Mem<()> {
-    let mut reader = Reader::new(bytes);
-    match read::<T>(alloc, &mut reader)? {
-        Ok(value) => {
-            write(alloc, writer, &value)?;
-            again("read", bytes, &reader, writer, text)
-        }
-        Err(bad) => refused(&reader, bad, text),
+fn reading<T: Xdr>(
+    alloc: Global,
+    reader: &mut Reader<'_>,
+    writer: &mut Writer,
+    text: &mut String,
+) -> Mem<Option<BadXdr>> {
+    match read::<T>(alloc, reader)? {
+        Ok(value) => write(alloc, writer, &value)?,
+        Err(bad) => return Ok(Some(bad)),
     }
+    tell_read(text, "read")
 }
 
-fn a_status(alloc: Global, bytes: &[u8], writer: &mut Writer, text: &mut String) -> Mem<()> {
-    let mut reader = Reader::new(bytes);
-    match read_status(alloc, &mut reader)? {
+fn status(
+    alloc: Global,
+    reader: &mut Reader<'_>,
+    writer: &mut Writer,
+    text: &mut String,
+) -> Mem<Option<BadXdr>> {
+    match read_status(alloc, reader)? {
         Ok(value) => {
             write_status(alloc, writer, &value)?;
             write!(text, "{}", value.number)?;
-            again("", bytes, &reader, writer, text)
+            Ok(None)
         }
-        Err(bad) => refused(&reader, bad, text),
+        Err(bad) => Ok(Some(bad)),
     }
 }
 
-fn a_state_id(alloc: Global, bytes: &[u8], writer: &mut Writer, text: &mut String) -> Mem<()> {
-    let mut reader = Reader::new(bytes);
-    match read_state_id(alloc, &mut reader)? {
+fn state_id(
+    alloc: Global,
+    reader: &mut Reader<'_>,
+    writer: &mut Writer,
+    text: &mut String,
+) -> Mem<Option<BadXdr>> {
+    match read_state_id(alloc, reader)? {
         Ok(value) => {
             write_state_id(alloc, writer, &value)?;
-            tell_state_id(value, text)?;
-            again("", bytes, &reader, writer, text)
+            tell_state_id(value, text)
         }
-        Err(bad) => refused(&reader, bad, text),
+        Err(bad) => Ok(Some(bad)),
     }
 }
 
-fn tell_state_id(value: StateId, text: &mut String) -> Mem<()> {
+fn tell_state_id(value: StateId, text: &mut String) -> Mem<Option<BadXdr>> {
     let StateId {
         seqid,
         kind,
@@ -77,50 +81,61 @@ fn tell_state_id(value: StateId, text: &mut String) -> Mem<()> {
         number,
     } = value;
     write!(text, "{seqid} {kind} {boot} {number}")?;
-    Ok(())
+    Ok(None)
 }
 
-fn a_handle(alloc: Global, bytes: &[u8], writer: &mut Writer, text: &mut String) -> Mem<()> {
-    let mut reader = Reader::new(bytes);
-    match read_handle(alloc, &mut reader)? {
+fn handle(
+    alloc: Global,
+    reader: &mut Reader<'_>,
+    writer: &mut Writer,
+    text: &mut String,
+) -> Mem<Option<BadXdr>> {
+    match read_handle(alloc, reader)? {
         Ok(value) => {
             write_handle(alloc, writer, &value)?;
             write!(text, "{}", value.as_slice().len())?;
-            again("", bytes, &reader, writer, text)
+            Ok(None)
         }
-        Err(bad) => refused(&reader, bad, text),
+        Err(bad) => Ok(Some(bad)),
     }
 }
 
-fn a_net_loc(alloc: Global, bytes: &[u8], writer: &mut Writer, text: &mut String) -> Mem<()> {
-    let mut reader = Reader::new(bytes);
-    match read_net_loc(alloc, &mut reader)? {
+fn net_loc(
+    alloc: Global,
+    reader: &mut Reader<'_>,
+    writer: &mut Writer,
+    text: &mut String,
+) -> Mem<Option<BadXdr>> {
+    match read_net_loc(alloc, reader)? {
         Ok(value) => {
             write_net_loc(alloc, writer, &value)?;
-            tell_net_loc(&value, text)?;
-            again("", bytes, &reader, writer, text)
+            tell_net_loc(&value, text)
         }
-        Err(bad) => refused(&reader, bad, text),
+        Err(bad) => Ok(Some(bad)),
     }
 }
 
-fn tell_net_loc(value: &NetLoc, text: &mut String) -> Mem<()> {
+fn tell_net_loc(value: &NetLoc, text: &mut String) -> Mem<Option<BadXdr>> {
     match value {
         NetLoc::Name(name) => write!(text, "name {}", name.len())?,
         NetLoc::Url(url) => write!(text, "url {}", url.len())?,
         NetLoc::Addr { netid, addr } => write!(text, "addr {} {}", netid.len(), addr.len())?,
     }
-    Ok(())
+    Ok(None)
 }
 
-fn a_time(alloc: Global, bytes: &[u8], writer: &mut Writer, text: &mut String) -> Mem<()> {
-    let mut reader = Reader::new(bytes);
-    match read_time(alloc, &mut reader)? {
+fn time(
+    alloc: Global,
+    reader: &mut Reader<'_>,
+    writer: &mut Writer,
+    text: &mut String,
+) -> Mem<Option<BadXdr>> {
+    match read_time(alloc, reader)? {
         Ok(value) => {
             write_time(alloc, writer, &value)?;
             write!(text, "{} {}", value.secs, value.nanos)?;
-            again("", bytes, &reader, writer, text)
+            Ok(None)
         }
-        Err(bad) => refused(&reader, bad, text),
+        Err(bad) => Ok(Some(bad)),
     }
 }

@@ -39,23 +39,38 @@ pub fn compare<R: Rows>(rt: &HostRuntime, rows: &mut R) -> io::Result<()> {
     };
     for line in rt.lines(rt.alloc()) {
         let line = line?;
-        let Some((call, wanted)) = line.as_str().split_once(" = ") else {
-            continue;
-        };
-        let given = rows.answer(rt.alloc(), call);
-        let right = is_right(&given, wanted);
-        tally.count(right);
-        if right {
-            continue;
-        }
-        match given {
-            Ok(given) => println!(rt; "{line} BUT {given}")?,
-            Err(_) => println!(rt; "{line} BUT out of memory")?,
-        }
+        try_line(rt, rows, line.as_str(), &mut tally)?;
     }
     let Tally { lines, others } = tally;
-    println!(rt; "{lines} lines, {others} answered otherwise")?;
-    Ok(())
+    println!(rt; "{lines} lines, {others} answered otherwise")
+}
+
+/// Tries a line.
+fn try_line<R: Rows>(
+    rt: &HostRuntime,
+    rows: &mut R,
+    line: &str,
+    tally: &mut Tally,
+) -> io::Result<()> {
+    let Some((call, wanted)) = line.split_once(" = ") else {
+        return Ok(());
+    };
+    let given = rows.answer(rt.alloc(), call);
+    let right = is_right(&given, wanted);
+    tally.count(right);
+    if right {
+        Ok(())
+    } else {
+        tell(rt, line, &given)
+    }
+}
+
+/// Prints a line with what it was answered by.
+fn tell(rt: &HostRuntime, line: &str, given: &Mem<String>) -> io::Result<()> {
+    match given {
+        Ok(given) => println!(rt; "{line} BUT {given}"),
+        Err(_) => println!(rt; "{line} BUT out of memory"),
+    }
 }
 
 /// Whether a call was answered with the text that is wanted.

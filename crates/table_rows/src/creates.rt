@@ -28,91 +28,99 @@ pub fn answer(alloc: Global, words: &[&str], text: &mut String) -> Mem<()> {
     }
 }
 
-fn peers(alloc: Global) -> Mem<Vec<Peer>> {
-    let mut peers = Vec::new(alloc);
-    if let Some(peer) = peer(alloc)? {
-        peers.push(peer)?;
-    }
-    Ok(peers)
+/// The one peer.
+fn peer(alloc: Global) -> Mem<Peer> {
+    Ok(Peer {
+        principal: Octets::from_slice(alloc, b"dest")?,
+        loc: location(alloc, &["d"], 0)?,
+    })
 }
 
-fn peer(alloc: Global) -> Mem<Option<Peer>> {
-    let Some(loc) = location(alloc, &["d"], 0)? else {
-        return Ok(None);
-    };
-    let principal = Octets::from_slice(alloc, b"dest")?;
-    Ok(Some(Peer { principal, loc }))
-}
-
-fn tell_cause(cause: Option<PrivCause>, text: &mut String) -> Mem<()> {
-    match cause {
-        Some(cause) => write!(text, "{cause:?}")?,
-        None => text.push_str("taken")?,
+fn tell_cause(cause: Mem<Option<PrivCause>>, text: &mut String) -> Mem<()> {
+    match cause? {
+        Some(cause) => Ok(write!(text, "{cause:?}")?),
+        None => tell(text, "taken"),
     }
-    Ok(())
 }
 
 fn place(alloc: Global, words: &[&str], text: &mut String) -> Mem<()> {
-    let (peers, principal) = (peers(alloc)?, octets(alloc, words, 1)?);
-    let place = location_of(peers.as_slice(), principal.as_slice());
+    let peers = [peer(alloc)?];
+    let principal = octets(alloc, words, 1)?;
+    let place = location_of(&peers, principal.as_slice());
     tell(text, if place.is_some() { "a peer" } else { "no peer" })
 }
 
 fn from(alloc: Global, words: &[&str], text: &mut String) -> Mem<()> {
-    match location(alloc, words, 1)? {
-        Some(destination) => tell_cause(from_cause(alloc, words, &destination)?, text),
-        None => tell(text, "no location"),
-    }
+    let destination = location(alloc, words, 1)?;
+    tell_cause(from_cause(alloc, words, &destination), text)
 }
 
 fn from_cause(alloc: Global, words: &[&str], destination: &NetLoc) -> Mem<Option<PrivCause>> {
-    let (peers, user) = (peers(alloc)?, octets(alloc, words, 2)?);
-    let user = user.as_slice();
-    Ok(refuse_from(peers.as_slice(), b"user", destination, user))
+    let peers = [peer(alloc)?];
+    let user = octets(alloc, words, 2)?;
+    Ok(refuse_from(&peers, b"user", destination, user.as_slice()))
 }
 
 fn to(alloc: Global, words: &[&str], text: &mut String) -> Mem<()> {
-    match location(alloc, words, 1)? {
-        Some(source) => tell_cause(to_cause(alloc, words, &source)?, text),
-        None => tell(text, "no location"),
-    }
+    let source = location(alloc, words, 1)?;
+    tell_cause(to_cause(alloc, words, &source), text)
 }
 
 fn to_cause(alloc: Global, words: &[&str], source: &NetLoc) -> Mem<Option<PrivCause>> {
-    let (places, user) = (places(alloc, words)?, octets(alloc, words, 3)?);
-    let user = user.as_slice();
-    Ok(refuse_to(source, b"user", places.as_slice(), user))
+    let places = places(alloc, words)?;
+    let user = octets(alloc, words, 3)?;
+    Ok(refuse_to(source, b"user", places.as_slice(), user.as_slice()))
 }
 
 fn places(alloc: Global, words: &[&str]) -> Mem<Items<NetLoc>> {
     let mut places = Items::new(alloc);
-    if let Some(place) = location(alloc, words, 2)? {
-        places.push(place)?;
+    if word(words, 2) != "-" {
+        places.push(location(alloc, words, 2)?)?;
     }
     Ok(places)
 }
 
 fn matches(alloc: Global, words: &[&str], text: &mut String) -> Mem<()> {
+    let code = octets(alloc, words, 1)?;
+    let secret = octets(alloc, words, 2)?;
+    tell_match(
+        alloc,
+        code.as_slice(),
+        secret.as_slice(),
+        &key(words, 3),
+        text,
+    )
+}
+
+fn tell_match(
+    alloc: Global,
+    code: &[u8],
+    secret: &[u8],
+    key: &[u8; 32],
+    text: &mut String,
+) -> Mem<()> {
     let realm = Realm::new(alloc, &[])?;
-    let (code, secret) = (octets(alloc, words, 1)?, octets(alloc, words, 2)?);
-    let is_met = confirm_matches(code.as_slice(), secret.as_slice(), &key(words, 3), &realm);
+    let is_met = confirm_matches(code, secret, key, &realm);
     tell(text, if is_met { "yes" } else { "no" })
 }
 
 /// How far a confirmation of `dest` and `user` with this code comes behind each of the privileges.
 fn confirms(alloc: Global, words: &[&str], text: &mut String) -> Mem<()> {
-    let (peers, code) = (peers(alloc)?, octets(alloc, words, 1)?);
-    let key = key(words, 2);
+    let code = octets(alloc, words, 1)?;
     let asked = Confirming {
         principal: b"dest",
-        key: &key,
+        key: &key(words, 2),
         code: code.as_slice(),
         user: b"user",
     };
+    tell_each(alloc, words, &asked, text)
+}
+
+fn tell_each(alloc: Global, words: &[&str], asked: &Confirming<'_>, text: &mut String) -> Mem<()> {
     let mut cause = Some(PrivCause::Unknown);
     for words in words.chunks(3).skip(1) {
-        cause = next_cause(alloc, cause, words, peers.as_slice(), &asked)?;
-        tell_cause(cause, text)?;
+        cause = next_cause(alloc, cause, words, asked)?;
+        tell_cause(Ok(cause), text)?;
         tell(text, "; ")?;
     }
     Ok(())
@@ -123,25 +131,28 @@ fn next_cause(
     alloc: Global,
     cause: Option<PrivCause>,
     words: &[&str],
-    peers: &[Peer],
     asked: &Confirming<'_>,
 ) -> Mem<Option<PrivCause>> {
+    let carried = carried(alloc, words)?;
+    cause_behind(alloc, cause, &carried, asked)
+}
+
+fn cause_behind(
+    alloc: Global,
+    cause: Option<PrivCause>,
+    carried: &Privilege,
+    asked: &Confirming<'_>,
+) -> Mem<Option<PrivCause>> {
+    let peers = [peer(alloc)?];
     let realm = Realm::new(alloc, &[])?;
-    match carried(alloc, words)? {
-        Some(carried) => Ok(refuse_confirm(cause, &carried, peers, asked, &realm)),
-        None => Ok(cause),
-    }
+    Ok(refuse_confirm(cause, carried, &peers, asked, &realm))
 }
 
 /// The privilege of `SECRET LOC USER`.
-fn carried(alloc: Global, words: &[&str]) -> Mem<Option<Privilege>> {
-    let Some(destination) = location(alloc, words, 1)? else {
-        return Ok(None);
-    };
-    let (secret, user) = (octets(alloc, words, 0)?, octets(alloc, words, 2)?);
-    Ok(Some(Privilege::From {
-        secret,
-        destination,
-        user,
-    }))
+fn carried(alloc: Global, words: &[&str]) -> Mem<Privilege> {
+    Ok(Privilege::From {
+        secret: octets(alloc, words, 0)?,
+        destination: location(alloc, words, 1)?,
+        user: octets(alloc, words, 2)?,
+    })
 }

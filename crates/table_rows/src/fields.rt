@@ -1,7 +1,7 @@
 //! The fields of a line, and how answers are told.
 
 use hex::FromHex;
-use nfs_base::NetLoc;
+use nfs_base::{NetLoc, Status};
 use outcome::Mem;
 use row_text::{bytes, word};
 use std::alloc::Global;
@@ -27,29 +27,31 @@ pub fn key(words: &[&str], at: usize) -> [u8; 32] {
 }
 
 /// The location of the letter at a place: the source's, the destination's, or another one.
-pub fn location(alloc: Global, words: &[&str], at: usize) -> Mem<Option<NetLoc>> {
+pub fn location(alloc: Global, words: &[&str], at: usize) -> Mem<NetLoc> {
     let addr: &[u8] = match word(words, at) {
         "s" => b"127.0.0.1.8.1".as_slice(),
         "d" => b"127.0.0.1.8.2".as_slice(),
-        "o" => b"10.0.0.2.8.1".as_slice(),
-        _ => return Ok(None),
+        _ => b"10.0.0.2.8.1".as_slice(),
     };
-    Ok(Some(NetLoc::Addr {
+    Ok(NetLoc::Addr {
         netid: Octets::from_slice(alloc, b"tcp")?,
         addr: Octets::from_slice(alloc, addr)?,
-    }))
+    })
 }
 
 /// Tells a text.
 pub fn tell(text: &mut String, what: &str) -> Mem<()> {
-    text.push_str(what)?;
-    Ok(())
+    Ok(text.push_str(what)?)
 }
 
 /// Tells a number.
 pub fn tell_number(number: u32, text: &mut String) -> Mem<()> {
-    write!(text, "{number}")?;
-    Ok(())
+    Ok(write!(text, "{number}")?)
+}
+
+/// Tells a status by its number.
+pub fn tell_status(status: Status, text: &mut String) -> Mem<()> {
+    Ok(write!(text, "{status}")?)
 }
 
 /// Tells `true` or `false`.

@@ -1,7 +1,7 @@
 //! The grants of a source (`copy_grants`).
 
 use crate::creates;
-use crate::fields::{key, location, octets, tell, tell_number};
+use crate::fields::{key, location, octets, tell, tell_number, tell_status};
 use copy_grants::{Ask, Full, Grants, Permit, status_of};
 use gss_mech::Realm;
 use nfs_base::{NetLoc, StateId};
@@ -9,7 +9,6 @@ use outcome::Mem;
 use row_text::{number, word};
 use std::alloc::Global;
 use std::fmt::Write;
-use wire_xdr::Octets;
 
 /// A table of grants, with the codes of a realm.
 #[derive(Drop)]
@@ -56,145 +55,122 @@ impl GrantLines {
     }
 
     fn notify(&mut self, alloc: Global, words: &[&str], text: &mut String) -> Mem<()> {
-        match Wanted::of(alloc, words)? {
-            Some(wanted) => self.give(&wanted, words, text),
-            None => tell(text, "no location"),
-        }
+        let destination = location(alloc, words, 3)?;
+        self.give(alloc, &destination, words, text)
     }
 
-    fn give(&mut self, wanted: &Wanted, words: &[&str], text: &mut String) -> Mem<()> {
+    fn give(
+        &mut self,
+        alloc: Global,
+        destination: &NetLoc,
+        words: &[&str],
+        text: &mut String,
+    ) -> Mem<()> {
         if self.grants.made() == u32::MAX {
             return tell(text, "worn");
         }
+        let user = octets(alloc, words, 4)?;
+        let secret = octets(alloc, words, 5)?;
         let now = u64::from(number(words, 1));
         let file = number(words, 2);
-        let (user, secret) = (wanted.user.as_slice(), wanted.secret.as_slice());
-        let answer = self
-            .grants
-            .notify(now, file, &wanted.destination, user, secret)?;
-        tell_given(answer, text)
+        let user = user.as_slice();
+        let secret = secret.as_slice();
+        let given = self.grants.notify(now, file, destination, user, secret)?;
+        tell_given(given, text)
     }
 
     fn notify_taken(&mut self, alloc: Global, words: &[&str], text: &mut String) -> Mem<()> {
-        match Wanted::of(alloc, words)? {
-            Some(wanted) => self.give_taken(wanted, words, text),
-            None => tell(text, "no location"),
-        }
-    }
-
-    fn give_taken(&mut self, wanted: Wanted, words: &[&str], text: &mut String) -> Mem<()> {
         if self.grants.made() == u32::MAX {
             return tell(text, "worn");
         }
-        let Wanted {
-            destination,
-            user,
-            secret,
-        } = wanted;
+        let destination = location(alloc, words, 3)?;
+        let user = octets(alloc, words, 4)?;
+        let secret = octets(alloc, words, 5)?;
         let now = u64::from(number(words, 1));
-        let answer = self
+        let file = number(words, 2);
+        let given = self
             .grants
-            .notify_taken(now, number(words, 2), destination, user, secret);
-        tell_given(answer, text)
+            .notify_taken(now, file, destination, user, secret);
+        tell_given(given, text)
     }
 
     fn permit(&mut self, alloc: Global, words: &[&str], text: &mut String) -> Mem<()> {
-        let shown = Shown::at(alloc, words, (5, 7))?;
-        tell_permit(self.permitted(&shown, words), text)
+        let peer = peer(alloc, words, 5)?;
+        self.permit_to(alloc, peer.as_ref(), words, text)
     }
 
-    fn permitted(&mut self, shown: &Shown, words: &[&str]) -> Permit {
+    fn permit_to(
+        &mut self,
+        alloc: Global,
+        peer: Option<&NetLoc>,
+        words: &[&str],
+        text: &mut String,
+    ) -> Mem<()> {
+        let user = octets(alloc, words, 7)?;
+        let code = octets(alloc, words, 8)?;
         let ask = Ask {
             id: id(number(words, 2), number(words, 3)),
             file: number(words, 4),
-            peer: shown.peer.as_ref(),
+            peer,
             confirmed: word(words, 6) == "yes",
-            user: shown.user.as_slice(),
-            code: shown.code.as_slice(),
+            user: user.as_slice(),
+            code: code.as_slice(),
             key: &key(words, 9),
         };
         let now = u64::from(number(words, 1));
-        self.grants.permit(now, &ask, &self.realm)
+        tell_permit(self.grants.permit(now, &ask, &self.realm), text)
     }
 
     fn shows(&self, alloc: Global, words: &[&str], text: &mut String) -> Mem<()> {
-        let shown = Shown::at(alloc, words, (3, 4))?;
-        let is_shown = self.is_shown(&shown, words);
-        tell(text, if is_shown { "yes" } else { "no" })
+        let peer = peer(alloc, words, 3)?;
+        self.shows_to(alloc, peer.as_ref(), words, text)
     }
 
-    fn is_shown(&self, shown: &Shown, words: &[&str]) -> bool {
+    fn shows_to(
+        &self,
+        alloc: Global,
+        peer: Option<&NetLoc>,
+        words: &[&str],
+        text: &mut String,
+    ) -> Mem<()> {
+        let user = octets(alloc, words, 4)?;
+        let code = octets(alloc, words, 5)?;
         let ask = Ask {
             id: id(0, 0),
             file: number(words, 2),
-            peer: shown.peer.as_ref(),
+            peer,
             confirmed: true,
-            user: shown.user.as_slice(),
-            code: shown.code.as_slice(),
+            user: user.as_slice(),
+            code: code.as_slice(),
             key: &key(words, 6),
         };
         let now = u64::from(number(words, 1));
-        self.grants.shows(now, &ask, &self.realm)
+        let is_shown = self.grants.shows(now, &ask, &self.realm);
+        tell(text, if is_shown { "yes" } else { "no" })
     }
 
     fn cancel(&mut self, words: &[&str], text: &mut String) -> Mem<()> {
         let id = id(number(words, 1), number(words, 2));
         match self.grants.cancel(&id) {
-            Ok(()) => text.push_str("0")?,
-            Err(status) => write!(text, "{status}")?,
-        }
-        Ok(())
-    }
-}
-
-/// What a grant is asked for: `LOC USER SECRET` from the fourth word on.
-#[derive(Drop)]
-struct Wanted {
-    destination: NetLoc,
-    user: Octets,
-    secret: Octets,
-}
-
-impl Wanted {
-    fn of(alloc: Global, words: &[&str]) -> Mem<Option<Wanted>> {
-        let (user, secret) = (octets(alloc, words, 4)?, octets(alloc, words, 5)?);
-        match location(alloc, words, 3)? {
-            Some(destination) => Ok(Some(Wanted {
-                destination,
-                user,
-                secret,
-            })),
-            None => Ok(None),
+            Ok(()) => tell(text, "0"),
+            Err(status) => tell_status(status, text),
         }
     }
 }
 
-/// What one shows who reads under a grant.
-#[derive(Drop)]
-struct Shown {
-    peer: Option<NetLoc>,
-    user: Octets,
-    code: Octets,
-}
-
-impl Shown {
-    /// The location at one place, and the user and the code from another one on.
-    fn at(alloc: Global, words: &[&str], (peer, user): (usize, usize)) -> Mem<Shown> {
-        let code = user.saturating_add(1);
-        Ok(Shown {
-            peer: location(alloc, words, peer)?,
-            user: octets(alloc, words, user)?,
-            code: octets(alloc, words, code)?,
-        })
+/// The location at a place; `-` is none.
+fn peer(alloc: Global, words: &[&str], at: usize) -> Mem<Option<NetLoc>> {
+    match word(words, at) {
+        "-" => Ok(None),
+        _ => location(alloc, words, at).map(Some),
     }
 }
 
 fn tell_permit(permit: Permit, text: &mut String) -> Mem<()> {
     match permit {
-        Permit::Permitted => text.push_str("permitted")?,
-        Permit::Denied(cause) => write!(text, "{cause} {}", status_of(cause))?,
+        Permit::Permitted => tell(text, "permitted"),
+        Permit::Denied(cause) => Ok(write!(text, "{cause} {}", status_of(cause))?),
     }
-    Ok(())
 }
 
 /// Tells the number of the grant that was given.
@@ -207,11 +183,10 @@ fn tell_given(answer: Result<StateId, Full>, text: &mut String) -> Mem<()> {
                 number,
                 ..
             },
-        ) => write!(text, "{number}")?,
-        Ok(_) => text.push_str("another stateid")?,
-        Err(Full) => text.push_str("full")?,
+        ) => tell_number(number, text),
+        Ok(_) => tell(text, "another stateid"),
+        Err(Full) => tell(text, "full"),
     }
-    Ok(())
 }
 
 /// A stateid of COPY_NOTIFY.

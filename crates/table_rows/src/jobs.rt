@@ -39,17 +39,38 @@ impl JobLines {
         match word(words, 0) {
             "accept" => self.accept(alloc, words, text),
             "claim" => tell_claim(self.jobs.claim(job), text),
-            "landing" => tell_landing(self.jobs.landing(job, chunk(words)), text),
-            "land" => tell_landing(self.jobs.land(job, chunk(words)), text),
+            "landing" | "land" => self.land(job, words, text),
+            "sweep" => self.sweep(alloc, job, number(words, 2) as usize, text),
+            "case" => self.begin(alloc, long(words, 1)),
+            "status" | "next" | "len" | "is" | "landed" => self.tell_of(job, words, text),
+            _ => self.change(job, words, text),
+        }
+    }
+
+    /// The answer to a call that changes nothing.
+    fn tell_of(&self, job: JobId, words: &[&str], text: &mut String) -> Mem<()> {
+        match word(words, 0) {
             "status" => tell_status(self.jobs.status(job), text),
             "next" => tell_next(self.jobs.next(number(words, 1)), text),
             "len" => tell_len(self.jobs.len(job), text),
             "is" => self.state(job, text),
-            "landed" => tell_long(self.jobs.landed(), text),
-            "sweep" => self.sweep(alloc, job, number(words, 2) as usize, text),
-            "case" => self.begin(alloc, long(words, 1)),
-            _ => tell_done(self.is_done(job, words)?, text),
+            _ => tell_long(self.jobs.landed(), text),
         }
+    }
+
+    fn land(&mut self, job: JobId, words: &[&str], text: &mut String) -> Mem<()> {
+        let chunk = chunk(words);
+        let landing = match word(words, 0) {
+            "landing" => self.jobs.landing(job, chunk),
+            _ => self.jobs.land(job, chunk),
+        };
+        tell_landing(landing, text)
+    }
+
+    /// Tells nothing of a call that was done.
+    fn change(&mut self, job: JobId, words: &[&str], text: &mut String) -> Mem<()> {
+        let is_done = self.is_done(job, words)?;
+        tell_where(!is_done, text, "not done")
     }
 
     fn begin(&mut self, alloc: Global, capacity: u64) -> Mem<()> {
@@ -59,15 +80,19 @@ impl JobLines {
 
     fn is_done(&mut self, job: JobId, words: &[&str]) -> Mem<bool> {
         match word(words, 0) {
-            "size" => return self.size(job, long(words, 2)),
-            "give_back" => self.jobs.give_back(job, chunk(words)),
-            "stop" => return Ok(self.stop(job, words)),
-            "committed" => return Ok(self.commit(job)),
-            "reported" => return Ok(self.report(job)),
-            "retire" => return Ok(self.retire(job)),
-            _ => return Ok(false),
+            "size" => self.size(job, long(words, 2)),
+            "give_back" => Ok(self.give_back(job, chunk(words))),
+            "stop" => Ok(self.stop(job, words)),
+            "committed" => Ok(self.commit(job)),
+            "reported" => Ok(self.report(job)),
+            "retire" => Ok(self.retire(job)),
+            _ => Ok(false),
         }
-        Ok(true)
+    }
+
+    fn give_back(&mut self, job: JobId, chunk: Chunk) -> bool {
+        self.jobs.give_back(job, chunk);
+        true
     }
 
     fn size(&mut self, job: JobId, len: u64) -> Mem<bool> {
@@ -266,59 +291,65 @@ impl Swept {
 }
 
 fn tell_swept(swept: Swept, text: &mut String) -> Mem<()> {
-    write!(text, "{} {} {}", swept.landed, swept.held, swept.late)?;
-    Ok(())
-}
-
-/// Tells nothing of a call that was done.
-fn tell_done(is_done: bool, text: &mut String) -> Mem<()> {
-    tell_where(!is_done, text, "not done")
+    Ok(write!(text, "{} {} {}", swept.landed, swept.held, swept.late)?)
 }
 
 fn tell_accepted(accepted: Result<JobId, Refused>, text: &mut String) -> Mem<()> {
     match accepted {
-        Ok(JobId { number, .. }) => write!(text, "job {number}")?,
-        Err(Refused::Overlap { job }) => write!(text, "overlap {}", job.number)?,
-        Err(Refused::Full) => text.push_str("full")?,
+        Ok(job) => tell_job("job ", job, text),
+        Err(Refused::Overlap { job }) => tell_job("overlap ", job, text),
+        Err(Refused::Full) => tell(text, "full"),
     }
-    Ok(())
+}
+
+fn tell_job(front: &str, job: JobId, text: &mut String) -> Mem<()> {
+    Ok(write!(text, "{front}{}", job.number)?)
 }
 
 fn tell_claim(claim: Option<Chunk>, text: &mut String) -> Mem<()> {
     match claim {
-        Some(Chunk { off, len }) => write!(text, "{off} {len}")?,
-        None => text.push_str("none")?,
+        Some(Chunk { off, len }) => Ok(write!(text, "{off} {len}")?),
+        None => tell(text, "none"),
     }
-    Ok(())
 }
 
 fn tell_landing(landing: Landing, text: &mut String) -> Mem<()> {
-    match landing {
-        Landing::Landed => text.push_str("landed")?,
-        Landing::Held => text.push_str("held")?,
-        Landing::Late => text.push_str("late")?,
-    }
-    Ok(())
+    let told = match landing {
+        Landing::Landed => "landed",
+        Landing::Held => "held",
+        Landing::Late => "late",
+    };
+    tell(text, told)
 }
 
 fn tell_status(status: Option<JobStatus>, text: &mut String) -> Mem<()> {
-    let Some(status) = status else {
-        return tell(text, "gone");
-    };
-    write!(text, "{} ", status.landed)?;
-    match status.complete {
-        Some(complete) => write!(text, "{complete}")?,
-        None => text.push_str("running")?,
+    match status {
+        Some(
+            JobStatus {
+                landed,
+                complete,
+                ..
+            },
+        ) => {
+            tell_long(u128::from(landed), text)?;
+            tell_complete(complete, text)
+        }
+        None => tell(text, "gone"),
     }
-    Ok(())
+}
+
+fn tell_complete(complete: Option<Status>, text: &mut String) -> Mem<()> {
+    match complete {
+        Some(complete) => Ok(write!(text, " {complete}")?),
+        None => tell(text, " running"),
+    }
 }
 
 fn tell_next(next: Option<JobId>, text: &mut String) -> Mem<()> {
     match next {
-        Some(JobId { number, .. }) => write!(text, "{number}")?,
-        None => text.push_str("none")?,
+        Some(job) => tell_job("", job, text),
+        None => tell(text, "none"),
     }
-    Ok(())
 }
 
 fn tell_len(len: Option<u64>, text: &mut String) -> Mem<()> {
@@ -329,8 +360,7 @@ fn tell_len(len: Option<u64>, text: &mut String) -> Mem<()> {
 }
 
 fn tell_long(number: u128, text: &mut String) -> Mem<()> {
-    write!(text, "{number}")?;
-    Ok(())
+    Ok(write!(text, "{number}")?)
 }
 
 fn tell_where(holds: bool, text: &mut String, what: &str) -> Mem<()> {

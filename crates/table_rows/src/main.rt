@@ -42,8 +42,8 @@ impl Tally {
     }
 }
 
-/// Tries each line of standard input.
-fn try_lines(rt: &HostRuntime, tables: &mut Tables) -> io::Result<Tally> {
+/// Tries each line of standard input, and prints how many there were.
+fn try_lines(rt: &HostRuntime, tables: &mut Tables) -> io::Result<()> {
     let mut tally = Tally {
         lines: 0,
         others: 0,
@@ -51,7 +51,8 @@ fn try_lines(rt: &HostRuntime, tables: &mut Tables) -> io::Result<Tally> {
     for line in rt.lines(rt.alloc()) {
         try_line(rt, tables, line?.as_str(), &mut tally)?;
     }
-    Ok(tally)
+    let Tally { lines, others } = tally;
+    println!(rt; "{lines} lines, {others} answered otherwise")
 }
 
 /// Tries a line, where it isn't passed over.
@@ -63,24 +64,28 @@ fn try_line(
 ) -> io::Result<()> {
     if line.starts_with('#') {
         tables.turn(line);
-        return Ok(());
+        Ok(())
+    } else if line.is_empty() {
+        Ok(())
+    } else {
+        call(rt, tables, line, tally)
     }
-    if line.is_empty() {
-        return Ok(());
-    }
+}
+
+fn call(rt: &HostRuntime, tables: &mut Tables, line: &str, tally: &mut Tally) -> io::Result<()> {
     let mut text = String::new(rt.alloc());
     let is_met = tables.is_met(rt.alloc(), line, &mut text) == Ok(true);
     tally.count(is_met);
-    if !is_met {
-        println!(rt; "{line} BUT {text}")?;
+    if is_met {
+        Ok(())
+    } else {
+        println!(rt; "{line} BUT {text}")
     }
-    Ok(())
 }
 
 fn main(rt: HostRuntime) -> io::Result<()> {
-    let Ok(mut tables) = Tables::new(rt.alloc()) else {
-        return println!(rt; "out of memory");
-    };
-    let Tally { lines, others } = try_lines(&rt, &mut tables)?;
-    println!(rt; "{lines} lines, {others} answered otherwise")
+    match Tables::new(rt.alloc()) {
+        Ok(mut tables) => try_lines(&rt, &mut tables),
+        Err(_) => println!(rt; "out of memory"),
+    }
 }

@@ -1,6 +1,6 @@
 //! Opens, all of one client.
 
-use crate::fields::{tell, tell_flag, tell_number};
+use crate::fields::{tell, tell_flag, tell_number, tell_status};
 use nfs_base::StateId;
 use outcome::Mem;
 use row_text::{number, word};
@@ -45,8 +45,7 @@ fn tell_id(id: StateId, text: &mut String) -> Mem<()> {
         boot,
         number,
     } = id;
-    write!(text, "{seqid} {kind} {boot} {number}")?;
-    Ok(())
+    Ok(write!(text, "{seqid} {kind} {boot} {number}")?)
 }
 
 fn tell_opened(answer: Result<StateId, Full>, text: &mut String) -> Mem<()> {
@@ -81,13 +80,13 @@ fn check(opens: &Opens, words: &[&str], text: &mut String) -> Mem<()> {
     };
     match opens.check(&id(words), number(words, 5), need) {
         Ok(()) => tell(text, "0"),
-        Err(status) => tell_number(status.number, text),
+        Err(status) => tell_status(status, text),
     }
 }
 
 fn close(opens: &mut Opens, words: &[&str], text: &mut String) -> Mem<()> {
     match opens.close(&id(words), number(words, 5)) {
         Ok(id) => tell_id(id, text),
-        Err(status) => tell_number(status.number, text),
+        Err(status) => tell_status(status, text),
     }
 }

@@ -23,17 +23,31 @@ pub fn wanted(line: &str) -> &str {
 /// What the bytes of `NAME BYTES ..` spell: `from SECRET USER`, `to SECRET N USER` with the number of sources, `confirm CODE
 /// USER`, `unknown`, or `bad AT`. What was read is written again, to the same bytes.
 pub fn answer(alloc: Global, words: &[&str], text: &mut String) -> Mem<()> {
-    let (name, bytes) = (octets(alloc, words, 0)?, octets(alloc, words, 1)?);
+    let name = octets(alloc, words, 0)?;
+    let bytes = octets(alloc, words, 1)?;
     tell_read(alloc, name.as_slice(), bytes.as_slice(), text)
 }
 
 fn tell_read(alloc: Global, name: &[u8], bytes: &[u8], text: &mut String) -> Mem<()> {
     match read_privilege(alloc, name, bytes)? {
-        Ok(privilege) => {
-            let is_again = is_again(alloc, &privilege, name, bytes)?;
-            tell_privilege(is_again, &privilege, text)
-        }
+        Ok(privilege) => tell_again(alloc, &privilege, name, bytes, text),
         Err(fault) => tell_fault(fault, text),
+    }
+}
+
+fn tell_again(
+    alloc: Global,
+    privilege: &Privilege,
+    name: &[u8],
+    bytes: &[u8],
+    text: &mut String,
+) -> Mem<()>
+    requires { PrivilegeFits privilege.now }
+{
+    if is_again(alloc, privilege, name, bytes)? {
+        tell_privilege(privilege, text)
+    } else {
+        tell(text, "written otherwise")
     }
 }
 
@@ -47,42 +61,40 @@ fn is_again(alloc: Global, privilege: &Privilege, name: &[u8], bytes: &[u8]) -> 
 
 fn tell_fault(fault: PrivFault, text: &mut String) -> Mem<()> {
     match fault {
-        PrivFault::UnknownName => text.push_str("unknown")?,
-        PrivFault::BadXdr { at } => write!(text, "bad {at}")?,
+        PrivFault::UnknownName => tell(text, "unknown"),
+        PrivFault::BadXdr { at } => Ok(write!(text, "bad {at}")?),
     }
-    Ok(())
 }
 
-fn tell_privilege(is_again: bool, privilege: &Privilege, text: &mut String) -> Mem<()> {
-    if !is_again {
-        return tell(text, "written otherwise");
-    }
+fn tell_privilege(privilege: &Privilege, text: &mut String) -> Mem<()> {
     match privilege {
-        Privilege::From { secret, user, .. } => {
-            tell_bytes("from ", secret, text)?;
-            tell_bytes(" ", user, text)
-        }
+        Privilege::From { secret, user, .. } => tell_two("from ", secret, user, text),
         Privilege::To {
             secret,
             sources,
             user,
-        } => {
-            tell_bytes("to ", secret, text)?;
-            write!(text, " {}", sources.len())?;
-            tell_bytes(" ", user, text)
-        }
-        Privilege::Confirm { mic, user } => {
-            tell_bytes("confirm ", mic, text)?;
-            tell_bytes(" ", user, text)
-        }
+        } => tell_to(secret, sources.len(), user, text),
+        Privilege::Confirm { mic, user } => tell_two("confirm ", mic, user, text),
     }
+}
+
+fn tell_two(front: &str, first: &Octets, user: &Octets, text: &mut String) -> Mem<()> {
+    tell_bytes(front, first, text)?;
+    tell_bytes(" ", user, text)
+}
+
+fn tell_to(secret: &Octets, sources: usize, user: &Octets, text: &mut String) -> Mem<()> {
+    tell_bytes("to ", secret, text)?;
+    write!(text, " {sources}")?;
+    tell_bytes(" ", user, text)
 }
 
 /// Tells bytes in hex behind a text; `-` is none.
 fn tell_bytes(front: &str, bytes: &Octets, text: &mut String) -> Mem<()> {
-    text.push_str(front)?;
+    tell(text, front)?;
     if bytes.is_empty() {
-        return tell(text, "-");
+        tell(text, "-")
+    } else {
+        tell_hex(bytes.as_slice(), text)
     }
-    tell_hex(bytes.as_slice(), text)
 }

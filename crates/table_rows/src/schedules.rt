@@ -55,13 +55,8 @@ impl ScheduleLines {
 
 /// Adds a text with its newlines.
 fn push_lines(added: &str, lines: &mut String) -> Mem<()> {
-    let mut is_first = true;
-    for line in added.split(';') {
-        if !is_first {
-            lines.push('\n')?;
-        }
-        lines.push_str(line)?;
-        is_first = false;
+    for mark in added.chars() {
+        lines.push(if mark == ';' { '\n' } else { mark })?;
     }
     Ok(())
 }
@@ -81,18 +76,20 @@ fn tell_read(alloc: Global, kind: &str, lines: &str, text: &mut String) -> Mem<(
 }
 
 fn tell_bad(bad: BadLine, text: &mut String) -> Mem<()> {
-    write!(text, "{bad}")?;
-    Ok(())
+    Ok(write!(text, "{bad}")?)
 }
 
 fn tell_entries(kind: &str, entries: &[Entry], text: &mut String) -> Mem<()> {
     match kind {
-        "read" | "after" => write!(text, "entries {}", entries.len())?,
-        "given" => write!(text, "{entries:?}")?,
-        "left" => tell_left_open(entries, text)?,
-        _ => text.push_str("no such call")?,
+        "read" | "after" => Ok(write!(text, "entries {}", entries.len())?),
+        "given" => tell_given(entries, text),
+        "left" => tell_left_open(entries, text),
+        _ => tell(text, "no such call"),
     }
-    Ok(())
+}
+
+fn tell_given(entries: &[Entry], text: &mut String) -> Mem<()> {
+    Ok(write!(text, "{entries:?}")?)
 }
 
 fn tell_left_open(entries: &[Entry], text: &mut String) -> Mem<()> {
@@ -107,22 +104,16 @@ fn tell_left_open(entries: &[Entry], text: &mut String) -> Mem<()> {
 }
 
 fn tell_unfit(line: u64, text: &mut String) -> Mem<()> {
-    write!(text, "line {line} doesn't fit")?;
-    Ok(())
+    Ok(write!(text, "line {line} doesn't fit")?)
 }
 
 /// The context after a line, where it fits. A line of one event is asked event by event.
 fn next(context: Context, directive: &Directive) -> Option<Context> {
-    if let Directive::Once(event) = directive {
-        if context.admits(event) {
-            return Some(context.after(event));
-        }
-        return None;
-    }
-    if context.fits(directive) {
-        Some(context.after_directive(directive))
-    } else {
-        None
+    match directive {
+        Directive::Once(event) if context.admits(event) => Some(context.after(event)),
+        Directive::Once(_) => None,
+        _ if context.fits(directive) => Some(context.after_directive(directive)),
+        _ => None,
     }
 }
 
@@ -133,7 +124,11 @@ fn tell_context(context: &Context, text: &mut String) -> Mem<()> {
         "source {:?} dest {:?} writes {} events {}",
         context.source, context.dest, context.writes, context.events
     )?;
-    for (copy, is_begun) in context.begun.iter().enumerate() {
+    tell_begun(&context.begun, text)
+}
+
+fn tell_begun(begun: &[bool], text: &mut String) -> Mem<()> {
+    for (copy, is_begun) in begun.iter().enumerate() {
         if *is_begun {
             write!(text, " copy {copy}")?;
         }

@@ -1,6 +1,6 @@
 //! Clients and their sessions.
 
-use crate::fields::{long, tell, tell_flag, tell_number};
+use crate::fields::{long, tell, tell_flag, tell_status};
 use crate::slots::session_id;
 use outcome::Mem;
 use row_text::{number, word};
@@ -14,14 +14,13 @@ pub fn answer(sessions: &mut Sessions, words: &[&str], text: &mut String) -> Mem
     match word(words, 0) {
         "exchange" => exchange(sessions, words, text),
         "create" => create(sessions, words, text),
-        "destroy" => {
-            let status = sessions.destroy(&session_id(number(words, 1)));
-            tell_number(status.number, text)
-        }
-        "reclaim" => tell_number(sessions.reclaim(client).number, text),
+        "destroy" => tell_status(sessions.destroy(&session_id(number(words, 1))), text),
+        "reclaim" => tell_status(sessions.reclaim(client), text),
         "destroy_client" => {
-            let status = sessions.destroy_client(client, word(words, 2) == "holds");
-            tell_number(status.number, text)
+            tell_status(
+                sessions.destroy_client(client, word(words, 2) == "holds"),
+                text,
+            )
         }
         "lapsed" => tell_flag(sessions.lapsed(client, u64::from(number(words, 2))), text),
         "back" => tell_flag(sessions.back_of(number(words, 1)).is_some(), text),
@@ -45,11 +44,10 @@ fn exchange(sessions: &mut Sessions, words: &[&str], text: &mut String) -> Mem<(
 fn tell_exchanged(exchanged: &Exchanged, text: &mut String) -> Mem<()> {
     match exchanged {
         Exchanged::Client { id, ended, .. } => {
-            write!(text, "client {id} ended {}", ended.as_slice().len())?;
+            Ok(write!(text, "client {id} ended {}", ended.as_slice().len())?)
         }
-        Exchanged::Refused(why) => write!(text, "{why}")?,
+        Exchanged::Refused(why) => tell_status(*why, text),
     }
-    Ok(())
 }
 
 /// CREATE_SESSION that asks for a back channel where BACK is `back`: the session's number, whether a back channel was
@@ -71,8 +69,7 @@ fn tell_created(created: &Created, text: &mut String) -> Mem<()> {
             ended,
             asked,
             ..
-        } => write!(text, "session {} asked {asked} ended {ended:?}", session[7])?,
-        Created::Refused(why) => write!(text, "{why}")?,
+        } => Ok(write!(text, "session {} asked {asked} ended {ended:?}", session[7])?),
+        Created::Refused(why) => tell_status(*why, text),
     }
-    Ok(())
 }

@@ -38,8 +38,7 @@ fn kept(alloc: Global, word: &str) -> Mem<Option<Kept>> {
 }
 
 fn tell_begin(begin: Begin, text: &mut String) -> Mem<()> {
-    write!(text, "{begin:?}")?;
-    Ok(())
+    Ok(write!(text, "{begin:?}")?)
 }
 
 /// The ID of a session of boot 2.
@@ -51,7 +50,8 @@ pub fn session_id(number: u32) -> [u8; 16] {
 /// `begin SESSION SLOT NUMBER ROOT SECOND REPLY`: what a call is. One that is new is finished with this reply at this
 /// second; a repeated one is answered with the reply that is kept, and its client.
 pub fn begin(alloc: Global, sessions: &mut Sessions, words: &[&str], text: &mut String) -> Mem<()> {
-    let (session, root) = (session_id(number(words, 1)), number(words, 4));
+    let session = session_id(number(words, 1));
+    let root = number(words, 4);
     match sessions.begin(&session, number(words, 2), number(words, 3), root) {
         Begin::New(place) => finish(alloc, sessions, place, words, text),
         Begin::Replay(place) => tell_kept(sessions, place, text),
@@ -73,7 +73,8 @@ fn finish(
     if reply.len() > 64 {
         return tell(text, "a long reply");
     }
-    let (root, now) = (number(words, 4), u64::from(number(words, 5)));
+    let root = number(words, 4);
+    let now = u64::from(number(words, 5));
     sessions.finish(place, root, Octets::from_vec(reply), now);
     tell(text, "new")
 }
@@ -83,8 +84,7 @@ fn tell_kept(sessions: &Sessions, place: Place, text: &mut String) -> Mem<()>
     requires slot { place.slot < SLOTS }
     requires kept { IsSome (reply_at sessions.now place) }
 {
-    text.push_str("kept ")?;
+    tell(text, "kept ")?;
     tell_hex(sessions.kept(place), text)?;
-    write!(text, " of {}", sessions.client_of(place))?;
-    Ok(())
+    Ok(write!(text, " of {}", sessions.client_of(place))?)
 }

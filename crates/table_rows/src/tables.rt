@@ -55,13 +55,16 @@ impl Tables {
     /// Whether the answer of a line, which is told, is that of the call.
     pub fn is_met(&mut self, alloc: Global, line: &str, text: &mut String) -> Mem<bool> {
         let (call, wanted) = self.parts(line);
-        if let Table::Schedules = self.now {
-            self.schedules.answer(alloc, call, text)?;
-        } else {
-            let words = words(alloc, call)?;
-            self.answer(alloc, words.as_slice(), text)?;
-        }
+        self.call(alloc, call, text)?;
         Ok(text.as_str() == wanted)
+    }
+
+    fn call(&mut self, alloc: Global, call: &str, text: &mut String) -> Mem<()> {
+        if let Table::Schedules = self.now {
+            return self.schedules.answer(alloc, call, text);
+        }
+        let words = words(alloc, call)?;
+        self.answer(alloc, words.as_slice(), text)
     }
 
     /// The call of a line, and its answer, which is empty where there is none.

@@ -1,7 +1,7 @@
 //! Draws: by count, and from memory.
 
 use crate::failing::failing;
-use crate::told::tell_hex;
+use crate::told::{tell, tell_hex};
 use outcome::Mem;
 use std::alloc::Global;
 use std::fmt::Write;
@@ -18,18 +18,16 @@ fn drawn<W: Draws>(draws: &mut W, times: u32, text: &mut String) -> Mem<()> {
 fn tell_drawn(drawn: Drawn, text: &mut String) -> Mem<()> {
     match drawn {
         Drawn::Got(bytes) => tell_hex(text, &bytes)?,
-        Drawn::Failed => text.push_str("failed")?,
+        Drawn::Failed => tell(text, "failed")?,
     }
-    text.push_str("; ")?;
-    Ok(())
+    tell(text, "; ")
 }
 
 /// The digests of a counter.
 pub fn digests(times: u32, text: &mut String) -> Mem<()> {
     let mut draws = CountDraws::new();
     drawn(&mut draws, times, text)?;
-    write!(text, "count {}", draws.count())?;
-    Ok(())
+    Ok(write!(text, "count {}", draws.count())?)
 }
 
 /// Draws from two that lie ready, ones and twos, where the call with a number fails.
@@ -41,6 +39,6 @@ pub fn in_memory(alloc: Global, fails: u32, times: u32, text: &mut String) -> Me
 }
 
 fn tell_draws(draws: &MemDraws, text: &mut String) -> Mem<()> {
-    write!(text, "calls {} left {}", draws.calls(), draws.left().len())?;
-    Ok(())
+    let (calls, left) = (draws.calls(), draws.left().len());
+    Ok(write!(text, "calls {calls} left {left}")?)
 }

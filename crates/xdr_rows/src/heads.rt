@@ -1,19 +1,18 @@
 //! Heads of messages.
 
-use crate::told::Fronts;
+use crate::told::{Fronts, tell};
 use outcome::Mem;
-use rpc_msg::{CallHead, ReplyHead, RpcFault, read_call, read_gss_cred, read_reply};
+use rpc_msg::{CallHead, GssCred, ReplyHead, RpcFault, read_call, read_gss_cred, read_reply};
 use std::alloc::Global;
 use std::fmt::Write;
 use wire_xdr::BadXdr;
 
 fn tell_fault(fault: Option<RpcFault>, text: &mut String) -> Mem<()> {
     match fault {
-        None => text.push_str("read")?,
-        Some(RpcFault::BadXdr { at }) => write!(text, "refused {at}")?,
-        Some(RpcFault::OtherKind { found }) => write!(text, "other {found}")?,
+        None => tell(text, "read"),
+        Some(RpcFault::BadXdr { at }) => Ok(write!(text, "refused {at}")?),
+        Some(RpcFault::OtherKind { found }) => Ok(write!(text, "other {found}")?),
     }
-    Ok(())
 }
 
 /// How each front is read as a call and as a reply: each pair of answers that is another one than the one before, with
@@ -21,18 +20,21 @@ fn tell_fault(fault: Option<RpcFault>, text: &mut String) -> Mem<()> {
 pub fn fronts(alloc: Global, bytes: &[u8], text: &mut String) -> Mem<()> {
     let mut fronts = Fronts::new(alloc);
     for len in 0..=bytes.len() {
-        let told = told_front(alloc, &bytes[..len])?;
-        fronts.tell(text, len, told)?;
+        front(alloc, &bytes[..len], &mut fronts, text)?;
     }
     Ok(())
 }
 
-fn told_front(alloc: Global, bytes: &[u8]) -> Mem<String> {
+fn front(alloc: Global, bytes: &[u8], fronts: &mut Fronts, text: &mut String) -> Mem<()> {
     let mut told = String::new(alloc);
-    tell_fault(call_fault(alloc, bytes)?, &mut told)?;
-    told.push_str(", ")?;
-    tell_fault(reply_fault(alloc, bytes)?, &mut told)?;
-    Ok(told)
+    tell_faults(alloc, bytes, &mut told)?;
+    fronts.tell(text, bytes.len(), &told)
+}
+
+fn tell_faults(alloc: Global, bytes: &[u8], told: &mut String) -> Mem<()> {
+    tell_fault(call_fault(alloc, bytes)?, told)?;
+    tell(told, ", ")?;
+    tell_fault(reply_fault(alloc, bytes)?, told)
 }
 
 fn call_fault(alloc: Global, bytes: &[u8]) -> Mem<Option<RpcFault>> {
@@ -57,8 +59,7 @@ fn tell_call(head: &CallHead, body: usize, text: &mut String) -> Mem<()> {
         text,
     )?;
     tell_numbers(&[head.cred.flavor, head.verf.flavor], text)?;
-    write!(text, "body {body}")?;
-    Ok(())
+    Ok(write!(text, "body {body}")?)
 }
 
 fn tell_numbers(numbers: &[u32], text: &mut String) -> Mem<()> {
@@ -79,21 +80,23 @@ pub fn reply(alloc: Global, bytes: &[u8], text: &mut String) -> Mem<()> {
 fn tell_reply(head: &ReplyHead, body: usize, text: &mut String) -> Mem<()> {
     match head {
         ReplyHead::Accepted { xid, verf, stat } => {
-            write!(text, "{xid} {} {stat:?} body {body}", verf.flavor)?;
+            let flavor = verf.flavor;
+            Ok(write!(text, "{xid} {flavor} {stat:?} body {body}")?)
         }
-        ReplyHead::Denied { xid, why } => write!(text, "{xid} {why:?} body {body}")?,
+        ReplyHead::Denied { xid, why } => Ok(write!(text, "{xid} {why:?} body {body}")?),
     }
-    Ok(())
 }
 
 /// A credential of RPCSEC_GSS, which is all of the bytes.
 pub fn cred(alloc: Global, bytes: &[u8], text: &mut String) -> Mem<()> {
     match read_gss_cred(alloc, bytes)? {
-        Ok(cred) => {
-            let words = (cred.version, cred.gss_proc, cred.seq_num, cred.service);
-            write!(text, "{words:?} {}", cred.handle.len())?;
-        }
-        Err(BadXdr { at }) => write!(text, "refused {at}")?,
+        Ok(cred) => tell_cred(&cred, text),
+        Err(BadXdr { at }) => Ok(write!(text, "refused {at}")?),
     }
-    Ok(())
+}
+
+fn tell_cred(cred: &GssCred, text: &mut String) -> Mem<()> {
+    let words = (cred.version, cred.gss_proc, cred.seq_num, cred.service);
+    let len = cred.handle.len();
+    Ok(write!(text, "{words:?} {len}")?)
 }

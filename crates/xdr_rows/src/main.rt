@@ -57,36 +57,30 @@ fn of_streams(alloc: Global, words: &[&str], text: &mut String) -> Mem<()> {
 
 /// Calls of records, heads and links, and behind them those of XDR.
 fn of_records(alloc: Global, words: &[&str], text: &mut String) -> Mem<()> {
-    let first = number(words, 1);
     match word(words, 0) {
-        "mark" => records::mark_of(first, text),
+        "mark" => records::mark_of(number(words, 1), text),
         "pump" => pump::pump(alloc, words, text),
         "watch" => watched::watch(alloc, words, text),
-        "feed" => fed(alloc, first, words, text),
-        "cuts" | "fronts" | "call" | "reply" | "cred" => read(alloc, words, text),
-        kind => xdr::read(alloc, kind, words, text),
+        "feed" | "request" | "opaque" | "flag" | "word" => read(alloc, words, 2, text),
+        _ => read(alloc, words, 1, text),
     }
 }
 
-/// `feed SIZE BYTES`.
-fn fed(alloc: Global, size: u32, words: &[&str], text: &mut String) -> Mem<()> {
-    let bytes = bytes(alloc, words, 2)?;
-    records::feed(alloc, size, &bytes, text)
+/// `KIND BYTES`, or `KIND NUMBER BYTES`.
+fn read(alloc: Global, words: &[&str], at: usize, text: &mut String) -> Mem<()> {
+    let bytes = bytes(alloc, words, at)?;
+    read_as(alloc, word(words, 0), number(words, 1), &bytes, text)
 }
 
-/// `KIND BYTES`.
-fn read(alloc: Global, words: &[&str], text: &mut String) -> Mem<()> {
-    let bytes = bytes(alloc, words, 1)?;
-    read_as(alloc, word(words, 0), &bytes, text)
-}
-
-fn read_as(alloc: Global, kind: &str, bytes: &[u8], text: &mut String) -> Mem<()> {
+fn read_as(alloc: Global, kind: &str, number: u32, bytes: &[u8], text: &mut String) -> Mem<()> {
     match kind {
+        "feed" => records::feed(alloc, number, bytes, text),
         "cuts" => records::cuts(alloc, bytes, text),
         "fronts" => heads::fronts(alloc, bytes, text),
         "call" => heads::call(alloc, bytes, text),
         "reply" => heads::reply(alloc, bytes, text),
-        _ => heads::cred(alloc, bytes, text),
+        "cred" => heads::cred(alloc, bytes, text),
+        _ => xdr::tell(alloc, kind, number, bytes, text),
     }
 }
 

@@ -31,8 +31,12 @@ impl Handler for Nine {
 /// number is the greatest: how it ended, how many records are left, and what was put.
 pub fn pump(alloc: Global, words: &[&str], text: &mut String) -> Mem<()> {
     let mut source = source(alloc, words)?;
+    pump_from(alloc, words, &mut source, text)
+}
+
+fn pump_from(alloc: Global, words: &[&str], source: &mut CutLink, text: &mut String) -> Mem<()> {
     let mut sink = failing_sink(alloc, number(words, 5))?;
-    tell_pumped(alloc, words, (&mut source, &mut sink), text)?;
+    tell_pumped(alloc, words, (source, &mut sink), text)?;
     tell_record(text, sink.bytes())
 }
 
@@ -49,8 +53,7 @@ fn tell_pumped(
 ) -> Mem<()> {
     let mut left = u64::from(number(words, 3));
     let pumped = pumped(alloc, ends, budget(words), &mut left)?;
-    write!(text, "{pumped:?} left {left} put ")?;
-    Ok(())
+    Ok(write!(text, "{pumped:?} left {left} put ")?)
 }
 
 fn budget(words: &[&str]) -> u64 {

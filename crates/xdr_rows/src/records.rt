@@ -1,6 +1,6 @@
 //! Records that are put together from pieces.
 
-use crate::told::{Fronts, tell_record};
+use crate::told::{Fronts, tell, tell_record};
 use outcome::Mem;
 use rpc_msg::{Fed, RECORD_LIMIT, RecordFeed, mark};
 use std::alloc::Global;
@@ -15,8 +15,7 @@ pub fn feed(alloc: Global, size: u32, bytes: &[u8], text: &mut String) -> Mem<()
 }
 
 fn tell_times(times: u32, (count, fed): (usize, Fed), text: &mut String) -> Mem<()> {
-    write!(text, "{times} pieces, then {count} {fed:?}")?;
-    Ok(())
+    Ok(write!(text, "{times} pieces, then {count} {fed:?}")?)
 }
 
 fn feed_pieces(feed: &mut RecordFeed, size: u32, bytes: &[u8], text: &mut String) -> Mem<u32> {
@@ -35,12 +34,13 @@ fn feed_pieces(feed: &mut RecordFeed, size: u32, bytes: &[u8], text: &mut String
 
 /// Tells what a feed answered, with the record that ended.
 fn tell_fed(feed: &RecordFeed, told: (usize, Fed), text: &mut String) -> Mem<()> {
-    write!(text, "{} {:?}; ", told.0, told.1)?;
-    if told.1 == Fed::Whole {
-        tell_record(text, feed.record())?;
-        text.push_str("; ")?;
+    let (count, fed) = told;
+    write!(text, "{count} {fed:?}; ")?;
+    if fed != Fed::Whole {
+        return Ok(());
     }
-    Ok(())
+    tell_record(text, feed.record())?;
+    tell(text, "; ")
 }
 
 /// Gives a feed all of a piece, and tells the records that end in it.
@@ -64,7 +64,7 @@ pub fn cuts(alloc: Global, bytes: &[u8], text: &mut String) -> Mem<()> {
     for cut in 0..=bytes.len() {
         let mut told = String::new(alloc);
         tell_cut(alloc, bytes.split_at(cut), &mut told)?;
-        fronts.tell(text, cut, told)?;
+        fronts.tell(text, cut, &told)?;
     }
     Ok(())
 }
@@ -77,15 +77,13 @@ fn tell_cut(alloc: Global, (first, second): (&[u8], &[u8]), told: &mut String) -
 }
 
 fn tell_last(fed: Fed, told: &mut String) -> Mem<()> {
-    write!(told, " {fed:?}")?;
-    Ok(())
+    Ok(write!(told, " {fed:?}")?)
 }
 
 /// The header of a record of so many bytes in one fragment.
 pub fn mark_of(len: u32, text: &mut String) -> Mem<()> {
     if len > RECORD_LIMIT {
-        text.push_str("past the limit")?;
-        return Ok(());
+        return tell(text, "past the limit");
     }
     tell_record(text, &mark(len))
 }

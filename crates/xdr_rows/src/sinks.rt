@@ -1,6 +1,7 @@
 //! Sinks in memory, and writers as sinks.
 
 use crate::failing::failing_sink;
+use crate::told::tell;
 use outcome::Mem;
 use row_text::number;
 use std::alloc::Global;
@@ -12,26 +13,28 @@ use streams::{MemSink, Sink, Writing, put_all};
 /// end, and one that begins with `-` once.
 fn puts<K: Sink>(sink: &mut K, words: &[&str], from: usize, text: &mut String) -> Mem<()> {
     for word in words.iter().skip(from) {
-        match word.strip_prefix('+') {
-            Some(piece) => put_whole(sink, piece.as_bytes(), text)?,
-            None => put_once(sink, word.strip_prefix('-').unwrap_or("").as_bytes(), text)?,
-        }
+        put_word(sink, word, text)?;
     }
     Ok(())
+}
+
+fn put_word<K: Sink>(sink: &mut K, word: &str, text: &mut String) -> Mem<()> {
+    match word.strip_prefix('+') {
+        Some(piece) => put_whole(sink, piece.as_bytes(), text),
+        None => put_once(sink, word.strip_prefix('-').unwrap_or("").as_bytes(), text),
+    }
 }
 
 fn put_whole<K: Sink>(sink: &mut K, piece: &[u8], text: &mut String) -> Mem<()> {
     match put_all(sink, piece) {
-        Ok(()) => text.push_str("all; ")?,
-        Err(_) => text.push_str("fault; ")?,
+        Ok(()) => tell(text, "all; "),
+        Err(_) => tell(text, "fault; "),
     }
-    Ok(())
 }
 
 fn put_once<K: Sink>(sink: &mut K, piece: &[u8], text: &mut String) -> Mem<()> {
     let put = sink.put(piece);
-    write!(text, "{put:?}; ")?;
-    Ok(())
+    Ok(write!(text, "{put:?}; ")?)
 }
 
 /// `sink FAILS PUT..`: the puts, the bytes that came in, the number of calls, and how often memory was wanted.
@@ -43,8 +46,8 @@ pub fn sink(alloc: Global, words: &[&str], text: &mut String) -> Mem<()> {
 
 fn tell_sink(sink: &MemSink, text: &mut String) -> Mem<()> {
     tell_letters(sink.bytes(), text)?;
-    write!(text, " calls {} starved {}", sink.calls(), sink.starved())?;
-    Ok(())
+    let (calls, starved) = (sink.calls(), sink.starved());
+    Ok(write!(text, " calls {calls} starved {starved}")?)
 }
 
 fn tell_letters(bytes: &[u8], text: &mut String) -> Mem<()> {
@@ -64,6 +67,5 @@ pub fn writer(words: &[&str], text: &mut String) -> Mem<()> {
 }
 
 fn tell_place(faults: u64, at: u64, text: &mut String) -> Mem<()> {
-    write!(text, "faults {faults} at {at}")?;
-    Ok(())
+    Ok(write!(text, "faults {faults} at {at}")?)
 }

@@ -1,6 +1,7 @@
 //! Sources in memory, and readers as sources.
 
 use crate::failing::failing_source;
+use crate::told::tell;
 use outcome::Mem;
 use row_text::{bytes, number, word};
 use std::alloc::Global;
@@ -20,20 +21,18 @@ fn taken<S: Source>(source: &mut S, times: u32, text: &mut String) -> Mem<()> {
 
 fn tell_take(take: Take, room: &[u8; 4], text: &mut String) -> Mem<()> {
     match take {
-        Take::Took(count) => tell_bytes(room, count, text)?,
-        Take::End => text.push_str("end")?,
-        Take::Failed => text.push_str("failed")?,
+        Take::Took(count) => tell_bytes(room, count, text),
+        Take::End => tell(text, "end; "),
+        Take::Failed => tell(text, "failed; "),
     }
-    text.push_str("; ")?;
-    Ok(())
 }
 
 fn tell_bytes(room: &[u8; 4], count: usize, text: &mut String) -> Mem<()> {
-    text.push_str("took")?;
+    tell(text, "took")?;
     for byte in room.iter().take(count) {
         write!(text, " {byte}")?;
     }
-    Ok(())
+    tell(text, "; ")
 }
 
 /// A source of the bytes of the words from the third on, of which the call with a number fails.
@@ -52,8 +51,7 @@ pub fn takes(alloc: Global, words: &[&str], text: &mut String) -> Mem<()> {
 fn tell_rest(source: &mut MemSource, text: &mut String) -> Mem<()> {
     let (left, calls) = (source.bytes().len(), source.calls());
     let none = source.take(&mut []);
-    write!(text, "left {left} calls {calls} {none:?}")?;
-    Ok(())
+    Ok(write!(text, "left {left} calls {calls} {none:?}")?)
 }
 
 /// `reads TIMES FIRST SECOND`: a reader of two pieces as a source, and its faults.
@@ -61,8 +59,7 @@ pub fn reads(words: &[&str], text: &mut String) -> Mem<()> {
     let (first, second) = (word(words, 2).as_bytes(), word(words, 3).as_bytes());
     let mut source = Reading::new(first.chain(second));
     taken(&mut source, number(words, 1), text)?;
-    write!(text, "faults {}", source.faults())?;
-    Ok(())
+    Ok(write!(text, "faults {}", source.faults())?)
 }
 
 /// A reader that is interrupted so many times, and then is at its end.
@@ -88,16 +85,14 @@ pub fn interrupted(interruptions: u32, times: u32, text: &mut String) -> Mem<()>
     });
     taken(&mut source, times, text)?;
     let faults = source.faults();
-    write!(text, "faults {faults} left {}", source.into_inner().times)?;
-    Ok(())
+    Ok(write!(text, "faults {faults} left {}", source.into_inner().times)?)
 }
 
 /// `whole LIMIT FAILS BYTES`: how a whole text is read.
 pub fn whole(alloc: Global, words: &[&str], text: &mut String) -> Mem<()> {
     let wanted = bytes(alloc, words, 3)?;
     let whole = read(alloc, words)?;
-    text.push_str(whole_word(&whole, &wanted))?;
-    Ok(())
+    tell(text, whole_word(&whole, &wanted))
 }
 
 fn read(alloc: Global, words: &[&str]) -> Mem<Whole> {

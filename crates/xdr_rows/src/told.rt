@@ -5,6 +5,11 @@ use std::fmt::Write;
 use std::io;
 use wire_xdr::Octets;
 
+/// Tells a text.
+pub fn tell(text: &mut String, what: &str) -> Mem<()> {
+    Ok(text.push_str(what)?)
+}
+
 /// Tells bytes in hex.
 pub fn tell_hex(text: &mut String, bytes: &[u8]) -> Mem<()> {
     for byte in bytes {
@@ -15,14 +20,12 @@ pub fn tell_hex(text: &mut String, bytes: &[u8]) -> Mem<()> {
 
 /// Tells a record: its bytes where they are few, and else how many there are.
 pub fn tell_record(text: &mut String, record_: &[u8]) -> Mem<()> {
-    text.push_str("[")?;
     if record_.len() > 64 {
-        write!(text, "{} bytes", record_.len())?;
-    } else {
-        tell_hex(text, record_)?;
+        return Ok(write!(text, "[{} bytes]", record_.len())?);
     }
-    text.push_str("]")?;
-    Ok(())
+    tell(text, "[")?;
+    tell_hex(text, record_)?;
+    tell(text, "]")
 }
 
 /// Prints bytes in hex.
@@ -50,11 +53,12 @@ impl Fronts {
     }
 
     /// Tells the answer of a front, where it is another one.
-    pub fn tell(&mut self, text: &mut String, len: usize, answer: String) -> Mem<()> {
-        if answer.as_str() != self.last.as_str() {
-            write!(text, "{len}: {answer}; ")?;
-            self.last = answer;
+    pub fn tell(&mut self, text: &mut String, len: usize, answer: &str) -> Mem<()> {
+        if answer == self.last.as_str() {
+            return Ok(());
         }
-        Ok(())
+        write!(text, "{len}: {answer}; ")?;
+        self.last.clear();
+        tell(&mut self.last, answer)
     }
 }

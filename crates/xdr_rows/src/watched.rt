@@ -1,7 +1,7 @@
 //! Watched links.
 
 use crate::cut_link::{CutLink, cut_link};
-use crate::told::tell_record;
+use crate::told::{tell, tell_record};
 use outcome::Mem;
 use row_text::{bytes, number};
 use rpc_msg::{Down, Got, RecordFeed, Sink, Watched};
@@ -15,7 +15,7 @@ fn next(watched: &mut Watched<CutLink>, text: &mut String) -> Mem<Got> {
         Got::Whole => tell_record(text, watched.record())?,
         Got::Down => tell_down(watched.down(), text)?,
     }
-    text.push_str("; ")?;
+    tell(text, "; ")?;
     Ok(got)
 }
 
@@ -23,11 +23,10 @@ fn tell_down(down: Option<Down>, text: &mut String) -> Mem<()> {
     match down {
         Some(down) => {
             let (faults, ended, large) = (down.faults(), down.ended(), down.large());
-            write!(text, "down {faults} {ended} {large}")?;
+            Ok(write!(text, "down {faults} {ended} {large}")?)
         }
-        None => text.push_str("down and up")?,
+        None => tell(text, "down and up"),
     }
-    Ok(())
 }
 
 /// `watch MOST READ PUT PUTS BYTES`, of a link that gives at most so many bytes at a time and whose calls with the
@@ -68,6 +67,5 @@ fn tell_end(mut watched: Watched<CutLink>, text: &mut String) -> Mem<()> {
 }
 
 fn tell_counts(sent: u64, came: usize, calls: u64, text: &mut String) -> Mem<()> {
-    write!(text, "sent {sent} {came} takes {calls}")?;
-    Ok(())
+    Ok(write!(text, "sent {sent} {came} takes {calls}")?)
 }

@@ -9,22 +9,13 @@ mod readings;
 mod sample;
 pub mod words;
 
+use crate::told;
 use crate::xdr::sample::{File, Folder, Label, Outcome};
 use outcome::Mem;
-use row_text::{bytes, number};
 use std::alloc::Global;
 
-/// What bytes are read as, `KIND BYTES`, and by a number or with a limit `KIND NUMBER BYTES`.
-pub fn read(alloc: Global, kind: &str, words: &[&str], text: &mut String) -> Mem<()> {
-    let at = match kind {
-        "request" | "opaque" | "flag" | "word" => 2,
-        _ => 1,
-    };
-    let bytes = bytes(alloc, words, at)?;
-    tell(alloc, (kind, number(words, 1)), &bytes, text)
-}
-
-fn tell(alloc: Global, (kind, number): (&str, u32), bytes: &[u8], text: &mut String) -> Mem<()> {
+/// What bytes are read as, some of them by a number or with a limit.
+pub fn tell(alloc: Global, kind: &str, number: u32, bytes: &[u8], text: &mut String) -> Mem<()> {
     match kind {
         "file" => readings::told::<File>(alloc, bytes, text),
         "folder" => readings::told::<Folder>(alloc, bytes, text),
@@ -36,9 +27,6 @@ fn tell(alloc: Global, (kind, number): (&str, u32), bytes: &[u8], text: &mut Str
         "all_word" => readings::all::<u32>(alloc, bytes, text),
         "words" => words::read(bytes, text),
         "opaque" | "flag" | "word" => words::fault(kind, number, bytes, text),
-        _ => {
-            text.push_str("no such call")?;
-            Ok(())
-        }
+        _ => told::tell(text, "no such call"),
     }
 }

@@ -1,6 +1,6 @@
 //! Values that are read, and written again.
 
-use crate::told::tell_hex;
+use crate::told::{tell, tell_hex};
 use crate::xdr::sample::{File, Request};
 use outcome::Mem;
 use std::alloc::Global;
@@ -13,15 +13,13 @@ use wire_xdr::{
 /// Tells how many bytes were passed, where they are the ones that were written.
 fn tell_again(passed: Option<&[u8]>, written: &[u8], text: &mut String) -> Mem<()> {
     match passed {
-        Some(front) if front == written => write!(text, "{}", front.len())?,
-        _ => text.push_str("written otherwise")?,
+        Some(front) if front == written => Ok(write!(text, "{}", front.len())?),
+        _ => tell(text, "written otherwise"),
     }
-    Ok(())
 }
 
 fn tell_refused(bad: BadXdr, from: usize, text: &mut String) -> Mem<()> {
-    write!(text, "refused {} from {from}", bad.at)?;
-    Ok(())
+    Ok(write!(text, "refused {} from {from}", bad.at)?)
 }
 
 /// What the bytes begin with, or the place that is refused; the reader then stands at the front.
@@ -38,34 +36,32 @@ fn tell_value<T: Xdr>(alloc: Global, value: &T, passed: Option<&[u8]>, text: &mu
 {
     let mut writer = Writer::new(alloc)?;
     write(alloc, &mut writer, value)?;
-    text.push_str("read ")?;
+    tell(text, "read ")?;
     tell_again(passed, writer.as_slice(), text)
 }
 
 /// What all of the bytes are.
 pub fn all<T: Xdr>(alloc: Global, bytes: &[u8], text: &mut String) -> Mem<()> {
     match read_all::<T>(alloc, bytes)? {
-        Ok(value) => tell_all(alloc, &value, bytes, text)?,
-        Err(BadXdr { at }) => write!(text, "refused {at}")?,
+        Ok(value) => tell_all(alloc, &value, bytes, text),
+        Err(BadXdr { at }) => Ok(write!(text, "refused {at}")?),
     }
-    Ok(())
 }
 
 fn tell_all<T: Xdr>(alloc: Global, value: &T, bytes: &[u8], text: &mut String) -> Mem<()>
     requires { T.form.Fits value.now }
 {
     let written = write_all(alloc, value)?;
-    text.push_str("all ")?;
+    tell(text, "all ")?;
     tell_again(Some(bytes), written.as_slice(), text)
 }
 
 /// The owner of a file, in hex.
 pub fn owner(alloc: Global, bytes: &[u8], text: &mut String) -> Mem<()> {
     match read_all::<File>(alloc, bytes)? {
-        Ok(file) => tell_hex(text, file.owner.as_slice())?,
-        Err(_) => text.push_str("none")?,
+        Ok(file) => tell_hex(text, file.owner.as_slice()),
+        Err(_) => tell(text, "none"),
     }
-    Ok(())
 }
 
 /// A request by its number; behind it four values more are written.
@@ -82,10 +78,9 @@ pub fn request(alloc: Global, number: u32, bytes: &[u8], text: &mut String) -> M
 
 fn tell_kind(request: &Request, text: &mut String) -> Mem<()> {
     match request {
-        Request::Store(_) => text.push_str("store ")?,
-        Request::List { id, at_most } => write!(text, "list {id} {at_most} ")?,
+        Request::Store(_) => tell(text, "store "),
+        Request::List { id, at_most } => Ok(write!(text, "list {id} {at_most} ")?),
     }
-    Ok(())
 }
 
 fn tell_by<T: XdrBy>(alloc: Global, value: &T, passed: Option<&[u8]>, text: &mut String) -> Mem<()>
@@ -99,6 +94,5 @@ fn tell_by<T: XdrBy>(alloc: Global, value: &T, passed: Option<&[u8]>, text: &mut
 
 fn tell_four(writer: &mut Writer, text: &mut String) -> Mem<()> {
     put_four(writer, &1u32, &2u64, &true, &[0u8; 3])?;
-    write!(text, ", then {}", writer.as_slice().len())?;
-    Ok(())
+    Ok(write!(text, ", then {}", writer.as_slice().len())?)
 }

@@ -23,11 +23,10 @@ fn fields(bytes: &[u8]) -> Result<(u64, i64, bool, usize, u32, usize), XdrFault>
 pub fn read(bytes: &[u8], text: &mut String) -> Mem<()> {
     match fields(bytes) {
         Ok((number, signed, flag, fixed, count, left)) => {
-            write!(text, "{number} {signed} {flag} {fixed} {count} left {left}")?;
+            Ok(write!(text, "{number} {signed} {flag} {fixed} {count} left {left}")?)
         }
-        Err(fault) => write!(text, "{fault:?}")?,
+        Err(fault) => Ok(write!(text, "{fault:?}")?),
     }
-    Ok(())
 }
 
 /// The fault of a word of a kind, and where the reader then stands: at the front, where it stood.
@@ -38,8 +37,7 @@ pub fn fault(kind: &str, limit: u32, bytes: &[u8], text: &mut String) -> Mem<()>
         "flag" => reader.flag().err(),
         _ => reader.u32().err(),
     };
-    write!(text, "{fault:?} at {}", reader.at())?;
-    Ok(())
+    Ok(write!(text, "{fault:?} at {}", reader.at())?)
 }
 
 fn written(alloc: Global) -> Mem<Octets> {
