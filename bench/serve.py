@@ -9,7 +9,7 @@ other, and the fastest run of each counts.
 
 import sys
 
-from programs import built, timed
+from programs import layer_bench, timed
 
 SIZE = 65_536
 TIMES = 2048
@@ -17,21 +17,21 @@ ROUNDS = 5
 WORKS = ("write", "read", "grant")
 
 
-def seconds_of(program, word):
-    """Seconds that the program takes."""
-    ran = timed([program, str(TIMES), word])
+def seconds_of(serve, word):
+    """Seconds that the bench takes."""
+    ran = timed([*serve, str(TIMES), word])
     if ran.printed != f"{word} {TIMES}\n".encode():
         sys.exit(f"{word}: {ran.printed!r}")
     return ran.seconds
 
 
 def main():
-    program = built("serve_bench")
+    serve = layer_bench("serve")
     words = ["hash"] + [word for work in (*WORKS, "sequence") for word in (work, f"{work}_made")]
     best = dict.fromkeys(words, float("inf"))
     for _ in range(ROUNDS):
         for word in words:
-            best[word] = min(best[word], seconds_of(program, word))
+            best[word] = min(best[word], seconds_of(serve, word))
     served = {work: best[work] - best[f"{work}_made"] for work in (*WORKS, "sequence")}
     print(f"{'':>8} {'B/s':>15} {'ratio':>7}")
     print(f"{'hash':>8} {TIMES * SIZE / best['hash']:15,.0f} {1:7.3f}")

@@ -1,10 +1,11 @@
-//! Benches that `bench/*.py` time, one a layer. The first word names one: `feed`, `seal` or `volume`. The words behind it
+//! Benches that `bench/*.py` time, one a layer. The first word names one: `feed`, `seal`, `serve` or `volume`. The words behind it
 //! are the bench's own, as its module says. `all` alone is a small case of each.
 #![tactic(auto)]
 
 mod feed;
 mod hashing;
 mod seal;
+mod serve;
 mod volume;
 mod words;
 
@@ -16,6 +17,7 @@ fn bench(rt: &HostRuntime, name: &str, words: &[&str]) -> Result<()> {
     match name {
         "feed" => feed::run(rt, words),
         "seal" => seal::run(rt, words),
+        "serve" => serve::run(rt, words),
         "volume" => volume::run(rt, words),
         _ => bail!("no bench has this name"),
     }
@@ -25,6 +27,11 @@ fn bench(rt: &HostRuntime, name: &str, words: &[&str]) -> Result<()> {
 fn all(rt: &HostRuntime) -> Result<()> {
     bench(rt, "feed", &["feed", "3", "1000"])?;
     bench(rt, "seal", &["3", "serve", "check", "hash"])?;
+    bench(
+        rt,
+        "serve",
+        &["3", "write", "read", "grant", "sequence", "hash"],
+    )?;
     bench(rt, "volume", &["all", "1", "2"])
 }
 

@@ -1,17 +1,12 @@
 //! The calls that are timed.
 
-use crate::source::{Bench, Side};
+use crate::hashing::{BYTES, SIZE};
+use crate::serve::source::{Bench, Side};
 use gss_mech::{INITIATOR, Mechanism};
 use outcome::Mem;
 use std::alloc::Global;
 use two_ends::Wrong;
 use wire_xdr::{Octets, Writer};
-
-/// How many bytes a READ or a WRITE is of.
-pub const SIZE: usize = 65_536;
-
-/// The bytes of every WRITE.
-const BYTES: &[u8; SIZE] = &[7; SIZE];
 
 /// The secret of the copy.
 const SECRET: &[u8; 32] = &[3; 32];

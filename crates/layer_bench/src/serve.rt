@@ -2,32 +2,17 @@
 //! how often, and works. `write` is a WRITE of 65,536 bytes, `read` a READ of as many by an open, `grant` one under a
 //! grant of COPY_NOTIFY, by a context that confirms a copy, and `sequence` a SEQUENCE alone; each with `_made` behind it
 //! only makes and seals these calls. `hash` has 65,536 bytes gone through by bare SHA-256.
-#![tactic(auto)]
 
 mod calls;
 mod source;
 
-use calls::{SIZE, Work, calls_of};
-use outcome::Mem;
-use sha2::{Digest, Sha256};
-use source::Bench;
+use self::calls::{Work, calls_of};
+use self::source::Bench;
+use crate::hashing;
+use crate::words::number;
 use std::alloc::Global;
-use std::{env, io};
 use two_ends::Wrong;
 use wire_xdr::Octets;
-
-/// Hashes 65,536 bytes so many times.
-fn hash(alloc: Global, times: u32) -> Mem<u32> {
-    let bytes = vec![in alloc; 7; SIZE]?;
-    let wanted = Sha256::digest(bytes.as_slice());
-    let mut hashed: u32 = 0;
-    for _ in 0..times {
-        if Sha256::digest(bytes.as_slice()) == wanted {
-            hashed = hashed.saturating_add(1);
-        }
-    }
-    Ok(hashed)
-}
 
 /// The work with a name.
 fn work_of(name: &str) -> Work {
@@ -65,7 +50,7 @@ fn made(alloc: Global, work: Work, times: u32) -> Result<u32, Wrong> {
 /// Does so often what a word says.
 fn done(alloc: Global, word: &str, times: u32) -> Result<u32, Wrong> {
     if word == "hash" {
-        return Ok(hash(alloc, times)?);
+        return Ok(hashing::hash(times));
     }
     match word.strip_suffix("_made") {
         Some(name) => made(alloc, work_of(name), times),
@@ -73,22 +58,20 @@ fn done(alloc: Global, word: &str, times: u32) -> Result<u32, Wrong> {
     }
 }
 
-/// The number that a word is.
-fn number(word: Option<String>) -> u32 {
-    match word {
-        None => 0,
-        Some(word) => word.as_str().parse::<u32>().unwrap_or(0),
+/// Does what a word says, and tells of it.
+fn tell(rt: &HostRuntime, word: &str, times: u32) -> anyhow::Result<()> {
+    match done(rt.alloc(), word, times) {
+        Ok(done) => println!(rt; "{word} {done}")?,
+        Err(why) => println!(rt; "{word} {why:?}")?,
     }
+    Ok(())
 }
 
-fn main(rt: HostRuntime) -> io::Result<()> {
-    let mut words = env::args(&rt)?.skip(1);
-    let times = number(words.next());
-    for word in words {
-        match done(rt.alloc(), word.as_str(), times) {
-            Ok(done) => println!(rt; "{word} {done}")?,
-            Err(why) => println!(rt; "{word} {why:?}")?,
-        }
+/// Does what the words say.
+pub fn run(rt: &HostRuntime, words: &[&str]) -> anyhow::Result<()> {
+    let times = number(words, 0);
+    for word in words.iter().skip(1) {
+        tell(rt, word, times)?;
     }
     Ok(())
 }
