@@ -1,10 +1,10 @@
 #!/usr/bin/env python3
-"""Puts each schedule of examples/, with its transcript, among the cases that crates/wire_rows runs, and draws its picture anew.
+"""Puts each schedule of examples/, with its transcript, among the cases that crates/worked_rows runs, and draws its picture anew.
 
     tools/examples.py [--check]
 
 With --check nothing is written: the status is 1 where a case or a picture isn't that of its example. So what the gate runs is what the
-examples say. A picture is drawn of each transcript that has one in docs/pictures. The other cases of crates/wire_rows stay as they are.
+examples say. A picture is drawn of each transcript that has one in docs/pictures. The other cases of crates/worked_rows stay as they are.
 """
 
 import os
@@ -14,7 +14,7 @@ import picture
 
 TOP = os.path.dirname(os.path.dirname(os.path.realpath(__file__)))
 EXAMPLES = os.path.join(TOP, "examples")
-CASES = os.path.join(TOP, "crates", "wire_rows", "stdin")
+CASES = os.path.join(TOP, "crates", "worked_rows", "stdin")
 PICTURES = os.path.join(TOP, "docs", "pictures")
 
 # The line that the cases of the examples stand behind, to the end of the file.
@@ -42,7 +42,7 @@ def names():
 
 
 def case_of(name):
-    """An example as a case of crates/wire_rows."""
+    """An example as a case of crates/worked_rows."""
     schedule, transcript = (content(os.path.join(EXAMPLES, name + kind)) for kind in (".schedule", ".transcript"))
     if not schedule.startswith(b"# "):
         sys.exit(f"examples/{name}.schedule doesn't say in its first line what it shows")

@@ -2,7 +2,7 @@ use outcome::Mem;
 use std::alloc::Global;
 
 /// Where a reader of a text with escapes stands.
-#[derive(Clone, Copy, Debug, PartialEq, Eq)]
+#[derive(Clone, Copy)]
 enum Place {
     /// Outside an escape.
     Plain,
@@ -17,54 +17,46 @@ enum Place {
     Low(u8),
 }
 
-/// The bytes of a text in which one piece may stand as `{N*PIECE}`, which is that piece N times; `None` where it can't
-/// be read.
-pub fn spelled(alloc: Global, text: &str) -> Mem<Option<Vec<u8>>> {
+/// Adds the bytes of a text, in which one piece may stand as `{N*PIECE}`, which is that piece N times. Whether it can be read.
+pub fn spell(alloc: Global, text: &str, bytes: &mut Vec<u8>) -> Mem<bool> {
     let Some((front, more)) = text.split_once('{') else {
-        return unescaped(alloc, text);
+        return unescape(text, bytes);
     };
-    let Some((times, more)) = more.split_once('*') else {
-        return Ok(None);
+    let Some((times, piece, rest)) = repeated(more) else {
+        return Ok(false);
     };
-    let Some((piece, rest)) = more.split_once('}') else {
-        return Ok(None);
-    };
-    let Ok(times) = times.parse::<u32>() else {
-        return Ok(None);
-    };
-    let (Some(mut bytes), Some(piece), Some(rest)) = (
-        unescaped(alloc, front)?,
-        unescaped(alloc, piece)?,
-        unescaped(alloc, rest)?,
-    ) else {
-        return Ok(None);
-    };
-    for _ in 0..times {
-        bytes.extend_from_slice(&piece)?;
-    }
-    bytes.extend_from_slice(&rest)?;
-    Ok(Some(bytes))
+    Ok(unescape(front, bytes)? && repeat(alloc, times, piece, bytes)? && unescape(rest, bytes)?)
 }
 
-/// The bytes of a text with the escapes `\n`, `\r`, `\t`, `\0`, `\\` and `\xHH`, or `None` where another escape
-/// stands in it.
-fn unescaped(alloc: Global, text: &str) -> Mem<Option<Vec<u8>>> {
-    let mut bytes = Vec::new(alloc);
+/// How often a piece stands in a text, the piece, and what follows, of the text behind the brace.
+fn repeated(text: &str) -> Option<(u32, &str, &str)> {
+    let (times, more) = text.split_once('*')?;
+    let (piece, rest) = more.split_once('}')?;
+    Some((times.parse().ok()?, piece, rest))
+}
+
+fn repeat(alloc: Global, times: u32, piece: &str, bytes: &mut Vec<u8>) -> Mem<bool> {
+    let mut one = Vec::new(alloc);
+    let is_read = unescape(piece, &mut one)?;
+    for _ in 0..times {
+        bytes.extend_from_slice(&one)?;
+    }
+    Ok(is_read)
+}
+
+/// Adds the bytes of a text with the escapes `\n`, `\r`, `\t`, `\0`, `\\` and `\xHH`. Whether no other escape stands in it.
+fn unescape(text: &str, bytes: &mut Vec<u8>) -> Mem<bool> {
     let mut place = Place::Plain;
     for byte in text.as_bytes() {
         let Some((next, done)) = step(place, *byte) else {
-            return Ok(None);
+            return Ok(false);
         };
         if let Some(done) = done {
             bytes.push(done)?;
         }
         place = next;
     }
-    if place == Place::Plain {
-        Ok(Some(bytes))
-    } else {
-        Ok(None)
-    }
+    Ok(matches!(place, Place::Plain))
 }
 
 /// Where a byte leads, and the byte of the text that it ends.

@@ -1,6 +1,9 @@
 //! Calls over a source or a sink of which each call fails in turn.
 
-use crate::answer::{FIRST_COPY, FIRST_COPY_PUT, Faults, Tally, ask};
+use crate::answer::{Answer, Tally};
+use crate::first_copy::{FIRST_COPY, FIRST_COPY_PUT};
+use crate::plan::{GOOD, Plan};
+use crate::program::call;
 use outcome::Mem;
 use std::alloc::Global;
 use std::marker::Sync;
@@ -11,7 +14,7 @@ use std::thread::Threads;
 const ALL_CALLS: u64 = 100;
 
 /// Each read fails in turn, of a schedule behind a comment of so many bytes. No read follows one that failed.
-pub fn try_reads<R: Threads + Wait + Sync>(
+fn try_reads<R: Threads + Wait + Sync>(
     rt: &R,
     alloc: Global,
     filling: usize,
@@ -20,39 +23,52 @@ pub fn try_reads<R: Threads + Wait + Sync>(
     let mut text = vec![in alloc; b'#'; filling]?;
     text.extend_from_slice(b"\n")?;
     text.extend_from_slice(FIRST_COPY.as_bytes())?;
-    for call in 1..ALL_CALLS {
-        let faults = Faults {
-            source: call,
-            sink: 0,
-        };
-        let answer = ask(rt, alloc, &["run"], text.clone()?, faults)?;
-        if answer.takes < call {
-            tally.take(answer.is(0, FIRST_COPY_PUT));
+    fail_reads(rt, alloc, &text, tally)
+}
+
+fn fail_reads<R: Threads + Wait + Sync>(
+    rt: &R,
+    alloc: Global,
+    text: &[u8],
+    tally: &mut Tally,
+) -> Mem<()> {
+    for take in 1..ALL_CALLS {
+        let answer = call(rt, alloc, "run", text, Plan { take, ..GOOD })?;
+        if answer.takes < take {
+            tally.take(answer.is(0, FIRST_COPY_PUT.as_bytes()));
             return Ok(());
         }
-        tally.take(answer.takes == call && answer.is(3, ""));
+        tally.take(answer.takes == take && answer.is(3, b""));
     }
     tally.take(false);
     Ok(())
 }
 
 /// Each write fails in turn. A front of the transcript was put then, and no write follows.
-pub fn try_writes<R: Threads + Wait + Sync>(rt: &R, alloc: Global, tally: &mut Tally) -> Mem<()> {
-    for call in 1..ALL_CALLS {
-        let text = Vec::from_slice(alloc, FIRST_COPY.as_bytes())?;
-        let faults = Faults {
-            source: 0,
-            sink: call,
-        };
-        let answer = ask(rt, alloc, &["run"], text, faults)?;
-        if answer.puts < call {
-            tally.take(answer.is(0, FIRST_COPY_PUT));
+fn try_writes<R: Threads + Wait + Sync>(rt: &R, alloc: Global, tally: &mut Tally) -> Mem<()> {
+    for put in 1..ALL_CALLS {
+        let plan = Plan { put, ..GOOD };
+        let answer = call(rt, alloc, "run", FIRST_COPY.as_bytes(), plan)?;
+        if answer.sink.calls() < put {
+            tally.take(answer.is(0, FIRST_COPY_PUT.as_bytes()));
             return Ok(());
         }
-        let put = answer.put.as_str();
-        let is_front = put != FIRST_COPY_PUT && FIRST_COPY_PUT.starts_with(put);
-        tally.take(answer.puts == call && answer.status == 4 && is_front);
+        tally.take(answer.sink.calls() == put && is_cut(&answer));
     }
     tally.take(false);
     Ok(())
+}
+
+/// Whether a front of the transcript was put, and no more.
+fn is_cut(answer: &Answer) -> bool {
+    let put = answer.text();
+    answer.status == 4 && put != FIRST_COPY_PUT && FIRST_COPY_PUT.starts_with(put)
+}
+
+/// All of them, over schedules of several lengths.
+pub fn try_faults<R: Threads + Wait + Sync>(rt: &R, alloc: Global, tally: &mut Tally) -> Mem<()> {
+    for filling in [0, 5000, 20_000] {
+        try_reads(rt, alloc, filling, tally)?;
+    }
+    try_writes(rt, alloc, tally)
 }

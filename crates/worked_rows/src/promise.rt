@@ -1,10 +1,13 @@
 //! One copy of ten bytes, made again and again over a wire that loses a record, brings one twice, or brings the last five in
 //! another order; what stands in the destination's file in the end is compared with the promise.
 
-use crate::ran;
-use gss_mech::Realm;
+use crate::program::run;
 use outcome::Mem;
 use std::alloc::Global;
+use std::fmt::Write;
+use std::marker::Sync;
+use std::sync::Wait;
+use std::thread::Threads;
 
 /// How many records a copy takes over a wire that loses none.
 const RECORDS: u32 = 46;
@@ -65,25 +68,38 @@ impl Wire {
         }
     }
 
-    /// The lines by which a record comes.
-    fn bring(self, number: u32, text: &mut String, alloc: Global) -> Mem<()> {
-        let times = match self {
-            Wire::Loses(lost) if lost == number => 0_u32,
+    /// How often a record comes.
+    fn times(self, number: u32) -> u32 {
+        match self {
+            Wire::Loses(lost) if lost == number => 0,
             Wire::Repeats(again) if again == number => 2,
             _ => 1,
-        };
-        let place = match self {
-            Wire::Turns(order) if LAST[0] <= number && number <= LAST[4] => turned(
-                order,
-                number - LAST[0],
-            ),
-            _ => number,
-        };
-        for _ in 0..times {
-            text.push_str(format!(in alloc; "deliver {place}\nwork 1\n")?.as_str())?;
+        }
+    }
+
+    /// Which record comes at a place.
+    fn record_at(self, place: u32) -> u32 {
+        match self {
+            Wire::Turns(order) if LAST[0] <= place && place <= LAST[4] => {
+                turned(order, place - LAST[0])
+            }
+            _ => place,
+        }
+    }
+
+    /// The lines by which the record of a place comes.
+    fn bring(self, place: u32, text: &mut String) -> Mem<()> {
+        let record = self.record_at(place);
+        for _ in 0..self.times(place) {
+            deliver(record, text)?;
         }
         Ok(())
     }
+}
+
+fn deliver(record: u32, text: &mut String) -> Mem<()> {
+    writeln!(text, "deliver {record}\nwork 1")?;
+    Ok(())
 }
 
 /// Which of the last five comes at a place, in the order of a number from 0 to 119: each digit of the number says how many
@@ -124,25 +140,32 @@ fn take(left: &mut [u32; 5], skip: u32) -> u32 {
 /// The schedule of a copy over a wire: ten bytes are written at the source and copied behind two bytes of the destination's
 /// file. Then all that is awaited goes out again, and every record comes once more but the one that is lost. In the end
 /// thirteen bytes of the file are shown.
-fn schedule(alloc: Global, wire: Wire) -> Mem<String> {
-    let mut text = String::from_str(
-        alloc,
-        "volume s 1 1\nvolume d 1 1\nwrite s 1 0 30313233343536373839\n",
-    )?;
-    for number in 1..=RECORDS {
-        wire.bring(number, &mut text, alloc)?;
-        if number == WRITTEN_AT {
+fn schedule(wire: Wire, text: &mut String) -> Mem<()> {
+    text.push_str("volume s 1 1\nvolume d 1 1\nwrite s 1 0 30313233343536373839\n")?;
+    copy_once(wire, text)?;
+    text.push_str("retry\ntick 31\n")?;
+    bring_again(wire, text)?;
+    text.push_str("peek d 1 0 13\n")?;
+    Ok(())
+}
+
+fn copy_once(wire: Wire, text: &mut String) -> Mem<()> {
+    for place in 1..=RECORDS {
+        wire.bring(place, text)?;
+        if place == WRITTEN_AT {
             text.push_str("copy 1 1 0 1 2 10 c\n")?;
         }
     }
-    text.push_str("retry\ntick 31\n")?;
+    Ok(())
+}
+
+fn bring_again(wire: Wire, text: &mut String) -> Mem<()> {
     for number in 1..=IN_ALL {
         if !wire.loses(number) {
-            text.push_str(format!(in alloc; "deliver {number}\nwork 1\n")?.as_str())?;
+            deliver(number, text)?;
         }
     }
-    text.push_str("peek d 1 0 13\n")?;
-    Ok(text)
+    Ok(())
 }
 
 /// What a transcript shows.
@@ -175,39 +198,58 @@ impl Sight {
     }
 }
 
+impl Judged {
+    /// Takes a copy that ended so.
+    fn take(&mut self, status: u8, seen: Sight) {
+        let is_broken = status != 0 || !seen.keeps();
+        self.made = self.made.saturating_add(1);
+        self.stable = self.stable.saturating_add(u32::from(seen.stable));
+        self.broken = self.broken.saturating_add(u32::from(is_broken));
+    }
+}
+
 /// Makes a copy over a wire.
-fn judge(alloc: Global, realm: &Realm, wire: Wire, judged: &mut Judged) -> Mem<()> {
-    let schedule = schedule(alloc, wire)?;
-    let (status, output) = ran(alloc, realm, schedule.as_bytes())?;
-    let seen = sight_of(str::from_utf8(output.bytes()).unwrap_or(""));
-    judged.made = judged.made.saturating_add(1);
-    judged.stable = judged.stable.saturating_add(u32::from(seen.stable));
-    judged.broken = judged
-        .broken
-        .saturating_add(u32::from(status != 0 || !seen.keeps()));
+fn judge<R: Threads + Wait + Sync>(
+    rt: &R,
+    alloc: Global,
+    wire: Wire,
+    judged: &mut Judged,
+) -> Mem<()> {
+    let mut text = String::new(alloc);
+    schedule(wire, &mut text)?;
+    let answer = run(rt, alloc, text.as_bytes())?;
+    judged.take(answer.status, sight_of(answer.text()));
+    Ok(())
+}
+
+/// Makes all of them.
+fn judge_all<R: Threads + Wait + Sync>(rt: &R, alloc: Global, judged: &mut Judged) -> Mem<()> {
+    for number in 1..=RECORDS {
+        judge(rt, alloc, Wire::Loses(number), judged)?;
+        judge(rt, alloc, Wire::Repeats(number), judged)?;
+    }
+    for order in 0..120u32 {
+        judge(rt, alloc, Wire::Turns(order), judged)?;
+    }
     Ok(())
 }
 
 /// Makes all of them, and tells how many there were of each kind.
-pub(crate) fn judge_all(alloc: Global, realm: &Realm, lines: &mut String) -> Mem<()> {
+pub fn tell_promise<R: Threads + Wait + Sync>(rt: &R, alloc: Global, text: &mut String) -> Mem<()> {
     let mut judged = Judged {
         made: 0,
         stable: 0,
         broken: 0,
     };
-    for number in 1..=RECORDS {
-        judge(alloc, realm, Wire::Loses(number), &mut judged)?;
-        judge(alloc, realm, Wire::Repeats(number), &mut judged)?;
-    }
-    for order in 0..120u32 {
-        judge(alloc, realm, Wire::Turns(order), &mut judged)?;
-    }
+    judge_all(rt, alloc, &mut judged)?;
     let Judged {
         made,
         stable,
         broken,
     } = judged;
-    let line = format!(in alloc; "{made} copies, {stable} stable, {broken} against the promise\n")?;
-    lines.push_str(line.as_str())?;
+    writeln!(
+        text,
+        "{made} copies, {stable} stable, {broken} against the promise"
+    )?;
     Ok(())
 }

@@ -1,10 +1,13 @@
 //! One copy of two chunks, made again and again, each time with a server stopped before another call of its disk, under each pick of
 //! what the crash leaves. The server is opened anew; what was reported as stable stands then, and what wasn't is old or new.
 
-use crate::ran;
-use gss_mech::Realm;
+use crate::program::run;
 use outcome::Mem;
 use std::alloc::Global;
+use std::fmt::Write;
+use std::marker::Sync;
+use std::sync::Wait;
+use std::thread::Threads;
 
 /// How many writes and syncs the source's disk makes for two writes and their commit, and the destination's for two landings and
 /// their commit.
@@ -37,6 +40,16 @@ const WRITTEN: [&str; 2] = [
     "bytes s 1 0 3031323334353637",
     "bytes s 1 65530 404142434445464748494a4b",
 ];
+
+/// What is done before the source's fuse is set, then before the destination's, and then.
+const WRITES_AT_DEST: &str =
+    "volume s 1 17\nvolume d 1 17\nwrite d 1 0 a0a1a2a3a4a5a6a7\nwrite d 1 65530 b0b1b2b3b4b5b6b7b8b9babb\ncommit d 1\nflow 20\n";
+
+const WRITES_AT_SOURCE: &str =
+    "write s 1 0 3031323334353637\nwrite s 1 65530 404142434445464748494a4b\ncommit s 1\nflow 20\n";
+
+const COPY: &str =
+    "copy 1 1 0 1 0 0 c\nrounds 50\npeek d 1 0 8\npeek d 1 65530 12\npeek s 1 0 8\npeek s 1 65530 12\n";
 
 /// Before which call of whose disk a server stops, and under which pick.
 #[derive(Clone, Copy)]
@@ -75,23 +88,17 @@ struct Judged {
 impl Stop {
     /// The schedule: the destination's file is written and committed, then the source's, and the copy is made. A fuse is set at the
     /// source before its writes, at the destination before the copy. In the end both ranges of both files are shown.
-    fn schedule(self, alloc: Global) -> Mem<String> {
-        let mut text = String::from_str(alloc, "volume s 1 17\nvolume d 1 17\n")?;
-        text.push_str(
-            "write d 1 0 a0a1a2a3a4a5a6a7\nwrite d 1 65530 b0b1b2b3b4b5b6b7b8b9babb\ncommit d 1\nflow 20\n",
-        )?;
+    fn schedule(self, text: &mut String) -> Mem<()> {
+        text.push_str(WRITES_AT_DEST)?;
         if let Stop::Source { calls, pick } = self {
-            text.push_str(format!(in alloc; "crash s after {calls} {pick}\n")?.as_str())?;
+            writeln!(text, "crash s after {calls} {pick}")?;
         }
-        text.push_str(
-            "write s 1 0 3031323334353637\nwrite s 1 65530 404142434445464748494a4b\ncommit s 1\nflow 20\n",
-        )?;
+        text.push_str(WRITES_AT_SOURCE)?;
         if let Stop::Dest { calls, pick } = self {
-            text.push_str(format!(in alloc; "crash d after {calls} {pick}\n")?.as_str())?;
+            writeln!(text, "crash d after {calls} {pick}")?;
         }
-        text.push_str("copy 1 1 0 1 0 0 c\nrounds 50\n")?;
-        text.push_str("peek d 1 0 8\npeek d 1 65530 12\npeek s 1 0 8\npeek s 1 65530 12\n")?;
-        Ok(text)
+        text.push_str(COPY)?;
+        Ok(())
     }
 
     /// Whether what is seen is as promised. Of the file of the server that stopped both ranges are old, or both new: new where that was
@@ -138,22 +145,49 @@ fn sight_of(text: &str) -> Sight {
     seen
 }
 
+impl Judged {
+    /// Takes a copy that ended so.
+    fn take(&mut self, is_kept: bool, seen: Sight) {
+        self.made = self.made.saturating_add(1);
+        self.stopped = self.stopped.saturating_add(u32::from(seen.stopped));
+        self.stable = self.stable.saturating_add(u32::from(seen.stable));
+        self.broken = self.broken.saturating_add(u32::from(!is_kept));
+    }
+}
+
 /// Makes a copy in which a server stops.
-fn judge(alloc: Global, realm: &Realm, stop: Stop, judged: &mut Judged) -> Mem<()> {
-    let schedule = stop.schedule(alloc)?;
-    let (status, output) = ran(alloc, realm, schedule.as_bytes())?;
-    let seen = sight_of(str::from_utf8(output.bytes()).unwrap_or(""));
-    judged.made = judged.made.saturating_add(1);
-    judged.stopped = judged.stopped.saturating_add(u32::from(seen.stopped));
-    judged.stable = judged.stable.saturating_add(u32::from(seen.stable));
-    judged.broken = judged
-        .broken
-        .saturating_add(u32::from(status != 0 || !stop.keeps(seen)));
+fn judge<R: Threads + Wait + Sync>(
+    rt: &R,
+    alloc: Global,
+    stop: Stop,
+    judged: &mut Judged,
+) -> Mem<()> {
+    let mut text = String::new(alloc);
+    stop.schedule(&mut text)?;
+    let answer = run(rt, alloc, text.as_bytes())?;
+    let seen = sight_of(answer.text());
+    judged.take(answer.status == 0 && stop.keeps(seen), seen);
     Ok(())
 }
 
-/// Makes all of them, the last of each pick behind all calls of the disk, and tells how many there were of each kind.
-pub(crate) fn judge_stops(alloc: Global, realm: &Realm, lines: &mut String) -> Mem<()> {
+/// Makes those of a pick, the last of each server behind all calls of its disk.
+fn judge_pick<R: Threads + Wait + Sync>(
+    rt: &R,
+    alloc: Global,
+    pick: u32,
+    judged: &mut Judged,
+) -> Mem<()> {
+    for calls in 0..=SOURCE_CALLS {
+        judge(rt, alloc, Stop::Source { calls, pick }, judged)?;
+    }
+    for calls in 0..=DEST_CALLS {
+        judge(rt, alloc, Stop::Dest { calls, pick }, judged)?;
+    }
+    Ok(())
+}
+
+/// Makes all of them, and tells how many there were of each kind.
+pub fn tell_stops<R: Threads + Wait + Sync>(rt: &R, alloc: Global, text: &mut String) -> Mem<()> {
     let mut judged = Judged {
         made: 0,
         stopped: 0,
@@ -161,12 +195,7 @@ pub(crate) fn judge_stops(alloc: Global, realm: &Realm, lines: &mut String) -> M
         broken: 0,
     };
     for pick in 0..PICKS {
-        for calls in 0..=SOURCE_CALLS {
-            judge(alloc, realm, Stop::Source { calls, pick }, &mut judged)?;
-        }
-        for calls in 0..=DEST_CALLS {
-            judge(alloc, realm, Stop::Dest { calls, pick }, &mut judged)?;
-        }
+        judge_pick(rt, alloc, pick, &mut judged)?;
     }
     let Judged {
         made,
@@ -174,9 +203,9 @@ pub(crate) fn judge_stops(alloc: Global, realm: &Realm, lines: &mut String) -> M
         stable,
         broken,
     } = judged;
-    let line = format!(in alloc;
-        "{made} copies, {stopped} of them stopped, {stable} stable, {broken} against the promise\n"
+    writeln!(
+        text,
+        "{made} copies, {stopped} of them stopped, {stable} stable, {broken} against the promise"
     )?;
-    lines.push_str(line.as_str())?;
     Ok(())
 }
