@@ -6,6 +6,12 @@ pub const SOURCE_PORT: u16 = 2049;
 /// Where the destination listens.
 pub const DEST_PORT: u16 = 2050;
 
+/// A record of four bytes, behind its mark (RFC 5531 section 11).
+pub const RUBBISH: [u8; 8] = [0x80, 0, 0, 4, 1, 2, 3, 4];
+
+/// The mark of a record that is too large, and its first bytes.
+pub const LARGE_RECORD: [u8; 8] = [0xFF, 0xFF, 0xFF, 0xFF, 1, 2, 3, 4];
+
 /// What a link brings.
 #[derive(Clone, Copy)]
 pub enum Brings {

@@ -1,8 +1,8 @@
 //! The net of one thread in a room, and its links.
 
-ghost use Rattle.std.specs.Prelude.{◌≡◌, [], None};
+ghost use Rattle.std.specs.Prelude.{◌≡◌, ◌≤◌, [], None, IfSome, length};
 
-use crate::plan::{Brings, LinkPlan, NetPlan, SOURCE_PORT};
+use crate::plan::{Brings, LARGE_RECORD, LinkPlan, NetPlan, RUBBISH, SOURCE_PORT};
 use crate::room::{Room, Way};
 use net_links::{Dialed, Halves, Net};
 use outcome::Mem;
@@ -15,12 +15,6 @@ const CHUNK: usize = 65_536;
 
 /// How many bytes of a record come that is cut.
 const CUT: usize = 9;
-
-/// A record of four bytes, behind its mark (RFC 5531 section 11).
-const RUBBISH: [u8; 8] = [0x80, 0, 0, 4, 1, 2, 3, 4];
-
-/// The mark of a record that is too large, and its first bytes.
-const LARGE_RECORD: [u8; 8] = [0xFF, 0xFF, 0xFF, 0xFF, 1, 2, 3, 4];
 
 /// A net of one thread, which listens at a port.
 #[derive(Drop)]
@@ -125,6 +119,34 @@ impl<'a, R: Wait> RoomNet<'a, R> {
 }
 
 impl<'a, R: Wait> RoomFrom<'a, R> {
+    /// How many bytes were put at the front of the buffer. None is a fault.
+    fn taken(&mut self, buf: &mut [u8]) -> Option<usize>
+        ensures faults { self.new.faults ≡ self.old.faults }
+        ensures within { IfSome result (λ count. count ≤ length buf.new) }
+    {
+        self.takes = self.takes.saturating_add(1);
+        if self.takes == self.plan.take {
+            self.room.fail(self.rt);
+            return None;
+        }
+        if !self.has_more()? {
+            return Some(0);
+        }
+        Some(self.hand(buf))
+    }
+
+    /// Puts what is left of the piece into the buffer, as far as it has room.
+    fn hand(&mut self, buf: &mut [u8]) -> usize
+        ensures faults { self.new.faults ≡ self.old.faults }
+        ensures within { result ≤ length buf.new }
+    {
+        let left = self.piece.get(self.at..).unwrap_or(&[]);
+        let count = left.len().min(buf.len());
+        buf[..count].copy_from_slice(&left[..count]);
+        self.at = self.at.saturating_add(count);
+        count
+    }
+
     /// Whether there is something to take, which may have to be waited for. None is a fault.
     fn has_more(&mut self) -> Option<bool>
         ensures { self.new.faults ≡ self.old.faults }
@@ -210,25 +232,14 @@ impl<'a, R: Wait> Source for RoomFrom<'a, R> {
         if buf.is_empty() {
             return Take::Took(0);
         }
-        self.takes = self.takes.saturating_add(1);
-        let more = if self.takes == self.plan.take {
-            self.room.fail(self.rt);
-            None
-        } else {
-            self.has_more()
-        };
-        let Some(is_more) = more else {
-            self.faults = self.faults.saturating_add(1);
-            return Take::Failed;
-        };
-        let left = self.piece.get(self.at..).unwrap_or(&[]);
-        let count = left.len().min(buf.len());
-        if !is_more || count == 0 {
-            return Take::End;
+        match self.taken(buf) {
+            Some(0) => Take::End,
+            Some(count) => Take::Took(count),
+            None => {
+                self.faults = self.faults.saturating_add(1);
+                Take::Failed
+            }
         }
-        buf[..count].copy_from_slice(&left[..count]);
-        self.at = self.at.saturating_add(count);
-        Take::Took(count)
     }
 }
 

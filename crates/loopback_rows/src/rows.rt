@@ -4,7 +4,7 @@ use crate::plan::{Brings, DEST_PORT, LinkPlan, NetPlan, SOURCE_PORT};
 use crate::program::Caller;
 use crate::room::Room;
 use crate::room_net::RoomNet;
-use crate::running::{Nets, Order, Ran, run};
+use crate::running::{Kept, Nets, Order, Ran, run};
 use net_links::TcpNet;
 use outcome::Mem;
 use row_text::{number, word};
@@ -25,7 +25,8 @@ const SMALL: u32 = 10;
 /// A copy of a whole small file.
 const WHOLE: &str = "1 0 1 0 10 c";
 
-/// `room COPIES WORKERS SIZE LETTER`: copies over a room, one after the other.
+/// `room COPIES WORKERS SIZE LETTER`: copies over a room, one after the other; and `held`, where the first answer to a READ waits until
+/// each worker has put one.
 pub fn in_room<R: Net<Listener = TcpListener, Stream = TcpStream> + Threads + Wait + Sync>(
     rt: &R,
     alloc: Global,
@@ -33,21 +34,10 @@ pub fn in_room<R: Net<Listener = TcpListener, Stream = TcpStream> + Threads + Wa
     text: &mut String,
 ) -> Result<(), Wrong> {
     let order = order(alloc, words)?;
-    let ran = run_in_room(rt, alloc, &order, NetPlan::whole(), NetPlan::whole())?;
-    tell_exact(&ran, text)?;
-    Ok(())
-}
-
-/// `held COPIES WORKERS SIZE LETTER`: the same, but the first answer to a READ waits until each worker has put one.
-pub fn held<R: Net<Listener = TcpListener, Stream = TcpStream> + Threads + Wait + Sync>(
-    rt: &R,
-    alloc: Global,
-    words: &[&str],
-    text: &mut String,
-) -> Result<(), Wrong> {
-    let order = order(alloc, words)?;
     let mut dest = NetPlan::whole();
-    dest.source = LinkPlan::of(Brings::Held(u32::from(order.workers)));
+    if word(words, 0) == "held" {
+        dest.source = LinkPlan::of(Brings::Held(u32::from(order.workers)));
+    }
     let ran = run_in_room(rt, alloc, &order, dest, NetPlan::whole())?;
     tell_exact(&ran, text)?;
     Ok(())
@@ -60,17 +50,8 @@ pub fn over_tcp<R: Net<Listener = TcpListener, Stream = TcpStream> + Threads + W
     words: &[&str],
     text: &mut String,
 ) -> Result<(), Wrong> {
-    let (Ok(source), Ok(dest)) = (TcpNet::listening(rt, 0), TcpNet::listening(rt, 0)) else {
-        return Err(Wrong::Lacks("a port"));
-    };
     let mut order = order(alloc, words)?;
-    order.ports = (source.port().unwrap_or(0), dest.port().unwrap_or(0));
-    let nets = Nets {
-        source: Caller::Tcp(source),
-        dest: Caller::Tcp(dest),
-        client: Caller::Tcp(TcpNet::dialing(rt)),
-    };
-    let ran = run(rt, alloc, &order, nets, None)?;
+    let ran = run_on_ports(rt, alloc, &mut order)?;
     tell_exact(&ran, text)?;
     Ok(())
 }
@@ -83,17 +64,26 @@ pub fn copy<R: Net<Listener = TcpListener, Stream = TcpStream> + Threads + Wait 
     words: &[&str],
     text: &mut String,
 ) -> Result<(), Wrong> {
-    let mut order = small(joined(alloc, words, 6)?);
-    order.draw = u64::from(number(words, 2));
-    order.put = u64::from(number(words, 3));
-    let plan = NetPlan {
-        dial: u64::from(number(words, 1)),
-        source: LinkPlan::from_word(word(words, 4)),
-        dest: LinkPlan::from_word(word(words, 5)),
-    };
+    let order = copy_order(alloc, words)?;
+    let plan = copy_plan(words);
     let ran = run_in_room(rt, alloc, &order, NetPlan::whole(), plan)?;
     tell_copy(&ran, text)?;
     Ok(())
+}
+
+fn copy_order(alloc: Global, words: &[&str]) -> Mem<Order> {
+    let mut order = small(joined(alloc, words, 6)?);
+    order.draw = u64::from(number(words, 2));
+    order.put = u64::from(number(words, 3));
+    Ok(order)
+}
+
+fn copy_plan(words: &[&str]) -> NetPlan {
+    NetPlan {
+        dial: u64::from(number(words, 1)),
+        source: LinkPlan::from_word(word(words, 4)),
+        dest: LinkPlan::from_word(word(words, 5)),
+    }
 }
 
 /// `each KIND SIDE`: copies in which one call of this kind fails of the client's link to this server, each call in turn, up to the first
@@ -107,13 +97,10 @@ pub fn each<R: Net<Listener = TcpListener, Stream = TcpStream> + Threads + Wait 
     let order = small(String::from_str(alloc, WHOLE)?);
     let mut counts = Counts::none();
     for call in 1..=MOST_CALLS {
-        let room = Room::new(alloc);
         let plan = failing(word(words, 1), word(words, 2), u64::from(call));
-        let ran = run_in(rt, alloc, &room, &order, NetPlan::whole(), plan)?;
-        if !room.has_failed(rt) {
+        if !counts.run(rt, alloc, &order, plan)? {
             break;
         }
-        counts.add(&ran);
     }
     counts.tell(text)?;
     Ok(())
@@ -192,12 +179,39 @@ fn run_in<R: Net<Listener = TcpListener, Stream = TcpStream> + Threads + Wait + 
     dest: NetPlan,
     client: NetPlan,
 ) -> Result<Ran, Wrong> {
-    let nets = Nets {
+    let mut nets = Nets {
         source: Caller::Room(RoomNet::new(rt, room, alloc, SOURCE_PORT, NetPlan::whole())),
         dest: Caller::Room(RoomNet::new(rt, room, alloc, DEST_PORT, dest)),
         client: Caller::Room(RoomNet::new(rt, room, alloc, 0, client)),
     };
-    run(rt, alloc, order, nets, Some(room))
+    run(rt, alloc, order, &mut nets, Some(room))
+}
+
+/// The same over ports of this machine.
+fn run_on_ports<R: Net<Listener = TcpListener, Stream = TcpStream> + Threads + Wait + Sync>(
+    rt: &R,
+    alloc: Global,
+    order: &mut Order,
+) -> Result<Ran, Wrong> {
+    let Some(mut nets) = listening(rt, &mut order.ports) else {
+        return Err(Wrong::Lacks("a port"));
+    };
+    run(rt, alloc, order, &mut nets, None)
+}
+
+/// Nets of which two listen, and at which ports.
+fn listening<'a, R: Net<Listener = TcpListener, Stream = TcpStream> + Threads + Wait + Sync>(
+    rt: &'a R,
+    ports: &mut (u16, u16),
+) -> Option<Nets<'a, R>> {
+    let source = TcpNet::listening(rt, 0).ok()?;
+    let dest = TcpNet::listening(rt, 0).ok()?;
+    *ports = (source.port()?, dest.port()?);
+    Some(Nets {
+        source: Caller::Tcp(source),
+        dest: Caller::Tcp(dest),
+        client: Caller::Tcp(TcpNet::dialing(rt)),
+    })
 }
 
 /// How many copies were exact, the servers' statuses, and whether the bytes are there.
@@ -205,29 +219,35 @@ fn tell_exact(ran: &Ran, text: &mut String) -> Mem<()> {
     write!(
         text,
         "{} exact; {} {}; {}",
-        ran.exact,
+        ran.copied.exact,
         ran.source,
-        ran.dest,
-        sameness(ran)
+        ran.dest.status,
+        sameness(ran.dest)
     )?;
     Ok(())
 }
 
 /// What a copy put, and its status; the servers' statuses; and, where it was reported stable, whether the bytes are there.
 fn tell_copy(ran: &Ran, text: &mut String) -> Mem<()> {
-    let put = str::from_utf8(ran.put.bytes()).unwrap_or("no text");
+    let put = str::from_utf8(ran.copied.put.bytes()).unwrap_or("no text");
     for line in put.lines() {
-        write!(text, "{line} ")?;
+        text.push_str(line)?;
+        text.push_str(" ")?;
     }
-    write!(text, "{}; {} {}", ran.status, ran.source, ran.dest)?;
+    write!(
+        text,
+        "{}; {} {}",
+        ran.copied.status, ran.source, ran.dest.status
+    )?;
     if put.starts_with("stable") {
-        write!(text, "; {}", sameness(ran))?;
+        text.push_str("; ")?;
+        text.push_str(sameness(ran.dest))?;
     }
     Ok(())
 }
 
-fn sameness(ran: &Ran) -> &'static str {
-    if ran.same { "same" } else { "other" }
+fn sameness(dest: Kept) -> &'static str {
+    if dest.same { "same" } else { "other" }
 }
 
 /// How many copies ended so.
@@ -256,12 +276,30 @@ impl Counts {
         }
     }
 
+    /// Adds a copy by this plan of the client's net, where a call failed. Whether one did.
+    fn run<R: Net<Listener = TcpListener, Stream = TcpStream> + Threads + Wait + Sync>(
+        &mut self,
+        rt: &R,
+        alloc: Global,
+        order: &Order,
+        plan: NetPlan,
+    ) -> Result<bool, Wrong> {
+        let room = Room::new(alloc);
+        let ran = run_in(rt, alloc, &room, order, NetPlan::whole(), plan)?;
+        let has_failed = room.has_failed(rt);
+        if has_failed {
+            self.add(&ran);
+        }
+        Ok(has_failed)
+    }
+
     fn add(&mut self, ran: &Ran) {
-        let served = ran.source == 0 && ran.dest == 0;
-        let count = match (ran.status, ran.put.bytes()) {
+        let Kept { status, same } = ran.dest;
+        let served = ran.source == 0 && status == 0;
+        let count = match (ran.copied.status, ran.copied.put.bytes()) {
             (8, b"") if served => &mut self.nothing,
-            (8, b"stable\n") if served && ran.same => &mut self.stable,
-            (0, b"stable\nexact\n") if served && ran.same => &mut self.whole,
+            (8, b"stable\n") if served && same => &mut self.stable,
+            (0, b"stable\nexact\n") if served && same => &mut self.whole,
             _ => &mut self.other,
         };
         *count = count.saturating_add(1);

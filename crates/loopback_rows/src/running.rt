@@ -1,10 +1,9 @@
 //! Both servers and a client in threads beside each other, each by a call of the program.
 
 use crate::plan::SOURCE_PORT;
-use crate::program::{Caller, Left, call};
+use crate::program::{Asked, Caller, Left, call};
 use crate::room::Room;
-use crate::volumes::{filled, formatted, has_content};
-use blind_disk::BlindDisk;
+use crate::volumes::{empty, filled, has_content, nowhere};
 use outcome::Mem;
 use std::alloc::Global;
 use std::marker::Sync;
@@ -58,32 +57,56 @@ pub struct Nets<'a, R: Net<Listener = TcpListener, Stream = TcpStream> + Wait> {
 /// What came of it.
 #[derive(Drop)]
 pub struct Ran {
-    /// With which statuses the servers ended.
+    /// With which status the source ended.
     pub source: u8,
-    pub dest: u8,
+    pub dest: Kept,
+    pub copied: Copied,
+}
 
-    /// How many copies ended with status 0 and as stable and exact.
-    pub exact: u32,
-
-    /// How the last copy ended, and what it put.
+/// What became of the destination.
+#[derive(Clone, Copy)]
+pub struct Kept {
     pub status: u8,
-    pub put: MemSink,
 
-    /// Whether the destination's file has the bytes of the source's.
+    /// Whether its file has the bytes of the source's.
     pub same: bool,
 }
 
 /// What became of the copies.
 #[derive(Drop)]
-struct Copied {
-    exact: u32,
-    last: Left,
+pub struct Copied {
+    /// How many ended with status 0 and as stable and exact.
+    pub exact: u32,
+
+    /// How the last copy ended, and what it put.
+    pub status: u8,
+    pub put: MemSink,
+}
+
+impl Copied {
+    fn none(alloc: Global) -> Copied {
+        Copied {
+            exact: 0,
+            status: 0,
+            put: MemSink::new(alloc, Vec::new(alloc)),
+        }
+    }
+
+    /// Adds a copy, by what its call left.
+    fn add(&mut self, left: Left) {
+        let Left { status, put, .. } = left;
+        if status == 0 && matches!(put.bytes(), b"stable\nexact\n") {
+            self.exact = self.exact.saturating_add(1);
+        }
+        self.status = status;
+        self.put = put;
+    }
 }
 
 /// What the three threads came to: the source's, the destination's and the client's.
 type Threes = (
-    Result<Left, Wrong>,
-    (Result<Left, Wrong>, Result<Copied, Wrong>),
+    Result<u8, Wrong>,
+    (Result<Kept, Wrong>, Result<Copied, Wrong>),
 );
 
 /// Serves both volumes, lets the client make its copies, and looks at the destination's volume then. The room is closed behind the last
@@ -92,16 +115,10 @@ pub fn run<R: Net<Listener = TcpListener, Stream = TcpStream> + Threads + Wait +
     rt: &R,
     alloc: Global,
     order: &Order,
-    nets: Nets<'_, R>,
+    nets: &mut Nets<'_, R>,
     room: Option<&Room>,
 ) -> Result<Ran, Wrong> {
-    let Nets {
-        mut source,
-        mut dest,
-        mut client,
-    } = nets;
-    let threes = run_all(rt, alloc, order, &mut source, &mut dest, &mut client, room);
-    came_to(alloc, order, threes)
+    came_to(run_all(rt, alloc, order, nets, room))
 }
 
 /// The source's thread beside the two others.
@@ -109,11 +126,14 @@ fn run_all<R: Net<Listener = TcpListener, Stream = TcpStream> + Threads + Wait +
     rt: &R,
     alloc: Global,
     order: &Order,
-    source: &mut Caller<'_, R>,
-    dest: &mut Caller<'_, R>,
-    client: &mut Caller<'_, R>,
+    nets: &mut Nets<'_, R>,
     room: Option<&Room>,
 ) -> Threes {
+    let Nets {
+        source,
+        dest,
+        client,
+    } = nets;
     join(
         rt,
         || serve_source(rt, alloc, order, source),
@@ -129,7 +149,7 @@ fn run_two<R: Net<Listener = TcpListener, Stream = TcpStream> + Threads + Wait +
     dest: &mut Caller<'_, R>,
     client: &mut Caller<'_, R>,
     room: Option<&Room>,
-) -> (Result<Left, Wrong>, Result<Copied, Wrong>) {
+) -> (Result<Kept, Wrong>, Result<Copied, Wrong>) {
     join(
         rt,
         || serve_dest(rt, alloc, order, dest),
@@ -138,26 +158,13 @@ fn run_two<R: Net<Listener = TcpListener, Stream = TcpStream> + Threads + Wait +
 }
 
 /// What came of it, by what the threads came to.
-fn came_to(alloc: Global, order: &Order, threes: Threes) -> Result<Ran, Wrong> {
-    let (source, two) = threes;
-    let (dest, copied) = two;
-    let source = source?.status;
-    let Left {
-        status: dest,
-        disks,
-        ..
-    } = dest?;
-    let Disks { dest: disk, .. } = disks;
-    let same = has_content(alloc, disk, order.size)?;
-    let Copied { exact, last } = copied?;
-    let Left { status, put, .. } = last;
+fn came_to(threes: Threes) -> Result<Ran, Wrong> {
+    let (source, (dest, copied)) = threes;
+    let copied = copied?;
     Ok(Ran {
-        source,
-        dest,
-        exact,
-        status,
-        put,
-        same,
+        source: source?,
+        dest: dest?,
+        copied,
     })
 }
 
@@ -166,12 +173,19 @@ fn serve_source<R: Net<Listener = TcpListener, Stream = TcpStream> + Threads + W
     alloc: Global,
     order: &Order,
     net: &mut Caller<'_, R>,
-) -> Result<Left, Wrong> {
-    let conns = order.copies.saturating_add(u32::from(order.workers));
-    let line = format!(in alloc; "serve-source p {} {conns}", order.ports.0)?;
-    let disks = (filled(alloc, 1, order.size)?, nowhere(alloc));
+) -> Result<u8, Wrong> {
+    let asked = source_words(alloc, order)?;
     let draws = draws(alloc, SOURCE_DRAWS, 0)?;
-    Ok(call(rt, alloc, line.as_str(), disks, draws, 0, net)?)
+    let disk = filled(alloc, 1, order.size)?;
+    let left = call(rt, alloc, asked, (disk, nowhere(alloc)), draws, net);
+    Ok(left.status)
+}
+
+fn source_words(alloc: Global, order: &Order) -> Mem<Asked> {
+    let (port, _) = order.ports;
+    let conns = order.copies.saturating_add(u32::from(order.workers));
+    let line = format!(in alloc; "serve-source p {port} {conns}")?;
+    Asked::new(alloc, line.as_str(), 0)
 }
 
 fn serve_dest<R: Net<Listener = TcpListener, Stream = TcpStream> + Threads + Wait + Sync>(
@@ -179,13 +193,27 @@ fn serve_dest<R: Net<Listener = TcpListener, Stream = TcpStream> + Threads + Wai
     alloc: Global,
     order: &Order,
     net: &mut Caller<'_, R>,
-) -> Result<Left, Wrong> {
-    let (copies, workers) = (order.copies, order.workers);
-    let (source_port, port) = order.ports;
-    let line = format!(in alloc; "serve-dest p {port} {copies} {workers} {source_port}")?;
-    let disks = (nowhere(alloc), formatted(alloc, 2)?);
+) -> Result<Kept, Wrong> {
+    let asked = dest_words(alloc, order)?;
     let draws = draws(alloc, DEST_DRAWS, 0)?;
-    Ok(call(rt, alloc, line.as_str(), disks, draws, 0, net)?)
+    let disk = empty(alloc, 2)?;
+    let left = call(rt, alloc, asked, (nowhere(alloc), disk), draws, net);
+    kept_by(alloc, left, order.size)
+}
+
+fn dest_words(alloc: Global, order: &Order) -> Mem<Asked> {
+    let (source_port, port) = order.ports;
+    let (copies, workers) = (order.copies, order.workers);
+    let line = format!(in alloc; "serve-dest p {port} {copies} {workers} {source_port}")?;
+    Asked::new(alloc, line.as_str(), 0)
+}
+
+/// What became of the destination, by what its call left.
+fn kept_by(alloc: Global, left: Left, size: u32) -> Result<Kept, Wrong> {
+    let Left { status, disks, .. } = left;
+    let Disks { dest, .. } = disks;
+    let same = has_content(alloc, dest, size)?;
+    Ok(Kept { status, same })
 }
 
 /// The client makes its copies once the destination's workers are at the source.
@@ -212,25 +240,15 @@ fn copy_each<R: Net<Listener = TcpListener, Stream = TcpStream> + Threads + Wait
     order: &Order,
     net: &mut Caller<'_, R>,
 ) -> Result<Copied, Wrong> {
-    let mut exact = 0_u32;
-    let mut last = None;
+    if order.copies == 0 {
+        return Err(Wrong::Lacks("a copy"));
+    }
+    let mut copied = Copied::none(alloc);
     for number in 0..order.copies {
-        let left = copy(
-            rt,
-            alloc,
-            order,
-            u64::from(number).wrapping_mul(MOST_DRAWS),
-            net,
-        )?;
-        if left.status == 0 && matches!(left.put.bytes(), b"stable\nexact\n") {
-            exact = exact.saturating_add(1);
-        }
-        last = Some(left);
+        let first = u64::from(number).wrapping_mul(MOST_DRAWS);
+        copied.add(copy(rt, alloc, order, first, net)?);
     }
-    match last {
-        Some(last) => Ok(Copied { exact, last }),
-        None => Err(Wrong::Lacks("a copy")),
-    }
+    Ok(copied)
 }
 
 /// One copy by a client with the draws from this one on.
@@ -241,11 +259,16 @@ fn copy<R: Net<Listener = TcpListener, Stream = TcpStream> + Threads + Wait + Sy
     first: u64,
     net: &mut Caller<'_, R>,
 ) -> Mem<Left> {
-    let (source, dest) = order.ports;
-    let line = format!(in alloc; "copy {source} {dest} {}", order.words.as_str())?;
+    let asked = copy_words(alloc, order)?;
     let draws = draws(alloc, first, order.draw)?;
     let disks = (nowhere(alloc), nowhere(alloc));
-    call(rt, alloc, line.as_str(), disks, draws, order.put, net)
+    Ok(call(rt, alloc, asked, disks, draws, net))
+}
+
+fn copy_words(alloc: Global, order: &Order) -> Mem<Asked> {
+    let (source, dest) = order.ports;
+    let line = format!(in alloc; "copy {source} {dest} {}", order.words.as_str())?;
+    Asked::new(alloc, line.as_str(), order.put)
 }
 
 /// Draws from this number on. One of them fails, where its place isn't 0.
@@ -257,9 +280,4 @@ fn draws(alloc: Global, first: u64, fails: u64) -> Mem<MemDraws> {
         draws.push(draw)?;
     }
     Ok(MemDraws::new(draws, vec![in alloc; fails]?))
-}
-
-/// A disk that isn't used.
-fn nowhere(alloc: Global) -> BlindDisk {
-    BlindDisk::new(alloc, 0, Vec::new(alloc))
 }

@@ -1,13 +1,14 @@
-//! What connections bring.
+//! What the connections of a source bring that is served alone.
 
-use crate::ends::Talk;
+use crate::plan::{LARGE_RECORD, RUBBISH};
+use crate::talking::Talk;
 use net_links::Connection;
 use outcome::Mem;
 use std::alloc::Global;
 
 /// The connection of a word: `talk` is all that the client says, `cut` all but a part of its last call, `short` all but its last
-/// call, `take` the same as `talk` with a first take that fails, `put` with a second put that fails; `nothing`; `rubbish`, a record that is no call; and
-/// `large`, a record that is longer than a record may be.
+/// call, `take` the same as `talk` with a first take that fails, `put` with a second put that fails; `nothing`; `rubbish`, a record
+/// that is no call; and `large`, a record that is longer than a record may be.
 pub fn connection(alloc: Global, word: &str, talk: &Talk) -> Mem<Connection> {
     let calls = talk.calls.as_slice();
     match word {
@@ -16,8 +17,8 @@ pub fn connection(alloc: Global, word: &str, talk: &Talk) -> Mem<Connection> {
         "short" => brings(alloc, front(calls, talk.last)),
         "take" => fails(alloc, calls, 1, 0),
         "put" => fails(alloc, calls, 0, 2),
-        "rubbish" => brings(alloc, &[0x80, 0, 0, 4, 1, 2, 3, 4]),
-        "large" => brings(alloc, &[0xFF, 0xFF, 0xFF, 0xFF, 1, 2, 3, 4]),
+        "rubbish" => brings(alloc, &RUBBISH),
+        "large" => brings(alloc, &LARGE_RECORD),
         _ => brings(alloc, &[]),
     }
 }

@@ -1,7 +1,7 @@
 //! A source and a client in memory, and what they say to each other.
 
+use crate::volumes::formatted;
 use blind_disk::BlindDisk;
-use block_file::Volume;
 use client_core::Client;
 use client_leaving::Leaving;
 use gss_mech::Realm;
@@ -31,52 +31,32 @@ pub struct Talk {
     pub last: usize,
 }
 
-/// A source with a file, its draws, a client with its own, and what they said.
-#[derive(Drop)]
-struct Talking<'a> {
-    alloc: Global,
-    source: &'a mut SourceCore<BlindDisk, Realm>,
-    drawn: &'a mut CountDraws,
-    client: &'a mut Leaving<Realm>,
-    draws: &'a mut CountDraws,
-    talk: &'a mut Talk,
-}
-
-/// A disk with an empty volume of one file of one block. The call with this number fails, where it isn't 0.
-pub fn formatted(alloc: Global, fails: u64) -> Result<BlindDisk, Wrong> {
-    match Volume::format(disk(alloc, fails)?, 1, 1, 1)? {
-        Ok(disk) => Ok(disk),
-        Err(_) => Err(Wrong::Lacks("a volume")),
+impl Talk {
+    fn none(alloc: Global) -> Talk {
+        Talk {
+            calls: Vec::new(alloc),
+            replies: Vec::new(alloc),
+            last: 0,
+        }
     }
 }
 
-fn disk(alloc: Global, fails: u64) -> Mem<BlindDisk> {
-    Ok(BlindDisk::new(alloc, 9, vec![in alloc; fails]?))
+/// A source with a file, its draws, a client with its own, and what they said.
+#[derive(Drop)]
+struct Talking {
+    alloc: Global,
+    source: SourceCore<BlindDisk, Realm>,
+    drawn: CountDraws,
+    client: Leaving<Realm>,
+    draws: CountDraws,
+    talk: Talk,
 }
 
 /// What a client says that sets itself up, writes, commits and takes its leave, and what a source answers.
 pub fn recorded(alloc: Global) -> Result<Talk, Wrong> {
-    let mut source = source(alloc, formatted(alloc, 0)?)?;
-    talk_to(alloc, &mut source)
-}
-
-/// The same with this source.
-fn talk_to(alloc: Global, source: &mut SourceCore<BlindDisk, Realm>) -> Result<Talk, Wrong> {
-    let mut client = Leaving::new(client(alloc)?);
-    let mut talk = Talk {
-        calls: Vec::new(alloc),
-        replies: Vec::new(alloc),
-        last: 0,
-    };
-    let mut talking = Talking {
-        alloc,
-        source,
-        drawn: &mut CountDraws::new(),
-        client: &mut client,
-        draws: &mut CountDraws::new(),
-        talk: &mut talk,
-    };
+    let mut talking = Talking::new(alloc)?;
     talking.all()?;
+    let Talking { talk, .. } = talking;
     Ok(talk)
 }
 
@@ -98,37 +78,52 @@ fn client(alloc: Global) -> Mem<Client<Realm>> {
     Client::new(alloc, realm(alloc)?, user(alloc)?, source, dest)
 }
 
-impl<'a> Talking<'a> {
+impl Talking {
+    /// Nothing was said yet.
+    fn new(alloc: Global) -> Result<Talking, Wrong> {
+        let client = client(alloc)?;
+        let disk = formatted(BlindDisk::new(alloc, 9, Vec::new(alloc)), 1, 1)?;
+        let source = source(alloc, disk)?;
+        Ok(Talking {
+            alloc,
+            source,
+            drawn: CountDraws::new(),
+            client: Leaving::new(client),
+            draws: CountDraws::new(),
+            talk: Talk::none(alloc),
+        })
+    }
+
     fn all(&mut self) -> Result<(), Wrong> {
-        self.write()?;
-        self.commit()?;
-        self.leave()
+        let written = self.write()?;
+        self.carry(written, false)?;
+        let committed = self.commit()?;
+        self.carry(committed, false)?;
+        let left = self.leave()?;
+        self.carry(left, true)
     }
 
-    fn write(&mut self) -> Result<(), Wrong> {
+    fn write(&mut self) -> Result<Outbox, Wrong> {
         if self.client.client.calls() >= client_core::MOST_STEPS {
             return Err(Wrong::Lacks("a step"));
         }
         let client = &mut self.client.client;
-        let out = client.write(self.alloc, Side::Source, 1, 0, WRITTEN, 0, self.draws)?;
-        self.carry(out, false)
+        Ok(client.write(self.alloc, Side::Source, 1, 0, WRITTEN, 0, &mut self.draws)?)
     }
 
-    fn commit(&mut self) -> Result<(), Wrong> {
+    fn commit(&mut self) -> Result<Outbox, Wrong> {
         if self.client.client.calls() >= client_core::MOST_STEPS {
             return Err(Wrong::Lacks("a step"));
         }
         let client = &mut self.client.client;
-        let out = client.commit(self.alloc, Side::Source, 1, 0, self.draws)?;
-        self.carry(out, false)
+        Ok(client.commit(self.alloc, Side::Source, 1, 0, &mut self.draws)?)
     }
 
-    fn leave(&mut self) -> Result<(), Wrong> {
+    fn leave(&mut self) -> Result<Outbox, Wrong> {
         if self.client.client.calls() >= client_core::MOST_STEPS {
             return Err(Wrong::Lacks("a step"));
         }
-        let out = self.client.farewell(self.alloc, 0)?;
-        self.carry(out, true)
+        Ok(self.client.farewell(self.alloc, 0)?)
     }
 
     /// Carries what the client sends to the source, and the answers back, until nothing is under way.
@@ -139,7 +134,7 @@ impl<'a> Talking<'a> {
                 return Ok(());
             }
             let next = waiting.remove(0);
-            self.deliver(&next, leaving, &mut waiting)?;
+            self.deliver(next.bytes.as_slice(), leaving, &mut waiting)?;
         }
         Err(Wrong::Lacks("an end"))
     }
@@ -147,38 +142,45 @@ impl<'a> Talking<'a> {
     /// The source takes a call, and the client the answers.
     fn deliver(
         &mut self,
-        sent: &Outgoing,
+        call: &[u8],
         leaving: bool,
         waiting: &mut Vec<Outgoing>,
     ) -> Result<(), Wrong> {
-        if self.source.calls() >= session_server::MOST_STEPS {
-            return Err(Wrong::Lacks("a step"));
-        }
-        self.talk.last = self.talk.calls.len();
-        put_marked(&mut self.talk.calls, sent.bytes.as_slice())?;
-        let answers = self
-            .source
-            .on_record(self.alloc, 1, sent.bytes.as_slice(), 0, self.drawn)?;
+        let answers = self.ask(call)?;
         for answer in answers.sent.as_slice() {
-            put_marked(&mut self.talk.replies, answer.bytes.as_slice())?;
             let out = self.hear(answer.bytes.as_slice(), leaving)?;
             wait_for(waiting, out)?;
         }
         Ok(())
     }
 
-    fn hear(&mut self, bytes: &[u8], leaving: bool) -> Result<Outbox, Wrong> {
+    /// What the source answers to a call.
+    fn ask(&mut self, call: &[u8]) -> Result<Outbox, Wrong> {
+        self.talk.last = self.talk.calls.len();
+        put_marked(&mut self.talk.calls, call)?;
+        if self.source.calls() >= session_server::MOST_STEPS {
+            return Err(Wrong::Lacks("a step"));
+        }
+        let answered = self
+            .source
+            .on_record(self.alloc, 1, call, 0, &mut self.drawn)?;
+        Ok(answered)
+    }
+
+    /// What the client sends once it has heard an answer.
+    fn hear(&mut self, answer: &[u8], leaving: bool) -> Result<Outbox, Wrong> {
+        put_marked(&mut self.talk.replies, answer)?;
         if self.client.client.calls() >= client_core::MOST_STEPS {
             return Err(Wrong::Lacks("a step"));
         }
         if leaving {
             return Ok(
                 self.client
-                    .on_record(self.alloc, Side::Source, bytes, 0, self.draws)?,
+                    .on_record(self.alloc, Side::Source, answer, 0, &mut self.draws)?,
             );
         }
         let client = &mut self.client.client;
-        Ok(client.on_record(self.alloc, Side::Source, bytes, 0, self.draws)?)
+        Ok(client.on_record(self.alloc, Side::Source, answer, 0, &mut self.draws)?)
     }
 }
 
