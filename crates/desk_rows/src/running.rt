@@ -139,7 +139,21 @@ fn run_at<L: Ledger + Send, T: Ledger + Send, G: Ledger + Send, R: Threads + Wai
     let desk = Mutex::new(desk);
     let seen = copy_all(rt, alloc, plan, source, client, &desk, shares);
     let mut dest = desk.into_inner().hand_back();
-    told(alloc, &plan, seen?, &mut source.lock(rt).core, &mut dest)
+    let ran = told_at(rt, alloc, &plan, seen, source, &mut dest);
+    drop(dest);
+    ran
+}
+
+/// What is told of a run, where it came to its end.
+fn told_at<R: Wait>(
+    rt: &R,
+    alloc: Global,
+    plan: &Plan,
+    seen: Result<Seen, Wrong>,
+    source: &Mutex<SourceEnd>,
+    dest: &mut DestCore<MemoryDisk, Realm>,
+) -> Result<Ran, Wrong> {
+    told(alloc, plan, seen?, &mut source.lock(rt).core, dest)
 }
 
 /// The client begins its copies, the workers carry them out, and then the client takes leave.
