@@ -3,7 +3,7 @@ ghost use Rattle.copy_ops.specs.Forms.{copy_args, notify_args, clone_args};
 use nfs_base::{MOST_NET_LOCS, NetLoc, StateId};
 use outcome::Mem;
 use std::alloc::Global;
-use wire_xdr::{Items, ReadError, Reader, Writer, Xdr, put_four};
+use wire_xdr::{Items, ReadError, Reader, Writer, Xdr};
 
 /// What COPY is asked to do (COPY4args, RFC 7862 section 15.2). Offsets and the count are bytes; a count of
 /// 0 goes to the end of the source file.
@@ -30,11 +30,14 @@ impl Xdr for CopyArgs {
 
     #[tactic(auto, unfolding(crate::specs::Forms::copy_args))]
     fn parse(alloc: Global, reader: &mut Reader) -> Result<CopyArgs, ReadError> {
+        let (src_id, (dst_id, (src_off, dst_off))) = <(StateId, (StateId, (u64, u64)))>::parse(
+            alloc, reader,
+        )?;
         Ok(CopyArgs {
-            src_id: StateId::parse(alloc, reader)?,
-            dst_id: StateId::parse(alloc, reader)?,
-            src_off: u64::parse(alloc, reader)?,
-            dst_off: u64::parse(alloc, reader)?,
+            src_id,
+            dst_id,
+            src_off,
+            dst_off,
             count: u64::parse(alloc, reader)?,
             consecutive: bool::parse(alloc, reader)?,
             synchronous: bool::parse(alloc, reader)?,
@@ -44,16 +47,9 @@ impl Xdr for CopyArgs {
 
     #[tactic(auto, unfolding(crate::specs::Forms::copy_args))]
     fn put(&self, writer: &mut Writer) -> Mem<()> {
-        put_four(
-            writer,
-            &self.src_id,
-            &self.dst_id,
-            &self.src_off,
-            &self.dst_off,
-        )?;
-        self.count.put(writer)?;
-        self.consecutive.put(writer)?;
-        self.synchronous.put(writer)?;
+        let places = (self.src_id, (self.dst_id, (self.src_off, self.dst_off)));
+        let ways = (self.consecutive, self.synchronous);
+        (places, (self.count, ways)).put(writer)?;
         self.sources.put(writer)
     }
 }
@@ -100,21 +96,22 @@ impl Xdr for CloneArgs {
 
     #[tactic(auto, unfolding(crate::specs::Forms::clone_args))]
     fn parse(alloc: Global, reader: &mut Reader) -> Result<CloneArgs, ReadError> {
+        let (src_id, (dst_id, (src_off, (dst_off, count)))) = <(
+            StateId,
+            (StateId, (u64, (u64, u64))),
+        )>::parse(alloc, reader)?;
         Ok(CloneArgs {
-            src_id: StateId::parse(alloc, reader)?,
-            dst_id: StateId::parse(alloc, reader)?,
-            src_off: u64::parse(alloc, reader)?,
-            dst_off: u64::parse(alloc, reader)?,
-            count: u64::parse(alloc, reader)?,
+            src_id,
+            dst_id,
+            src_off,
+            dst_off,
+            count,
         })
     }
 
     #[tactic(auto, unfolding(crate::specs::Forms::clone_args))]
     fn put(&self, writer: &mut Writer) -> Mem<()> {
-        self.src_id.put(writer)?;
-        self.dst_id.put(writer)?;
-        self.src_off.put(writer)?;
-        self.dst_off.put(writer)?;
-        self.count.put(writer)
+        let range = (self.src_off, (self.dst_off, self.count));
+        (self.src_id, (self.dst_id, range)).put(writer)
     }
 }

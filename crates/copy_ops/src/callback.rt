@@ -32,14 +32,8 @@ impl Xdr for OffloadEnd {
     #[tactic(auto, unfolding(crate::specs::Forms::offload_end))]
     fn put(&self, writer: &mut Writer) -> Mem<()> {
         match self {
-            OffloadEnd::Done(response) => {
-                0u32.put(writer)?;
-                response.put(writer)
-            }
-            OffloadEnd::Failed { status, count } => {
-                status.number.put(writer)?;
-                count.put(writer)
-            }
+            OffloadEnd::Done(response) => (0u32, *response).put(writer),
+            OffloadEnd::Failed { status, count } => (status.number, *count).put(writer),
         }
     }
 }
@@ -58,17 +52,12 @@ impl Xdr for CbOffload {
 
     #[tactic(auto, unfolding(crate::specs::Forms::cb_offload))]
     fn parse(alloc: Global, reader: &mut Reader) -> Result<CbOffload, ReadError> {
-        Ok(CbOffload {
-            handle: Handle::parse(alloc, reader)?,
-            id: StateId::parse(alloc, reader)?,
-            end: OffloadEnd::parse(alloc, reader)?,
-        })
+        let (handle, (id, end)) = <(Handle, (StateId, OffloadEnd))>::parse(alloc, reader)?;
+        Ok(CbOffload { handle, id, end })
     }
 
     #[tactic(auto, unfolding(crate::specs::Forms::cb_offload))]
     fn put(&self, writer: &mut Writer) -> Mem<()> {
-        self.handle.put(writer)?;
-        self.id.put(writer)?;
-        self.end.put(writer)
+        (self.handle, (self.id, self.end)).put(writer)
     }
 }

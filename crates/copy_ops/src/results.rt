@@ -18,18 +18,19 @@ impl Xdr for CopyDone {
 
     #[tactic(auto, unfolding(crate::specs::Forms::copy_done))]
     fn parse(alloc: Global, reader: &mut Reader) -> Result<CopyDone, ReadError> {
+        let (response, (consecutive, synchronous)) = <(WriteResponse, (bool, bool))>::parse(
+            alloc, reader,
+        )?;
         Ok(CopyDone {
-            response: WriteResponse::parse(alloc, reader)?,
-            consecutive: bool::parse(alloc, reader)?,
-            synchronous: bool::parse(alloc, reader)?,
+            response,
+            consecutive,
+            synchronous,
         })
     }
 
     #[tactic(auto, unfolding(crate::specs::Forms::copy_done))]
     fn put(&self, writer: &mut Writer) -> Mem<()> {
-        self.response.put(writer)?;
-        self.consecutive.put(writer)?;
-        self.synchronous.put(writer)
+        (self.response, (self.consecutive, self.synchronous)).put(writer)
     }
 }
 
@@ -58,10 +59,13 @@ impl Xdr for CopyAnswer {
     fn parse(alloc: Global, reader: &mut Reader) -> Result<CopyAnswer, ReadError> {
         match u32::parse(alloc, reader)? {
             0 => Ok(CopyAnswer::Done(CopyDone::parse(alloc, reader)?)),
-            NO_REQS => Ok(CopyAnswer::NoReqs {
-                consecutive: bool::parse(alloc, reader)?,
-                synchronous: bool::parse(alloc, reader)?,
-            }),
+            NO_REQS => {
+                let (consecutive, synchronous) = <(bool, bool)>::parse(alloc, reader)?;
+                Ok(CopyAnswer::NoReqs {
+                    consecutive,
+                    synchronous,
+                })
+            }
             number => Ok(CopyAnswer::Refused(Status { number })),
         }
     }
@@ -69,18 +73,11 @@ impl Xdr for CopyAnswer {
     #[tactic(auto, unfolding(crate::specs::Forms::copy_answer))]
     fn put(&self, writer: &mut Writer) -> Mem<()> {
         match self {
-            CopyAnswer::Done(done) => {
-                0u32.put(writer)?;
-                done.put(writer)
-            }
+            CopyAnswer::Done(done) => (0u32, *done).put(writer),
             CopyAnswer::NoReqs {
                 consecutive,
                 synchronous,
-            } => {
-                NO_REQS.put(writer)?;
-                consecutive.put(writer)?;
-                synchronous.put(writer)
-            }
+            } => (NO_REQS, (*consecutive, *synchronous)).put(writer),
             CopyAnswer::Refused(status) => {
                 status.number.put(writer)?;
                 writer.void()
@@ -116,8 +113,7 @@ impl Xdr for NotifyGrant {
 
     #[tactic(auto, unfolding(crate::specs::Forms::notify_grant))]
     fn put(&self, writer: &mut Writer) -> Mem<()> {
-        self.lease.put(writer)?;
-        self.id.put(writer)?;
+        (self.lease, self.id).put(writer)?;
         self.sources.put(writer)
     }
 }
@@ -137,15 +133,12 @@ impl Xdr for OffloadProgress {
 
     #[tactic(auto, unfolding(crate::specs::Forms::offload_progress))]
     fn parse(alloc: Global, reader: &mut Reader) -> Result<OffloadProgress, ReadError> {
-        Ok(OffloadProgress {
-            count: u64::parse(alloc, reader)?,
-            complete: Option::parse(alloc, reader)?,
-        })
+        let (count, complete) = <(u64, Option<Status>)>::parse(alloc, reader)?;
+        Ok(OffloadProgress { count, complete })
     }
 
     #[tactic(auto, unfolding(crate::specs::Forms::offload_progress))]
     fn put(&self, writer: &mut Writer) -> Mem<()> {
-        self.count.put(writer)?;
-        self.complete.put(writer)
+        (self.count, self.complete).put(writer)
     }
 }

@@ -27,16 +27,13 @@ impl Xdr for ReferringCall {
 
     #[tactic(auto, unfolding(crate::specs::Callbacks::referring_call))]
     fn parse(alloc: Global, reader: &mut Reader) -> Result<ReferringCall, ReadError> {
-        Ok(ReferringCall {
-            sequence: u32::parse(alloc, reader)?,
-            slot: u32::parse(alloc, reader)?,
-        })
+        let (sequence, slot) = <(u32, u32)>::parse(alloc, reader)?;
+        Ok(ReferringCall { sequence, slot })
     }
 
     #[tactic(auto, unfolding(crate::specs::Callbacks::referring_call))]
     fn put(&self, writer: &mut Writer) -> Mem<()> {
-        self.sequence.put(writer)?;
-        self.slot.put(writer)
+        (self.sequence, self.slot).put(writer)
     }
 }
 
@@ -93,11 +90,8 @@ impl Xdr for CbSeq {
 
     #[tactic(auto, unfolding(crate::specs::Callbacks::cb_seq))]
     fn put(&self, writer: &mut Writer) -> Mem<()> {
-        self.session.put(writer)?;
-        self.sequence.put(writer)?;
-        self.slot.put(writer)?;
-        self.highest_slot.put(writer)?;
-        self.cache_this.put(writer)?;
+        let slots = (self.slot, (self.highest_slot, self.cache_this));
+        (self.session, (self.sequence, slots)).put(writer)?;
         self.referring.put(writer)
     }
 }
@@ -117,22 +111,23 @@ impl Xdr for CbSeqDone {
 
     #[tactic(auto, unfolding(crate::specs::Callbacks::cb_seq_done))]
     fn parse(alloc: Global, reader: &mut Reader) -> Result<CbSeqDone, ReadError> {
+        let (session, (sequence, (slot, (highest_slot, target_highest_slot)))) = <(
+            [u8; 16],
+            (u32, (u32, (u32, u32))),
+        )>::parse(alloc, reader)?;
         Ok(CbSeqDone {
-            session: <[u8; 16]>::parse(alloc, reader)?,
-            sequence: u32::parse(alloc, reader)?,
-            slot: u32::parse(alloc, reader)?,
-            highest_slot: u32::parse(alloc, reader)?,
-            target_highest_slot: u32::parse(alloc, reader)?,
+            session,
+            sequence,
+            slot,
+            highest_slot,
+            target_highest_slot,
         })
     }
 
     #[tactic(auto, unfolding(crate::specs::Callbacks::cb_seq_done))]
     fn put(&self, writer: &mut Writer) -> Mem<()> {
-        self.session.put(writer)?;
-        self.sequence.put(writer)?;
-        self.slot.put(writer)?;
-        self.highest_slot.put(writer)?;
-        self.target_highest_slot.put(writer)
+        let slots = (self.slot, (self.highest_slot, self.target_highest_slot));
+        (self.session, (self.sequence, slots)).put(writer)
     }
 }
 

@@ -20,16 +20,13 @@ impl Xdr for CloseArgs {
 
     #[tactic(auto, unfolding(crate::specs::Files::close_args))]
     fn parse(alloc: Global, reader: &mut Reader) -> Result<CloseArgs, ReadError> {
-        Ok(CloseArgs {
-            seqid: u32::parse(alloc, reader)?,
-            state_id: StateId::parse(alloc, reader)?,
-        })
+        let (seqid, state_id) = <(u32, StateId)>::parse(alloc, reader)?;
+        Ok(CloseArgs { seqid, state_id })
     }
 
     #[tactic(auto, unfolding(crate::specs::Files::close_args))]
     fn put(&self, writer: &mut Writer) -> Mem<()> {
-        self.seqid.put(writer)?;
-        self.state_id.put(writer)
+        (self.seqid, self.state_id).put(writer)
     }
 }
 
@@ -45,16 +42,13 @@ impl Xdr for CommitArgs {
 
     #[tactic(auto, unfolding(crate::specs::Files::commit_args))]
     fn parse(alloc: Global, reader: &mut Reader) -> Result<CommitArgs, ReadError> {
-        Ok(CommitArgs {
-            offset: u64::parse(alloc, reader)?,
-            count: u32::parse(alloc, reader)?,
-        })
+        let (offset, count) = <(u64, u32)>::parse(alloc, reader)?;
+        Ok(CommitArgs { offset, count })
     }
 
     #[tactic(auto, unfolding(crate::specs::Files::commit_args))]
     fn put(&self, writer: &mut Writer) -> Mem<()> {
-        self.offset.put(writer)?;
-        self.count.put(writer)
+        (self.offset, self.count).put(writer)
     }
 }
 
@@ -108,18 +102,17 @@ impl Xdr for ReadArgs {
 
     #[tactic(auto, unfolding(crate::specs::Files::read_args))]
     fn parse(alloc: Global, reader: &mut Reader) -> Result<ReadArgs, ReadError> {
+        let (state_id, (offset, count)) = <(StateId, (u64, u32))>::parse(alloc, reader)?;
         Ok(ReadArgs {
-            state_id: StateId::parse(alloc, reader)?,
-            offset: u64::parse(alloc, reader)?,
-            count: u32::parse(alloc, reader)?,
+            state_id,
+            offset,
+            count,
         })
     }
 
     #[tactic(auto, unfolding(crate::specs::Files::read_args))]
     fn put(&self, writer: &mut Writer) -> Mem<()> {
-        self.state_id.put(writer)?;
-        self.offset.put(writer)?;
-        self.count.put(writer)
+        (self.state_id, (self.offset, self.count)).put(writer)
     }
 }
 
@@ -172,9 +165,7 @@ impl Xdr for WriteArgs {
 
     #[tactic(auto, unfolding(crate::specs::Files::write_args))]
     fn put(&self, writer: &mut Writer) -> Mem<()> {
-        self.state_id.put(writer)?;
-        self.offset.put(writer)?;
-        self.stable.put(writer)?;
+        (self.state_id, (self.offset, self.stable)).put(writer)?;
         self.bytes.put(writer)
     }
 }
@@ -192,17 +183,16 @@ impl Xdr for WriteDone {
 
     #[tactic(auto, unfolding(crate::specs::Files::write_done))]
     fn parse(alloc: Global, reader: &mut Reader) -> Result<WriteDone, ReadError> {
+        let (count, (committed, verifier)) = <(u32, (Stability, [u8; 8]))>::parse(alloc, reader)?;
         Ok(WriteDone {
-            count: u32::parse(alloc, reader)?,
-            committed: Stability::parse(alloc, reader)?,
-            verifier: <[u8; 8]>::parse(alloc, reader)?,
+            count,
+            committed,
+            verifier,
         })
     }
 
     #[tactic(auto, unfolding(crate::specs::Files::write_done))]
     fn put(&self, writer: &mut Writer) -> Mem<()> {
-        self.count.put(writer)?;
-        self.committed.put(writer)?;
-        self.verifier.put(writer)
+        (self.count, (self.committed, self.verifier)).put(writer)
     }
 }

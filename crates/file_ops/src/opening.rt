@@ -111,10 +111,7 @@ impl Xdr for OpenArgs {
 
     #[tactic(auto, unfolding(crate::specs::Opening::open_args))]
     fn put(&self, writer: &mut Writer) -> Mem<()> {
-        self.seqid.put(writer)?;
-        self.access.put(writer)?;
-        self.deny.put(writer)?;
-        self.client.put(writer)?;
+        (self.seqid, (self.access, (self.deny, self.client))).put(writer)?;
         self.owner.put(writer)?;
         self.how.put(writer)
     }
@@ -152,11 +149,8 @@ impl Xdr for OpenDone {
 
     #[tactic(auto, unfolding(crate::specs::Opening::open_done))]
     fn put(&self, writer: &mut Writer) -> Mem<()> {
-        self.state_id.put(writer)?;
-        self.atomic.put(writer)?;
-        self.before.put(writer)?;
-        self.after.put(writer)?;
-        self.flags.put(writer)?;
+        let change = (self.atomic, (self.before, self.after));
+        (self.state_id, (change, self.flags)).put(writer)?;
         self.attributes_set.put(writer)?;
         self.delegation.put(writer)
     }

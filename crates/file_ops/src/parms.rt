@@ -24,26 +24,30 @@ impl Xdr for ChannelAttrs {
 
     #[tactic(auto, unfolding(crate::specs::Parms::channel_attrs))]
     fn parse(alloc: Global, reader: &mut Reader) -> Result<ChannelAttrs, ReadError> {
+        let (header_padding, (max_request, (max_response, (max_cached_response, counts)))) = <(
+            u32,
+            (u32, (u32, (u32, (u32, (u32, Option<u32>))))),
+        )>::parse(alloc, reader)?;
+        let (max_operations, (max_requests, rdma)) = counts;
         Ok(ChannelAttrs {
-            header_padding: u32::parse(alloc, reader)?,
-            max_request: u32::parse(alloc, reader)?,
-            max_response: u32::parse(alloc, reader)?,
-            max_cached_response: u32::parse(alloc, reader)?,
-            max_operations: u32::parse(alloc, reader)?,
-            max_requests: u32::parse(alloc, reader)?,
-            rdma: Option::parse(alloc, reader)?,
+            header_padding,
+            max_request,
+            max_response,
+            max_cached_response,
+            max_operations,
+            max_requests,
+            rdma,
         })
     }
 
     #[tactic(auto, unfolding(crate::specs::Parms::channel_attrs))]
     fn put(&self, writer: &mut Writer) -> Mem<()> {
-        self.header_padding.put(writer)?;
-        self.max_request.put(writer)?;
-        self.max_response.put(writer)?;
-        self.max_cached_response.put(writer)?;
-        self.max_operations.put(writer)?;
-        self.max_requests.put(writer)?;
-        self.rdma.put(writer)
+        let counts = (self.max_operations, (self.max_requests, self.rdma));
+        let sizes = (
+            self.max_request,
+            (self.max_response, (self.max_cached_response, counts)),
+        );
+        (self.header_padding, sizes).put(writer)
     }
 }
 
@@ -75,8 +79,7 @@ impl Xdr for SysParm {
     fn put(&self, writer: &mut Writer) -> Mem<()> {
         self.stamp.put(writer)?;
         self.machine.put(writer)?;
-        self.uid.put(writer)?;
-        self.gid.put(writer)?;
+        (self.uid, self.gid).put(writer)?;
         self.gids.put(writer)
     }
 }

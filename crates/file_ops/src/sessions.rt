@@ -7,7 +7,7 @@ use crate::zero::{NO_LIMIT, Zero};
 use nfs_base::{TEXT_LIMIT, Time};
 use outcome::Mem;
 use std::alloc::Global;
-use wire_xdr::{Items, Octets, ReadError, Reader, Writer, Xdr, put_four};
+use wire_xdr::{Items, Octets, ReadError, Reader, Writer, Xdr};
 
 /// The flag of CREATE_SESSION by which the connection serves callbacks too, CREATE_SESSION4_FLAG_CONN_BACK_CHAN (RFC 8881
 /// section 18.36).
@@ -126,11 +126,14 @@ impl Xdr for ExchangeIdDone {
 
     #[tactic(auto, unfolding(crate::specs::Sessions::exchange_id_done))]
     fn parse(alloc: Global, reader: &mut Reader) -> Result<ExchangeIdDone, ReadError> {
+        let (client, (sequence, (flags, protection))) = <(u64, (u32, (u32, Zero)))>::parse(
+            alloc, reader,
+        )?;
         Ok(ExchangeIdDone {
-            client: u64::parse(alloc, reader)?,
-            sequence: u32::parse(alloc, reader)?,
-            flags: u32::parse(alloc, reader)?,
-            protection: Zero::parse(alloc, reader)?,
+            client,
+            sequence,
+            flags,
+            protection,
             minor_id: u64::parse(alloc, reader)?,
             major_id: Octets::parse(alloc, reader, NO_LIMIT)?,
             scope: Octets::parse(alloc, reader, NO_LIMIT)?,
@@ -140,14 +143,8 @@ impl Xdr for ExchangeIdDone {
 
     #[tactic(auto, unfolding(crate::specs::Sessions::exchange_id_done))]
     fn put(&self, writer: &mut Writer) -> Mem<()> {
-        put_four(
-            writer,
-            &self.client,
-            &self.sequence,
-            &self.flags,
-            &self.protection,
-        )?;
-        self.minor_id.put(writer)?;
+        let grant = (self.client, (self.sequence, (self.flags, self.protection)));
+        (grant, self.minor_id).put(writer)?;
         self.major_id.put(writer)?;
         self.scope.put(writer)?;
         self.impl_id.put(writer)
@@ -184,9 +181,7 @@ impl Xdr for CreateSessionArgs {
 
     #[tactic(auto, unfolding(crate::specs::Sessions::create_session_args))]
     fn put(&self, writer: &mut Writer) -> Mem<()> {
-        self.client.put(writer)?;
-        self.sequence.put(writer)?;
-        self.flags.put(writer)?;
+        (self.client, (self.sequence, self.flags)).put(writer)?;
         self.fore.put(writer)?;
         self.back.put(writer)?;
         self.program.put(writer)?;
@@ -209,20 +204,22 @@ impl Xdr for CreateSessionDone {
 
     #[tactic(auto, unfolding(crate::specs::Sessions::create_session_done))]
     fn parse(alloc: Global, reader: &mut Reader) -> Result<CreateSessionDone, ReadError> {
+        let (session, (sequence, (flags, (fore, back)))) = <(
+            [u8; 16],
+            (u32, (u32, (ChannelAttrs, ChannelAttrs))),
+        )>::parse(alloc, reader)?;
         Ok(CreateSessionDone {
-            session: <[u8; 16]>::parse(alloc, reader)?,
-            sequence: u32::parse(alloc, reader)?,
-            flags: u32::parse(alloc, reader)?,
-            fore: ChannelAttrs::parse(alloc, reader)?,
-            back: ChannelAttrs::parse(alloc, reader)?,
+            session,
+            sequence,
+            flags,
+            fore,
+            back,
         })
     }
 
     #[tactic(auto, unfolding(crate::specs::Sessions::create_session_done))]
     fn put(&self, writer: &mut Writer) -> Mem<()> {
-        self.session.put(writer)?;
-        self.sequence.put(writer)?;
-        self.flags.put(writer)?;
+        (self.session, (self.sequence, self.flags)).put(writer)?;
         self.fore.put(writer)?;
         self.back.put(writer)
     }
@@ -243,22 +240,23 @@ impl Xdr for SequenceArgs {
 
     #[tactic(auto, unfolding(crate::specs::Sessions::sequence_args))]
     fn parse(alloc: Global, reader: &mut Reader) -> Result<SequenceArgs, ReadError> {
+        let (session, (sequence, (slot, (highest_slot, cache_this)))) = <(
+            [u8; 16],
+            (u32, (u32, (u32, bool))),
+        )>::parse(alloc, reader)?;
         Ok(SequenceArgs {
-            session: <[u8; 16]>::parse(alloc, reader)?,
-            sequence: u32::parse(alloc, reader)?,
-            slot: u32::parse(alloc, reader)?,
-            highest_slot: u32::parse(alloc, reader)?,
-            cache_this: bool::parse(alloc, reader)?,
+            session,
+            sequence,
+            slot,
+            highest_slot,
+            cache_this,
         })
     }
 
     #[tactic(auto, unfolding(crate::specs::Sessions::sequence_args))]
     fn put(&self, writer: &mut Writer) -> Mem<()> {
-        self.session.put(writer)?;
-        self.sequence.put(writer)?;
-        self.slot.put(writer)?;
-        self.highest_slot.put(writer)?;
-        self.cache_this.put(writer)
+        let slots = (self.slot, (self.highest_slot, self.cache_this));
+        (self.session, (self.sequence, slots)).put(writer)
     }
 }
 
@@ -278,23 +276,24 @@ impl Xdr for SequenceDone {
 
     #[tactic(auto, unfolding(crate::specs::Sessions::sequence_done))]
     fn parse(alloc: Global, reader: &mut Reader) -> Result<SequenceDone, ReadError> {
+        let (session, (sequence, (slot, (highest_slot, (target_highest_slot, status_flags))))) = <(
+            [u8; 16],
+            (u32, (u32, (u32, (u32, Zero)))),
+        )>::parse(alloc, reader)?;
         Ok(SequenceDone {
-            session: <[u8; 16]>::parse(alloc, reader)?,
-            sequence: u32::parse(alloc, reader)?,
-            slot: u32::parse(alloc, reader)?,
-            highest_slot: u32::parse(alloc, reader)?,
-            target_highest_slot: u32::parse(alloc, reader)?,
-            status_flags: Zero::parse(alloc, reader)?,
+            session,
+            sequence,
+            slot,
+            highest_slot,
+            target_highest_slot,
+            status_flags,
         })
     }
 
     #[tactic(auto, unfolding(crate::specs::Sessions::sequence_done))]
     fn put(&self, writer: &mut Writer) -> Mem<()> {
-        self.session.put(writer)?;
-        self.sequence.put(writer)?;
-        self.slot.put(writer)?;
-        self.highest_slot.put(writer)?;
-        self.target_highest_slot.put(writer)?;
-        self.status_flags.put(writer)
+        let target = (self.target_highest_slot, self.status_flags);
+        let slots = (self.slot, (self.highest_slot, target));
+        (self.session, (self.sequence, slots)).put(writer)
     }
 }

@@ -31,19 +31,17 @@ impl Xdr for StateId {
 
     #[tactic(auto, unfolding(crate::specs::Forms::state_id))]
     fn parse(alloc: Global, reader: &mut Reader) -> Result<StateId, ReadError> {
+        let (seqid, (kind, (boot, number))) = <(u32, (u32, (u32, u32)))>::parse(alloc, reader)?;
         Ok(StateId {
-            seqid: u32::parse(alloc, reader)?,
-            kind: u32::parse(alloc, reader)?,
-            boot: u32::parse(alloc, reader)?,
-            number: u32::parse(alloc, reader)?,
+            seqid,
+            kind,
+            boot,
+            number,
         })
     }
 
     #[tactic(auto, unfolding(crate::specs::Forms::state_id))]
     fn put(&self, writer: &mut Writer) -> Mem<()> {
-        self.seqid.put(writer)?;
-        self.kind.put(writer)?;
-        self.boot.put(writer)?;
-        self.number.put(writer)
+        (self.seqid, (self.kind, (self.boot, self.number))).put(writer)
     }
 }

@@ -17,15 +17,12 @@ impl Xdr for Time {
 
     #[tactic(auto, unfolding(crate::specs::Forms::time))]
     fn parse(alloc: Global, reader: &mut Reader) -> Result<Time, ReadError> {
-        Ok(Time {
-            secs: i64::parse(alloc, reader)?,
-            nanos: u32::parse(alloc, reader)?,
-        })
+        let (secs, nanos) = <(i64, u32)>::parse(alloc, reader)?;
+        Ok(Time { secs, nanos })
     }
 
     #[tactic(auto, unfolding(crate::specs::Forms::time))]
     fn put(&self, writer: &mut Writer) -> Mem<()> {
-        self.secs.put(writer)?;
-        self.nanos.put(writer)
+        (self.secs, self.nanos).put(writer)
     }
 }

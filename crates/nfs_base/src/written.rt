@@ -78,19 +78,21 @@ impl Xdr for WriteResponse {
 
     #[tactic(auto, unfolding(crate::specs::Forms::write_response))]
     fn parse(alloc: Global, reader: &mut Reader) -> Result<WriteResponse, ReadError> {
+        let (callback_id, (count, (committed, verifier))) = <(
+            Option<StateId>,
+            (u64, (Stability, [u8; 8])),
+        )>::parse(alloc, reader)?;
         Ok(WriteResponse {
-            callback_id: Option::parse(alloc, reader)?,
-            count: u64::parse(alloc, reader)?,
-            committed: Stability::parse(alloc, reader)?,
-            verifier: <[u8; 8]>::parse(alloc, reader)?,
+            callback_id,
+            count,
+            committed,
+            verifier,
         })
     }
 
     #[tactic(auto, unfolding(crate::specs::Forms::write_response))]
     fn put(&self, writer: &mut Writer) -> Mem<()> {
-        self.callback_id.put(writer)?;
-        self.count.put(writer)?;
-        self.committed.put(writer)?;
-        self.verifier.put(writer)
+        let written = (self.count, (self.committed, self.verifier));
+        (self.callback_id, written).put(writer)
     }
 }

@@ -47,9 +47,7 @@ fn parse_cb_compound(alloc: Global, reader: &mut Reader) -> Result<CbCompound, R
     ensures { IsTold result (cb_compound_at reader.old) }
 {
     let tag = Octets::parse(alloc, reader, TEXT_LIMIT)?;
-    let minor = u32::parse(alloc, reader)?;
-    let ident = u32::parse(alloc, reader)?;
-    let count = u32::parse(alloc, reader)?;
+    let (minor, (ident, count)) = <(u32, (u32, u32))>::parse(alloc, reader)?;
     let (ops, tail) = parse_body(alloc, reader, count)?;
     Ok(CbCompound {
         tag,
@@ -70,8 +68,7 @@ pub fn write_cb_compound(alloc: Global, compound: &CbCompound) -> Mem<Octets>
 {
     let mut writer = Writer::new(alloc)?;
     compound.tag.put(&mut writer)?;
-    compound.minor.put(&mut writer)?;
-    compound.ident.put(&mut writer)?;
+    (compound.minor, compound.ident).put(&mut writer)?;
     compound.ops.put(&mut writer)?;
     Ok(writer.finish())
 }

@@ -44,14 +44,8 @@ impl Xdr for CbRes {
                 OP_CB_SEQUENCE.put(writer)?;
                 answer.put(writer)
             }
-            CbRes::Offload(status) => {
-                OP_CB_OFFLOAD.put(writer)?;
-                status.put(writer)
-            }
-            CbRes::Bare { op, status } => {
-                op.put(writer)?;
-                status.put(writer)
-            }
+            CbRes::Offload(status) => (OP_CB_OFFLOAD, *status).put(writer),
+            CbRes::Bare { op, status } => (*op, *status).put(writer),
         }
     }
 }

@@ -57,8 +57,7 @@ fn parse_compound(alloc: Global, reader: &mut Reader) -> Result<Compound, ReadEr
     ensures { IsTold result (compound_at reader.old) }
 {
     let tag = Octets::parse(alloc, reader, TEXT_LIMIT)?;
-    let minor = u32::parse(alloc, reader)?;
-    let count = u32::parse(alloc, reader)?;
+    let (minor, count) = <(u32, u32)>::parse(alloc, reader)?;
     let (ops, tail) = parse_body(alloc, reader, count)?;
     Ok(Compound {
         tag,

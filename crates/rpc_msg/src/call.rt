@@ -4,7 +4,7 @@ use crate::auth::Auth;
 use crate::numbers::CALL;
 use outcome::Mem;
 use std::alloc::Global;
-use wire_xdr::{ReadError, Reader, Writer, Xdr, put_four};
+use wire_xdr::{ReadError, Reader, Writer, Xdr};
 
 /// The head of a call (RFC 5531 section 9): its number, the version of RPC, which is 2, the program, its
 /// version and the procedure, and who calls.
@@ -27,24 +27,28 @@ impl Xdr for CallHead {
         let xid = u32::parse(alloc, reader)?;
         let start = reader.at();
         match u32::parse(alloc, reader)? {
-            CALL => Ok(CallHead {
-                xid,
-                rpcvers: u32::parse(alloc, reader)?,
-                prog: u32::parse(alloc, reader)?,
-                vers: u32::parse(alloc, reader)?,
-                proc: u32::parse(alloc, reader)?,
-                cred: Auth::parse(alloc, reader)?,
-                verf: Auth::parse(alloc, reader)?,
-            }),
+            CALL => {
+                let (rpcvers, (prog, (vers, proc))) = <(u32, (u32, (u32, u32)))>::parse(
+                    alloc, reader,
+                )?;
+                Ok(CallHead {
+                    xid,
+                    rpcvers,
+                    prog,
+                    vers,
+                    proc,
+                    cred: Auth::parse(alloc, reader)?,
+                    verf: Auth::parse(alloc, reader)?,
+                })
+            }
             _ => Err(ReadError::at(start)),
         }
     }
 
     #[tactic(auto, unfolding(crate::specs::Heads::call))]
     fn put(&self, writer: &mut Writer) -> Mem<()> {
-        self.xid.put(writer)?;
-        CALL.put(writer)?;
-        put_four(writer, &self.rpcvers, &self.prog, &self.vers, &self.proc)?;
+        let called = (self.rpcvers, (self.prog, (self.vers, self.proc)));
+        (self.xid, (CALL, called)).put(writer)?;
         self.cred.put(writer)?;
         self.verf.put(writer)
     }

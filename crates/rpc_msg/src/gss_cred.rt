@@ -5,7 +5,7 @@ ghost use Rattle.rpc_msg.specs.Messages.{ReadsWhole};
 use crate::numbers::AUTH_LIMIT;
 use outcome::Mem;
 use std::alloc::Global;
-use wire_xdr::{BadXdr, Octets, ReadError, Reader, Writer, Xdr, read};
+use wire_xdr::{BadXdr, Octets, ReadError, Reader, Writer, Xdr, read_all};
 
 /// The credential of RPCSEC_GSS (RFC 2203 section 5), which is the body of an auth of flavor 6. Each number
 /// may be any word here: what version, procedure and service are served is for the caller to say.
@@ -34,10 +34,8 @@ impl Xdr for GssCred {
 
     #[tactic(auto, unfolding(crate::specs::GssCred::gss_cred))]
     fn put(&self, writer: &mut Writer) -> Mem<()> {
-        self.version.put(writer)?;
-        self.gss_proc.put(writer)?;
-        self.seq_num.put(writer)?;
-        self.service.put(writer)?;
+        let call = (self.gss_proc, (self.seq_num, self.service));
+        (self.version, call).put(writer)?;
         self.handle.put(writer)
     }
 }
@@ -47,20 +45,5 @@ impl Xdr for GssCred {
 pub fn read_gss_cred(alloc: Global, body: &[u8]) -> Mem<Result<GssCred, BadXdr>>
     ensures { IfOk result (ReadsWhole gss_cred body.now) }
 {
-    read_whole_value(alloc, body)
-}
-
-// Reads bytes that are to spell a value and nothing more.
-fn read_whole_value<T: Xdr>(alloc: Global, bytes: &[u8]) -> Mem<Result<T, BadXdr>>
-    ensures { IfOk result (ReadsWhole T.form bytes.now) }
-{
-    let mut reader = Reader::new(bytes);
-    let value = match read::<T>(alloc, &mut reader)? {
-        Ok(value) => value,
-        Err(bad) => return Ok(Err(bad)),
-    };
-    if reader.rest().is_empty() {
-        return Ok(Ok(value));
-    }
-    Ok(Err(BadXdr { at: reader.at() }))
+    read_all(alloc, body)
 }

@@ -69,10 +69,10 @@ impl Xdr for Stat {
         match u32::parse(alloc, reader)? {
             SUCCESS => Ok(Stat::Success),
             PROG_UNAVAIL => Ok(Stat::ProgUnavail),
-            PROG_MISMATCH => Ok(Stat::ProgMismatch {
-                low: u32::parse(alloc, reader)?,
-                high: u32::parse(alloc, reader)?,
-            }),
+            PROG_MISMATCH => {
+                let (low, high) = <(u32, u32)>::parse(alloc, reader)?;
+                Ok(Stat::ProgMismatch { low, high })
+            }
             PROC_UNAVAIL => Ok(Stat::ProcUnavail),
             GARBAGE_ARGS => Ok(Stat::Garbage),
             SYSTEM_ERR => Ok(Stat::SystemErr),
@@ -91,11 +91,7 @@ impl Xdr for Stat {
                 PROG_UNAVAIL.put(writer)?;
                 writer.void()
             }
-            Stat::ProgMismatch { low, high } => {
-                PROG_MISMATCH.put(writer)?;
-                low.put(writer)?;
-                high.put(writer)
-            }
+            Stat::ProgMismatch { low, high } => { (PROG_MISMATCH, (*low, *high)).put(writer) }
             Stat::ProcUnavail => {
                 PROC_UNAVAIL.put(writer)?;
                 writer.void()
@@ -119,10 +115,10 @@ impl Xdr for Denial {
     fn parse(alloc: Global, reader: &mut Reader) -> Result<Denial, ReadError> {
         let start = reader.at();
         match u32::parse(alloc, reader)? {
-            RPC_MISMATCH => Ok(Denial::Mismatch {
-                low: u32::parse(alloc, reader)?,
-                high: u32::parse(alloc, reader)?,
-            }),
+            RPC_MISMATCH => {
+                let (low, high) = <(u32, u32)>::parse(alloc, reader)?;
+                Ok(Denial::Mismatch { low, high })
+            }
             AUTH_ERROR => Ok(Denial::Auth(u32::parse(alloc, reader)?)),
             _ => Err(ReadError::at(start)),
         }
@@ -131,15 +127,8 @@ impl Xdr for Denial {
     #[tactic(auto, unfolding(crate::specs::Heads::denial))]
     fn put(&self, writer: &mut Writer) -> Mem<()> {
         match self {
-            Denial::Mismatch { low, high } => {
-                RPC_MISMATCH.put(writer)?;
-                low.put(writer)?;
-                high.put(writer)
-            }
-            Denial::Auth(why) => {
-                AUTH_ERROR.put(writer)?;
-                why.put(writer)
-            }
+            Denial::Mismatch { low, high } => (RPC_MISMATCH, (*low, *high)).put(writer),
+            Denial::Auth(why) => (AUTH_ERROR, *why).put(writer),
         }
     }
 }
@@ -173,18 +162,11 @@ impl Xdr for ReplyHead {
     fn put(&self, writer: &mut Writer) -> Mem<()> {
         match self {
             ReplyHead::Accepted { xid, verf, stat } => {
-                xid.put(writer)?;
-                REPLY.put(writer)?;
-                MSG_ACCEPTED.put(writer)?;
+                (*xid, (REPLY, MSG_ACCEPTED)).put(writer)?;
                 verf.put(writer)?;
                 stat.put(writer)
             }
-            ReplyHead::Denied { xid, why } => {
-                xid.put(writer)?;
-                REPLY.put(writer)?;
-                MSG_DENIED.put(writer)?;
-                why.put(writer)
-            }
+            ReplyHead::Denied { xid, why } => { (*xid, (REPLY, (MSG_DENIED, *why))).put(writer) }
         }
     }
 }

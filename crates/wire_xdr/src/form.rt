@@ -6,6 +6,7 @@ mod chosen;
 mod items;
 mod laws;
 mod option;
+mod pair;
 mod words;
 mod xdr;
 
