@@ -76,34 +76,9 @@ fn read_part<D: Disk>(
     ensures cause { result ≡ Io.Failed → Rose (D.faults disk.old) (D.faults disk.new) }
 {
     let _count = disk.blocks();
-    match out.as_mut_array() {
-        Some(whole) => read_block(disk, shape, table, file, number, whole),
-        None => read_edge(disk, shape, table, file, number, from, out),
+    if let Some(whole) = out.as_mut_array() {
+        return read_block(disk, shape, table, file, number, whole);
     }
-}
-
-// Reads some bytes of a block from `from` on.
-fn read_edge<D: Disk>(
-    disk: &mut D,
-    shape: Shape,
-    table: &Block,
-    file: u32,
-    number: u32,
-    from: usize,
-    out: &mut [u8],
-) -> Io
-    requires within { InShape shape file number }
-    requires fits { from + length out.old ≤ 4096 }
-    requires room { blocks_of shape.files shape.blocks ≤ D.size disk.old }
-    ensures bytes { D.Told → result ≡ Io.Done
-        → out.new ≡ take (length out.old) (drop from (contents (D.timeline disk.old) (place_of shape table.now file number))) }
-    ensures len { length out.new ≡ length out.old }
-    ensures same { D.Told → D.timeline disk.new ≡ D.timeline disk.old }
-    ensures size { D.size disk.new ≡ D.size disk.old }
-    ensures fuse { D.fuse disk.new ≡ D.fuse disk.old }
-    ensures faults { D.faults disk.old ≤ D.faults disk.new }
-    ensures cause { result ≡ Io.Failed → Rose (D.faults disk.old) (D.faults disk.new) }
-{
     let mut block = [0; 4096];
     match read_block(disk, shape, table, file, number, &mut block) {
         Io::Failed => return Io::Failed,
