@@ -4,7 +4,6 @@ use Rattle.std.specs.Prelude.{◌==◌, IfOk, Option, remove, slice_index_or}
 use Rattle.file_ops.specs.declared.args.FileArg.TheVariants as args
 use Rattle.file_ops.specs.declared.sessions.SequenceArgs.{SequenceArgs}
 use Rattle.file_server.specs.declared.extension.Ask.TheVariants.{Operation}
-use Rattle.file_server.specs.declared.extension.Gate.{Gate}
 use Rattle.nfs_base.specs.declared.status.Status.{Status}
 use Rattle.nfs_compound.specs.declared.op.Op.{Op}
 use Rattle.nfs_compound.specs.declared.op.Op.TheVariants.{File}
@@ -17,8 +16,9 @@ use Rattle.wire_xdr.specs.Words.{word_bytes, opaque_bytes}
 use Rattle.compound_server.specs.declared.compounds.Reply.{Reply}
 use Rattle.compound_server.specs.declared.server.Server.{Server}
 use Rattle.compound_server.specs.declared.who.Who.{Who}
-use Rattle.compound_server.specs.Compounds.{alone_refusal, by_first, gate_refusal, outside, outside_session}
+use Rattle.compound_server.specs.Compounds.{alone_refusal, by_first, outside, outside_session}
 use Rattle.compound_server.specs.Course.{Service}
+use Rattle.compound_server.specs.Performing.{gate_refusal}
 use Rattle.compound_server.specs.State.{Given, Gives, Parting, State, given_of, state_of}
 use Rattle.compound_server.proofs.Replies.{reply_spelled}
 
@@ -52,13 +52,13 @@ given_is {X = X} s t us vs b c states calls bodies =
 
 -- ---- operations that stand alone
 
--- what the server's extension says to one
-pub alone_asked : {X C : Type 0} (v : Service X C) (who : Who) (carry : Option C) (count op : ℕ) (x y : X) (told : Gate) → count ≡ 1
+-- why the server's extension lets one not go on
+pub alone_asked : {X C : Type 0} (v : Service X C) (who : Who) (carry : Option C) (count op : ℕ) (x y : X) (told : Option Status) → count ≡ 1
     → (v.gate y (outside who) carry (Operation op)).1 ≡ (v.gate x (outside who) carry (Operation op)).1
-    → (v.gate x (outside who) carry (Operation op)).1 ≡ told
-    → gate_refusal told ≡ alone_refusal (count == 1) v who carry op y
+    → told ≡ gate_refusal (v.gate x (outside who) carry (Operation op)).1
+    → told ≡ alone_refusal (count == 1) v who carry op y
 alone_asked v who carry count op x y told one timeless is =
-    ap gate_refusal (sym (timeless ∙ is)) ∙ ap (λ (n : ℕ). alone_refusal (n == 1) v who carry op y) (sym one)
+    is ∙ ap gate_refusal (sym timeless) ∙ ap (λ (n : ℕ). alone_refusal (n == 1) v who carry op y) (sym one)
 
 -- ---- the first operation
 

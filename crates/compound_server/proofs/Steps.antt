@@ -1,6 +1,6 @@
 -- An operation in code: what it said behind the results, and what it leaves.
 use Rattle.std.proofs.Common.{rules, ◌≡◌, ℕ, Bool, true, false, List, [], ◌∷◌, ◌++◌, refl, sym, ap, subst, ◌∙◌}
-use Rattle.std.specs.Prelude.{◌==◌, Option, Some, if◌then◌else◌}
+use Rattle.std.specs.Prelude.{◌==◌, Option, Some, None, if◌then◌else◌}
 use Rattle.std.proofs.lemmas.Bool.{eqb-true}
 use Rattle.copy_ops.specs.Forms.{copy_res, copy_answer}
 use Rattle.file_ops.specs.Results.{file_res}
@@ -26,8 +26,8 @@ use Rattle.server_volume.specs.Moments.{Counted}
 use Rattle.server_volume.specs.Store.{Seat}
 use Rattle.sess_slots.specs.Table.{SessionTable}
 use Rattle.wire_xdr.specs.Words.{word_bytes}
-use Rattle.compound_server.specs.Course.{Course, Seen, Service, seen, of_file, of_copy}
-use Rattle.compound_server.specs.Performing.{asks_later, file_done, gated, perform, placed, refuse, unless_refused, with_state}
+use Rattle.compound_server.specs.Course.{Course, Performed, Seen, Service, seen, of_file, of_copy}
+use Rattle.compound_server.specs.Performing.{asks_later, done, file_done, gate_refusal, gated, op_refusal, perform, placed, refusal_by, refuse, unless_refused, with_state}
 use Rattle.compound_server.specs.Refusals.{Refusing, refusings, refused_among, refused, place_refusal}
 use Rattle.compound_server.specs.Serves.{Served, told_of}
 use Rattle.compound_server.specs.State.{begun}
@@ -123,26 +123,56 @@ performs_refused m sessions op told said answered q r says is same =
     ∙ performs_said m sessions (refused op said) q r (word_bytes op ++ word_bytes said.number) said says (refused_spelled op said) (refused_status op said)
     ∙ ap (λ (s : Status). seen_as (course_at m sessions r) r.page.bytes s.number) (sym same)
 
--- ---- what the server's extension refuses
+-- ---- an operation is refused by its place or by the server's extension, or done
 
-pub gated_refuses : {X C : Type 0} (s : Service X C) (choice : Choice) (caller : Caller) (carry : Option C) (next : Option ℕ) (op : Op) (c : Course X) (n : ℕ) (now : X) (told : Status)
-    → n ≡ op_number op → asks_later n ≡ false → (s.gate c.going.machine.extra caller carry (Operation n)).0 ≡ now
-    → (s.gate c.going.machine.extra caller carry (Operation n)).1 ≡ gate.Refuse told
-    → gated (asks_later (op_number op)) s choice caller carry next op c ≡ refuse n told (with_state now c)
-gated_refuses s choice caller carry next op c n now told is later after refuses =
-    let x = c.going.machine.extra in
-    ap (λ (b : Bool). gated b s choice caller carry next op c) (ap asks_later (sym is) ∙ later)
-    ∙ ap (λ (k : ℕ). unless_refused (s.gate x caller carry (Operation k)).1 s choice caller carry next op (with_state (s.gate x caller carry (Operation k)).0 c)) (sym is)
-    ∙ ap (λ (g : Gate). unless_refused g s choice caller carry next op (with_state (s.gate x caller carry (Operation n)).0 c)) refuses
-    ∙ ap (λ y. refuse (op_number op) told (with_state y c)) after
-    ∙ ap (λ (k : ℕ). refuse k told (with_state now c)) (sym is)
+abbrev refused_or_done : {X C : Type 0} → Option Status → Service X C → Choice → Caller → Option C → (next : Option ℕ) → Op → Course X → Performed X
+refused_or_done (Some told) s choice caller carry next op c = refuse (op_number op) told c
+refused_or_done None s choice caller carry next op c = done s choice caller carry next op c
 
-pub placed_refuses : {X C : Type 0} (s : Service X C) (choice : Choice) (caller : Caller) (carry : Option C) (next : Option ℕ) (op : Op) (c : Course X) (n : ℕ) (told : Status)
-    → n ≡ op_number op → place_refusal n ≡ Some told → perform s choice caller carry next op c ≡ refuse n told c
+unless_by : {X C : Type 0} (said : Gate) (s : Service X C) (choice : Choice) (caller : Caller) (carry : Option C) (next : Option ℕ) (op : Op) (c : Course X)
+    → unless_refused said s choice caller carry next op c ≡ refused_or_done (gate_refusal said) s choice caller carry next op c
+unless_by (gate.Refuse told) s choice caller carry next op c = refl
+unless_by gate.Serve s choice caller carry next op c = refl
+unless_by gate.Usual s choice caller carry next op c = refl
+
+gated_by : {X C : Type 0} (later : Bool) (s : Service X C) (choice : Choice) (caller : Caller) (carry : Option C) (next : Option ℕ) (op : Op) (c : Course X)
+    → (s.gate c.going.machine.extra caller carry (Operation (op_number op))).0 ≡ c.going.machine.extra
+    → gated later s choice caller carry next op c
+    ≡ refused_or_done (refusal_by None later (s.gate c.going.machine.extra caller carry (Operation (op_number op))).1) s choice caller carry next op c
+gated_by true s choice caller carry next op c still = refl
+gated_by false s choice caller carry next op c still =
+    let said = s.gate c.going.machine.extra caller carry (Operation (op_number op)) in
+    ap (λ x. unless_refused said.1 s choice caller carry next op (with_state x c)) still ∙ unless_by said.1 s choice caller carry next op c
+
+placed_by : {X C : Type 0} (place : Option Status) (s : Service X C) (choice : Choice) (caller : Caller) (carry : Option C) (next : Option ℕ) (op : Op) (c : Course X)
+    → (s.gate c.going.machine.extra caller carry (Operation (op_number op))).0 ≡ c.going.machine.extra
+    → placed place s choice caller carry next op c
+    ≡ refused_or_done (refusal_by place (asks_later (op_number op)) (s.gate c.going.machine.extra caller carry (Operation (op_number op))).1) s choice caller carry next op c
+placed_by (Some told) s choice caller carry next op c still = refl
+placed_by None s choice caller carry next op c still = gated_by (asks_later (op_number op)) s choice caller carry next op c still
+
+performs_by : {X C : Type 0} (s : Service X C) (choice : Choice) (caller : Caller) (carry : Option C) (next : Option ℕ) (op : Op) (c : Course X) (n : ℕ) (told : Option Status)
+    → ((k : ℕ) → (s.gate c.going.machine.extra caller carry (Operation k)).0 ≡ c.going.machine.extra)
+    → n ≡ op_number op → told ≡ op_refusal s caller carry n c.going.machine.extra
+    → perform s choice caller carry next op c ≡ refused_or_done told s choice caller carry next op c
 unfolding perform
-placed_refuses s choice caller carry next op c n told is refuses =
-    ap (λ (r : Option Status). placed r s choice caller carry next op c) (ap place_refusal (sym is) ∙ refuses)
-    ∙ ap (λ (k : ℕ). refuse k told c) (sym is)
+performs_by s choice caller carry next op c n told still is says =
+    placed_by (place_refusal (op_number op)) s choice caller carry next op c (still (op_number op))
+    ∙ ap (λ (r : Option Status). refused_or_done r s choice caller carry next op c) (sym (says ∙ ap (λ (k : ℕ). op_refusal s caller carry k c.going.machine.extra) is))
+
+pub perform_refuses : {X C : Type 0} (s : Service X C) (choice : Choice) (caller : Caller) (carry : Option C) (next : Option ℕ) (op : Op) (c : Course X) (n : ℕ) (told : Status)
+    → ((k : ℕ) → (s.gate c.going.machine.extra caller carry (Operation k)).0 ≡ c.going.machine.extra)
+    → n ≡ op_number op → Some told ≡ op_refusal s caller carry n c.going.machine.extra
+    → perform s choice caller carry next op c ≡ refuse n told c
+perform_refuses s choice caller carry next op c n told still is says =
+    performs_by s choice caller carry next op c n (Some told) still is says ∙ ap (λ (k : ℕ). refuse k told c) (sym is)
+
+pub perform_done : {X C : Type 0} (s : Service X C) (choice : Choice) (caller : Caller) (carry : Option C) (next : Option ℕ) {op known : Op} (c : Course X) (n : ℕ)
+    → ((k : ℕ) → (s.gate c.going.machine.extra caller carry (Operation k)).0 ≡ c.going.machine.extra)
+    → n ≡ op_number op → None ≡ op_refusal s caller carry n c.going.machine.extra → op ≡ known
+    → perform s choice caller carry next op c ≡ done s choice caller carry next known c
+perform_done s choice caller carry next {op} {known} c n still is says known_is =
+    performs_by s choice caller carry next op c n None still is says ∙ ap (λ (o : Op). done s choice caller carry next o c) known_is
 
 -- an operation on files, beside the clients
 pub performs_file : {X : Type 0} (sessions : SessionTable) (a : Answered X) (before : List ℕ) (g : Going X) (after : List ℕ) (number : ℕ)

@@ -8,8 +8,6 @@ use Rattle.file_ops.specs.declared.sessions.SequenceArgs.{SequenceArgs}
 use Rattle.file_ops.specs.declared.zero.Zero.TheVariants.{Word}
 use Rattle.file_server.specs.declared.extension.Ask.TheVariants.{Operation}
 use Rattle.file_server.specs.declared.extension.Caller.{Caller}
-use Rattle.file_server.specs.declared.extension.Gate.{Gate}
-use Rattle.file_server.specs.declared.extension.Gate.TheVariants as gate
 use Rattle.nfs_base.specs.declared.answer.Answer.TheVariants.{Done}
 use Rattle.nfs_base.specs.declared.limits.TheConstants.{MOST_OPERATIONS, SLOTS}
 use Rattle.nfs_base.specs.declared.status.Status.{Status}
@@ -33,6 +31,7 @@ use Rattle.nfs_compound.specs.declared.compound.TheConstants.{MINOR_VERSION}
 use Rattle.compound_server.specs.declared.refusing.TailRefusal.{TailRefusal}
 use Rattle.compound_server.specs.declared.who.Who.{Who}
 use Rattle.compound_server.specs.Course.{Service}
+use Rattle.compound_server.specs.Performing.{gate_refusal}
 use Rattle.compound_server.specs.Refusals.{refused, tail_refusal}
 use Rattle.compound_server.specs.State.{State, Given, Parting, begun, with_own, answered_by, refusal}
 use Rattle.compound_server.specs.Clients.{exchange_id, create_session, destroy_session, destroy_clientid}
@@ -95,11 +94,6 @@ sequence v choice who carry tag a ops tail s =
 -- such an operation is no client's in a session
 abbrev pub outside : Who → Caller
 outside who = record { client = 0; session = 0; context = who.context; second = who.second }
-
-abbrev pub gate_refusal : Gate → Option Status
-gate_refusal (gate.Refuse status) = Some status
-gate_refusal gate.Serve = None
-gate_refusal gate.Usual = None
 
 -- it is the only one, and then the server's extension is asked, which telling so doesn't change
 abbrev pub alone_refusal : {X C : Type 0} → Bool → Service X C → Who → Option C → (op : ℕ) → X → Option Status

@@ -74,6 +74,12 @@ done s choice caller carry next (Copy a) c = of_copy c.sessions (s.serve choice 
 abbrev pub asks_later : (op : ℕ) → Bool
 asks_later op = (op == OP_READ) || (op == OP_GETATTR)
 
+-- why the extension lets an operation not go on
+abbrev pub gate_refusal : Gate → Option Status
+gate_refusal (gate.Refuse status) = Some status
+gate_refusal gate.Serve = None
+gate_refusal gate.Usual = None
+
 abbrev pub with_state : {X : Type 0} → X → Course X → Course X
 with_state x c = record c { going = with_extra x c.going }
 
@@ -95,3 +101,15 @@ placed None s choice caller carry next op c = gated (asks_later (op_number op)) 
 -- an operation behind SEQUENCE
 unfoldable pub perform : {X C : Type 0} → Service X C → Choice → Caller → Option C → (next : Option ℕ) → Op → Course X → Performed X
 perform s choice caller carry next op c = placed (place_refusal (op_number op)) s choice caller carry next op c
+
+-- ---- the same, where telling whether an operation may go on changes nothing
+
+-- by its place, whether it asks later, and what is said of it
+abbrev pub refusal_by : Option Status → (later : Bool) → Gate → Option Status
+refusal_by (Some status) later said = Some status
+refusal_by None true said = None
+refusal_by None false said = gate_refusal said
+
+-- why an operation isn't evaluated
+abbrev pub op_refusal : {X C : Type 0} → Service X C → Caller → Option C → (op : ℕ) → X → Option Status
+op_refusal s caller carry op x = refusal_by (place_refusal op) (asks_later op) (s.gate x caller carry (Operation op)).1

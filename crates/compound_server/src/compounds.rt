@@ -23,7 +23,7 @@ use crate::serving::Serving;
 use crate::who::Who;
 use disk_model::Disk;
 use file_ops::{FileArg, OP_ILLEGAL, OP_SEQUENCE, SequenceArgs};
-use file_server::{Ask, Caller, Gate, Progress};
+use file_server::{Caller, Progress};
 use nfs_base::{MOST_OPERATIONS, Status};
 use nfs_compound::{Compound, MINOR_VERSION, Op, Tail};
 use outcome::Mem;
@@ -86,7 +86,7 @@ impl<D: Disk, X> Server<D, X> {
             who,
             principal,
             carry,
-            tag,
+            tag.as_slice(),
             count,
             ops.into_vec(),
             tail,
@@ -149,33 +149,39 @@ impl<D: Disk, X> Server<D, X> {
         who: &Who,
         principal: &[u8],
         carry: &Option<C>,
-        tag: Octets,
+        tag: &[u8],
         count: u32,
         mut ops: Vec<Op>,
         tail: Tail,
     ) -> Mem<Reply>
     where
         X: Serving<C>,
-        requires tag { length tag ≤ TEXT_LIMIT }
+        requires tag { length tag.now ≤ TEXT_LIMIT }
         requires few { length ops.items ≤ MOST_OPERATIONS }
         requires numbered { numbers_made self.old.sessions < 2 ^ 32 - 1 }
         requires opens { self.old.files.opens.made + MOST_OPERATIONS < 2 ^ 32 }
         requires own { X.given self.old.files.extra + MOST_OPERATIONS < 2 ^ 32 }
-        ensures gives { D.Told → IfOk result (λ told. Gives (λ choice. by_first (record { gate = X.gated; serve = X.serves }) (record { leave = X.leaves; lapse = X.lapses }) choice who.now principal.now carry.now tag count ops.items tail (with_own (X.lapses who.now.second self.old.files.extra) (state_of D.size self.old))) (state_of D.size self.new) told.used told.body) }
+        ensures gives { D.Told → IfOk result (λ told. Gives (λ choice. by_first (record { gate = X.gated; serve = X.serves }) (record { leave = X.leaves; lapse = X.lapses }) choice who.now principal.now carry.now tag.now count ops.items tail (with_own (X.lapses who.now.second self.old.files.extra) (state_of D.size self.old))) (state_of D.size self.new) told.used told.body) }
         ensures short { IfOk result (λ told. length told.body ≤ MOST_REPLY) }
         ensures ran { IfOk result (λ told. Counted D.Told (seat_of D.size D.fuse D.timeline D.faults self.old.files.volume) (seat_of D.size D.fuse D.timeline D.faults self.new.files.volume) [] told.used) }
         ensures err { OnErr result (self.new ≡ self.old) }
         ensures counted { IsCounted X.given X.landed self.old self.new }
     {
         if ops.is_empty() {
-            return self.at_tail(alloc, who, tag.as_slice(), tail);
+            return self.at_tail(alloc, who, tag, tail);
         }
         let first = ops.remove(0);
         match &first {
             Op::File(FileArg::Sequence(args)) => {
-                self.on_sequence(alloc, who, carry, tag, args, ops, tail)
+                let told = self.on_sequence(alloc, who, carry, tag, args, ops, tail);
+                drop(first);
+                told
             }
-            _ => self.outside_session(alloc, who, principal, carry, tag.as_slice(), count, &first),
+            _ => {
+                let told = self.outside_session(alloc, who, principal, carry, tag, count, &first);
+                drop(first);
+                told
+            }
         }
     }
 
@@ -280,15 +286,7 @@ impl<D: Disk, X> Server<D, X> {
             context: who.context,
             second: who.second,
         };
-        match self
-            .files
-            .extra
-            .gate(&caller, carry, &Ask::Operation { number: op })
-        {
-            Gate::Refuse(status) => Some(status),
-            Gate::Serve => None,
-            Gate::Usual => None,
-        }
+        self.gate_refusal(&caller, carry, op)
     }
 
     #[tactic(auto, unfolding(crate::specs::Compounds::sequence))]
@@ -297,52 +295,33 @@ impl<D: Disk, X> Server<D, X> {
         alloc: Global,
         who: &Who,
         carry: &Option<C>,
-        tag: Octets,
+        tag: &[u8],
         args: &SequenceArgs,
         ops: Vec<Op>,
         tail: Tail,
     ) -> Mem<Reply>
     where
         X: Serving<C>,
-        requires tag { length tag ≤ TEXT_LIMIT }
+        requires tag { length tag.now ≤ TEXT_LIMIT }
         requires few { length ops.items < MOST_OPERATIONS }
         requires opens { self.old.files.opens.made + MOST_OPERATIONS < 2 ^ 32 }
         requires own { X.given self.old.files.extra + MOST_OPERATIONS < 2 ^ 32 }
-        ensures gives { D.Told → IfOk result (λ told. Gives (λ choice. sequence (record { gate = X.gated; serve = X.serves }) choice who.now carry.now tag args.now ops.items tail (with_own (X.lapses who.now.second self.old.files.extra) (state_of D.size self.old))) (state_of D.size self.new) told.used told.body) }
+        ensures gives { D.Told → IfOk result (λ told. Gives (λ choice. sequence (record { gate = X.gated; serve = X.serves }) choice who.now carry.now tag.now args.now ops.items tail (with_own (X.lapses who.now.second self.old.files.extra) (state_of D.size self.old))) (state_of D.size self.new) told.used told.body) }
         ensures short { IfOk result (λ told. length told.body ≤ MOST_REPLY) }
         ensures ran { IfOk result (λ told. Counted D.Told (seat_of D.size D.fuse D.timeline D.faults self.old.files.volume) (seat_of D.size D.fuse D.timeline D.faults self.new.files.volume) [] told.used) }
         ensures err { OnErr result (self.new ≡ self.old) }
         ensures counted { IsCounted X.given X.landed self.old self.new }
     {
-        let tag_bytes = tag.as_slice();
         match self
             .sessions
             .begin(&args.session, args.slot, args.sequence, who.root)
         {
-            Begin::New(place) => self.execute(alloc, who, place, carry, tag_bytes, args, ops, tail),
+            Begin::New(place) => self.execute(alloc, who, place, carry, tag, args, ops, tail),
             Begin::Replay(place) => self.replay(alloc, who, place),
-            Begin::FalseRetry => self.refuse(
-                alloc,
-                who,
-                tag_bytes,
-                OP_SEQUENCE,
-                Status::SEQ_FALSE_RETRY,
-            ),
-            Begin::BadSession => self.refuse(
-                alloc,
-                who,
-                tag_bytes,
-                OP_SEQUENCE,
-                Status::BADSESSION,
-            ),
-            Begin::BadSlot => self.refuse(alloc, who, tag_bytes, OP_SEQUENCE, Status::BADSLOT),
-            Begin::Misordered => self.refuse(
-                alloc,
-                who,
-                tag_bytes,
-                OP_SEQUENCE,
-                Status::SEQ_MISORDERED,
-            ),
+            Begin::FalseRetry => self.refuse(alloc, who, tag, OP_SEQUENCE, Status::SEQ_FALSE_RETRY),
+            Begin::BadSession => self.refuse(alloc, who, tag, OP_SEQUENCE, Status::BADSESSION),
+            Begin::BadSlot => self.refuse(alloc, who, tag, OP_SEQUENCE, Status::BADSLOT),
+            Begin::Misordered => self.refuse(alloc, who, tag, OP_SEQUENCE, Status::SEQ_MISORDERED),
         }
     }
 
@@ -390,10 +369,10 @@ impl<D: Disk, X> Server<D, X> {
         ensures err { OnErr result (self.new ≡ self.old) }
         ensures counted { IsCounted X.given X.landed self.old self.new }
     {
-        let prepared = prepare(alloc, &self.files.extra, carry, ops)?;
-        let p = Progress::new(alloc, MOST_OPERATIONS)?;
         let body = Page::new(alloc, MOST_REPLY)?;
         let kept = Page::new(alloc, MOST_REPLY)?;
+        let p = Progress::new(alloc, MOST_OPERATIONS)?;
+        let prepared = prepare(alloc, &self.files.extra, carry, ops)?;
         self.files.extra.lapse(who.second);
         let client = self.sessions.client_of(place);
         let caller = Caller {

@@ -2,11 +2,11 @@
 
 ghost use Rattle.std.specs.Prelude.{◌≡◌, ◌+◌, ◌-◌, ◌^◌, ◌<◌, ◌≤◌};
 ghost use Rattle.file_server.specs.Answering.{Ready, Keeps};
+ghost use Rattle.file_server.specs.declared.extension.Ask.TheVariants.{Operation};
 ghost use Rattle.server_volume.specs.Moments.{Counted};
 ghost use Rattle.server_volume.specs.Store.{seat_of};
 ghost use Rattle.compound_server.specs.Course.{Performs, course_of};
-ghost use Rattle.compound_server.specs.Performing.{perform, gated, done, file_done, asks_later};
-ghost use Rattle.nfs_compound.specs.Ops.{op_number};
+ghost use Rattle.compound_server.specs.Performing.{perform, file_done, asks_later, gate_refusal, op_refusal};
 ghost use Rattle.compound_server.specs.Preparing.{op_of, IsSuited};
 ghost use Rattle.compound_server.specs.State.{AreCounted};
 
@@ -45,68 +45,52 @@ impl<D: Disk, X> Server<D, X> {
         ensures counted { AreCounted X.given X.landed 1 self.old self.new }
     {
         let op = one.number();
-        match place_refusal(op) {
-            Some(status) => p.refuse(op, status),
-            None => self.gated(caller, carry, next, one, p),
+        if let Some(status) = self.refusal(caller, carry, op) {
+            drop(one);
+            return p.refuse(op, status);
+        }
+        match one {
+            Prepared::File(arg) => self.file_done(caller, carry, next, arg, p),
+            Prepared::Copy { op, room } => X::serve(&mut self.files, caller, carry, op, room, p),
         }
     }
 
-    fn gated<C>(
+    /// Why an operation isn't evaluated: where it stands, and then what the extension says of it.
+    fn refusal<C>(&mut self, caller: &Caller, carry: &Option<C>, op: u32) -> Option<Status>
+    where
+        X: Serving<C>,
+        ensures refusal { result ≡ op_refusal (record { gate = X.gated; serve = X.serves }) caller.now carry.now op self.old.files.extra }
+        ensures same { self.new ≡ self.old }
+    {
+        if let Some(status) = place_refusal(op) {
+            return Some(status);
+        }
+        if asks_later(op) {
+            return None;
+        }
+        self.gate_refusal(caller, carry, op)
+    }
+
+    /// Why the extension lets an operation not go on.
+    pub(crate) fn gate_refusal<C>(
         &mut self,
         caller: &Caller,
         carry: &Option<C>,
-        next: Option<u32>,
-        one: Prepared<X::Room>,
-        p: &mut Progress,
-    ) -> Status
+        op: u32,
+    ) -> Option<Status>
     where
         X: Serving<C>,
-        requires ready { Ready p.old 1 }
-        requires suited { IsSuited X.suits carry.now one }
-        requires opens { self.old.files.opens.made < 2 ^ 32 - 1 }
-        requires given { X.given self.old.files.extra < 2 ^ 32 - 1 }
-        ensures performs { D.Told → Performs (λ choice. gated (asks_later (op_number (op_of one))) (record { gate = X.gated; serve = X.serves }) choice caller.now carry.now next (op_of one) (course_of D.size self.old p.old)) p.old.page.bytes (course_of D.size self.new p.new) p.new.page.bytes result.number }
-        ensures keeps { Keeps p.old p.new }
-        ensures ran { Counted D.Told (seat_of D.size D.fuse D.timeline D.faults self.old.files.volume) (seat_of D.size D.fuse D.timeline D.faults self.new.files.volume) p.old.used p.new.used }
-        ensures counted { AreCounted X.given X.landed 1 self.old self.new }
+        ensures refusal { result ≡ gate_refusal (X.gated self.old.files.extra caller.now carry.now (Operation op)).1 }
+        ensures same { self.new ≡ self.old }
     {
-        let op = one.number();
-        if asks_later(op) {
-            return self.done(caller, carry, next, one, p);
-        }
         match self
             .files
             .extra
             .gate(caller, carry, &Ask::Operation { number: op })
         {
-            Gate::Refuse(status) => p.refuse(op, status),
-            Gate::Serve => self.done(caller, carry, next, one, p),
-            Gate::Usual => self.done(caller, carry, next, one, p),
-        }
-    }
-
-    fn done<C>(
-        &mut self,
-        caller: &Caller,
-        carry: &Option<C>,
-        next: Option<u32>,
-        one: Prepared<X::Room>,
-        p: &mut Progress,
-    ) -> Status
-    where
-        X: Serving<C>,
-        requires ready { Ready p.old 1 }
-        requires suited { IsSuited X.suits carry.now one }
-        requires opens { self.old.files.opens.made < 2 ^ 32 - 1 }
-        requires given { X.given self.old.files.extra < 2 ^ 32 - 1 }
-        ensures performs { D.Told → Performs (λ choice. done (record { gate = X.gated; serve = X.serves }) choice caller.now carry.now next (op_of one) (course_of D.size self.old p.old)) p.old.page.bytes (course_of D.size self.new p.new) p.new.page.bytes result.number }
-        ensures keeps { Keeps p.old p.new }
-        ensures ran { Counted D.Told (seat_of D.size D.fuse D.timeline D.faults self.old.files.volume) (seat_of D.size D.fuse D.timeline D.faults self.new.files.volume) p.old.used p.new.used }
-        ensures counted { AreCounted X.given X.landed 1 self.old self.new }
-    {
-        match one {
-            Prepared::File(arg) => self.file_done(caller, carry, next, arg, p),
-            Prepared::Copy { op, room } => X::serve(&mut self.files, caller, carry, op, room, p),
+            Gate::Refuse(status) => Some(status),
+            Gate::Serve => None,
+            Gate::Usual => None,
         }
     }
 
@@ -149,8 +133,14 @@ impl<D: Disk, X> Server<D, X> {
                 p.refuse(OP_RECLAIM_COMPLETE, status)
             }
             FileArg::Illegal => p.refuse(OP_ILLEGAL, Status::OP_ILLEGAL),
-            FileArg::ExchangeId(_) => p.refuse(OP_EXCHANGE_ID, Status::NOT_ONLY_OP),
-            FileArg::CreateSession(_) => p.refuse(OP_CREATE_SESSION, Status::NOT_ONLY_OP),
+            FileArg::ExchangeId(args) => {
+                drop(args);
+                p.refuse(OP_EXCHANGE_ID, Status::NOT_ONLY_OP)
+            }
+            FileArg::CreateSession(args) => {
+                drop(args);
+                p.refuse(OP_CREATE_SESSION, Status::NOT_ONLY_OP)
+            }
             FileArg::DestroySession(_) => p.refuse(OP_DESTROY_SESSION, Status::NOT_ONLY_OP),
             FileArg::Sequence(_) => p.refuse(OP_SEQUENCE, Status::SEQUENCE_POS),
             FileArg::DestroyClientId(_) => p.refuse(OP_DESTROY_CLIENTID, Status::NOT_ONLY_OP),

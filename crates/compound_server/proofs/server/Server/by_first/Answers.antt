@@ -18,7 +18,7 @@ returns-then-is_empty-clause-ran g c =
 
 pub returns-in_default-clause-ran : goal.returns-in_default-clause-ran
 returns-in_default-clause-ran g c =
-    ran_told g.D.Disk.Told g.D.Disk.size c.outside_session.new.self c.outside_session.result _ _ _ c.outside_session.ensures.gives (outside_used _ _ _ _ _ _ _ _ _) (ap (seat_of g.D.Disk.size g.D.Disk.fuse g.D.Disk.timeline g.D.Disk.faults) c.outside_session.ensures.volume)
+    ran_told g.D.Disk.Told g.D.Disk.size c.outside_session-told.new.self c.outside_session-told.result _ _ _ c.outside_session-told.ensures.gives (outside_used _ _ _ _ _ _ _ _ _) (ap (seat_of g.D.Disk.size g.D.Disk.fuse g.D.Disk.timeline g.D.Disk.faults) c.outside_session-told.ensures.volume)
 
 pub returns-in_default-clause-gives : goal.returns-in_default-clause-gives
 returns-in_default-clause-gives g c told =
@@ -35,8 +35,8 @@ returns-in_default-clause-gives g c told =
           search rules
       | in_default-via-in_default w ↦ λ a e. absurd (cc (sym w.in_default.is ∙ e))
     ] in
-    gives_at g.D.Disk.size c.outside_session.new.self c.outside_session.result _ _
-    (λ choice. outside_first s parting choice c.args.who.now c.args.principal.now c.args.carry.now c.args.tag c.as_slice-in_default.result.now c.args.count c.remove-first.result
+    gives_at g.D.Disk.size c.outside_session-told.new.self c.outside_session-told.result _ _
+    (λ choice. outside_first s parting choice c.args.who.now c.args.principal.now c.args.carry.now c.args.tag.now c.args.tag.now c.args.count c.remove-first.result
     c.args.ops.items c.remove-first.new.self.items c.args.tail (with_own (g.X.Serving.lapses c.args.who.now.second c.args.self.now.files.extra) (state_of g.D.Disk.size c.args.self.now))
-    other taken c.as_slice-in_default.ensures)
-    c.outside_session.ensures.gives
+    other taken refl)
+    c.outside_session-told.ensures.gives

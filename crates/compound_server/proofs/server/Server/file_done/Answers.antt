@@ -146,14 +146,14 @@ returns-in-Sequence-clause-performs g c = λ told choice agrees.
 pub returns-in-Sequence-clause-ran : goal.returns-in-Sequence-clause-ran
 returns-in-Sequence-clause-ran g c = ran_still c.refuse-in-Sequence.ensures.says.used
 
-pub returns-clause-performs : goal.returns-clause-performs
+pub returns-in-DestroyClientId-clause-performs : goal.returns-in-DestroyClientId-clause-performs
 unfolding file_done
-returns-clause-performs g c = λ told choice agrees.
+returns-in-DestroyClientId-clause-performs g c = λ told choice agrees.
     refuses_known (record { gate = g.X.Extension.gated; serve = g.X.Serving.serves }) choice c.args.caller.now c.args.carry.now c.args.next (machine_of g.D.Disk.size c.args.self.now.files) c.args.self.now.sessions c.args.p.now OP_DESTROY_CLIENTID statuses.NOT_ONLY_OP
     c.in-DestroyClientId.is c.refuse-in-DestroyClientId.ensures.says c.refuse-in-DestroyClientId.ensures.status refl
 
-pub returns-clause-ran : goal.returns-clause-ran
-returns-clause-ran g c = ran_still c.refuse-in-DestroyClientId.ensures.says.used
+pub returns-in-DestroyClientId-clause-ran : goal.returns-in-DestroyClientId-clause-ran
+returns-in-DestroyClientId-clause-ran g c = ran_still c.refuse-in-DestroyClientId.ensures.says.used
 
 -- ---- RECLAIM_COMPLETE
 

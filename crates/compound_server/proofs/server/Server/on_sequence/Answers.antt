@@ -24,6 +24,6 @@ returns-in-BadSlot-clause-ran g c =
     ran_told g.D.Disk.Told g.D.Disk.size c.refuse-in-BadSlot.new.self c.refuse-in-BadSlot.result _ _ _ c.refuse-in-BadSlot.ensures.gives refl (ap (seat_of g.D.Disk.size g.D.Disk.fuse g.D.Disk.timeline g.D.Disk.faults) c.refuse-in-BadSlot.ensures.volume)
 
 -- src/compounds.rt:275:5
-pub returns-clause-ran : goal.returns-clause-ran
-returns-clause-ran g c =
+pub returns-in-Misordered-clause-ran : goal.returns-in-Misordered-clause-ran
+returns-in-Misordered-clause-ran g c =
     ran_told g.D.Disk.Told g.D.Disk.size c.refuse-in-Misordered.new.self c.refuse-in-Misordered.result _ _ _ c.refuse-in-Misordered.ensures.gives refl (ap (seat_of g.D.Disk.size g.D.Disk.fuse g.D.Disk.timeline g.D.Disk.faults) c.refuse-in-Misordered.ensures.volume)
