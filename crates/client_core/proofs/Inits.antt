@@ -6,6 +6,7 @@ use Rattle.gss_ctx.specs.Seals.{Mic}
 use Rattle.gss_ctx.specs.Table.{ContextTable}
 use Rattle.gss_mech.specs.declared.mechanism.Accepted.{Accepted}
 use Rattle.nfs_base.specs.declared.side.Side.{Side}
+use Rattle.outbox.specs.Outboxes.{one_reply, undrawn_outbox}
 use Rattle.outbox.specs.declared.label.CallLabel.TheVariants as calls
 use Rattle.outbox.specs.declared.label.Label.TheVariants as labels
 use Rattle.outbox.specs.declared.outgoing.Outbox.{Outbox}
@@ -13,8 +14,7 @@ use Rattle.rpc_calls.specs.Making.{AnswersInit, made_seal}
 use Rattle.rpc_calls.specs.declared.call.Call.{Call}
 use Rattle.rpc_calls.specs.declared.contexts.InitAnswer.{InitAnswer}
 use Rattle.streams.specs.declared.draws.Drawn.{Drawn}
-use Rattle.client_core.specs.Calls.{IsInit, one_reply}
-use Rattle.client_core.specs.Endings.{undrawn_outbox}
+use Rattle.client_core.specs.Calls.{IsInit}
 use Rattle.client_core.specs.State.{ClientState}
 use Rattle.client_core.proofs.Made.{init_same}
 

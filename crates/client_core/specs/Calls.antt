@@ -1,7 +1,7 @@
 -- What a client answers to calls of its callback program other than CB_COMPOUND (RFC 5531 section 9, RFC 2203 section 5,
 -- RFC 7861 section 2.7, RFC 8881 section 20.1). Only the contexts and the second change.
 use Rattle.std.specs.Prelude.{ℕ, ◌≡◌, ◌+◌, Bool, true, false, replicate, List, [], ◌∷◌, Option, Some, None, Result, Ok, Err}
-use Rattle.client_steps.specs.Desks.{going, no_outbox}
+use Rattle.client_steps.specs.Desks.{going}
 use Rattle.copy_privs.specs.declared.fault.PrivFault.{PrivFault}
 use Rattle.copy_privs.specs.declared.fault.PrivFault.TheVariants.{UnknownName, BadXdr}
 use Rattle.copy_privs.specs.declared.privilege.Privilege.{Privilege}
@@ -13,6 +13,7 @@ use Rattle.gss_mech.specs.declared.mechanism.Accepted.{Accepted}
 use Rattle.nfs_base.specs.declared.cause.PrivCause.TheVariants.{Unknown}
 use Rattle.nfs_base.specs.declared.seal.Seal.{Seal}
 use Rattle.nfs_base.specs.declared.side.Side.{Side}
+use Rattle.outbox.specs.Outboxes.{one_reply, silence}
 use Rattle.outbox.specs.declared.label.CallLabel.TheVariants as calls
 use Rattle.outbox.specs.declared.label.Label.{Label}
 use Rattle.outbox.specs.declared.label.Label.TheVariants as labels
@@ -55,12 +56,6 @@ fault_label failure = labels.Fault (number_of stat_case failure)
 
 abbrev pub resting : {M : Type 0} → ℕ → ContextTable ℕ → ClientState M → ClientState M
 resting second back c = record c { second = second; back = back; steps = c.steps + 1 }
-
-abbrev pub silence : Note → Outbox
-silence note = record no_outbox { notes = note ∷ [] }
-
-abbrev pub one_reply : Option Seal → Outgoing → Outbox
-one_reply accepted reply = record no_outbox { sent = reply ∷ []; accepted = accepted }
 
 -- nothing goes out
 abbrev pub dropping : {M : Type 0} → ℕ → ContextTable ℕ → Dropped → ClientState M → ClientState M × Outbox

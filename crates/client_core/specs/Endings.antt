@@ -1,12 +1,12 @@
 -- How a step of a client begins and ends.
-use Rattle.std.specs.Prelude.{ℕ, ◌≡◌, ◌+◌, true, false, List, [], Option, Some, None}
+use Rattle.std.specs.Prelude.{ℕ, ◌≡◌, ◌+◌, false, List, [], Option, Some, None}
 use Rattle.streams.specs.declared.draws.Drawn.{Drawn}
 use Rattle.gss_ctx.specs.Table.{ContextTable}
 use Rattle.gss_mech.specs.declared.mechanism.Accepted.{Accepted}
 use Rattle.mount.specs.Taking.{Means}
+use Rattle.outbox.specs.Outboxes.{no_outbox, undrawn_outbox}
 use Rattle.outbox.specs.declared.outgoing.Outbox.{Outbox}
 use Rattle.client_steps.specs.Acting.{Acting, GoesOn}
-use Rattle.client_steps.specs.Desks.{no_outbox}
 use Rattle.client_steps.specs.declared.desk.Desk.{Desk}
 use Rattle.client_steps.specs.declared.setting.Setting.{Setting}
 use Rattle.client_core.specs.Backs.{backs_ended}
@@ -63,9 +63,6 @@ settled a back c = record c {
 }
 
 -- where a draw failed, nothing is sent or told, and nothing changes but the count of steps
-abbrev pub undrawn_outbox : Outbox
-undrawn_outbox = record no_outbox { undrawn = true }
-
 abbrev pub undrawn : {M : Type 0} → ClientState M → ClientState M × Outbox
 undrawn c = (stepped c, undrawn_outbox)
 

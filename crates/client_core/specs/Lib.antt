@@ -5,6 +5,5 @@ pub mod Commands
 pub mod Endings
 pub mod Parts
 pub mod Records
-pub mod Room
 pub mod State
 pub mod Telling

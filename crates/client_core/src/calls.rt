@@ -13,12 +13,11 @@ ghost use Rattle.client_core.specs.declared.client.TheConstants.{MOST_STEPS};
 
 use crate::client::Client;
 use crate::labels::{denial_label, done, drop_cause, fault_label, going, reply_seal};
-use crate::room::Room;
 use copy_privs::{PrivFault, read_privilege};
 use gss_ctx::Why;
 use gss_mech::Mechanism;
 use nfs_base::{PrivCause, Side};
-use outbox::{CallLabel, Label, Note, Outbox};
+use outbox::{CallLabel, Label, Note, Outbox, Room};
 use outcome::Mem;
 use rpc_calls::{
     Call, RPCSEC_GSS_PRIVILEGE_PROBLEM, What, answer_destroy, answer_init, answer_null, count,

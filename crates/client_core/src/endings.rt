@@ -3,7 +3,6 @@
 ghost use Rattle.std.specs.Prelude.{◌≡◌, ◌<◌, ◌≤◌, true, None, IfOk, OnErr};
 ghost use Rattle.outcome.specs.Causes.{Rose};
 ghost use Rattle.client_steps.specs.Acting.{GoesOn};
-ghost use Rattle.client_steps.specs.Desks.{no_outbox};
 ghost use Rattle.client_core.specs.Backs as backs;
 ghost use Rattle.client_core.specs.Endings as spec;
 ghost use Rattle.client_core.specs.Parts as parts;
@@ -11,11 +10,10 @@ ghost use Rattle.client_core.specs.State as state;
 ghost use Rattle.client_core.specs.declared.client.TheConstants.{MOST_STEPS};
 
 use crate::client::Client;
-use crate::room::Room;
 use client_steps::{Course, Desk};
 use gss_ctx::Contexts;
 use gss_mech::Mechanism;
-use outbox::{CallList, NoteList, Outbox};
+use outbox::{Outbox, Room};
 use outcome::Mem;
 use std::alloc::Global;
 use streams::Draws;
@@ -45,7 +43,7 @@ impl<M> Client<M> {
     fn desk(&self, alloc: Global, now: u64) -> Mem<Desk>
         ensures { IfOk result (λ desk. desk ≡ spec.desk_at now self.now) }
     {
-        let out = empty_outbox(alloc)?;
+        let out = Outbox::new(alloc)?;
         let copies = self.copies.copy_all(alloc)?;
         let source = self.source.copy(alloc)?;
         Ok(Desk {
@@ -181,17 +179,4 @@ fn end_backs(back: &mut Contexts<u32>, numbers: &[u32])
             end_backs(back, more);
         }
     }
-}
-
-/// The outbox of a step that gave nothing yet.
-fn empty_outbox(alloc: Global) -> Mem<Outbox>
-    ensures { IfOk result (λ out. out ≡ no_outbox) }
-{
-    Ok(Outbox {
-        sent: Items::new(alloc),
-        notes: NoteList::new(alloc)?,
-        accepted: None,
-        used: CallList::new(alloc)?,
-        undrawn: false,
-    })
 }

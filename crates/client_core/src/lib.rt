@@ -16,6 +16,5 @@ mod commands;
 mod endings;
 mod labels;
 mod records;
-mod room;
 
 pub use client::{Client, MOST_STEPS};

@@ -14,11 +14,10 @@ ghost use Rattle.client_core.specs.declared.client.TheConstants.{MOST_STEPS};
 
 use crate::backs::{add_back, free_number};
 use crate::client::Client;
-use crate::room::Room;
 use client_steps::Course;
 use gss_mech::Mechanism;
 use nfs_base::Side;
-use outbox::{Dropped, Note, Outbox};
+use outbox::{Dropped, Note, Outbox, Room};
 use outcome::Mem;
 use rpc_calls::{Judged, Program, judge};
 use std::alloc::Global;

@@ -1,5 +1,5 @@
 -- What a step of a client works on, and what it gives: the two servers, the copies, the count of calls, and the outbox.
-use Rattle.std.specs.Prelude.{ℕ, ◌+◌, Bool, true, false, min, is_some, List, [], ◌∷◌, ◌++◌, Option, Some, None}
+use Rattle.std.specs.Prelude.{ℕ, ◌+◌, Bool, true, min, is_some, List, [], ◌∷◌, ◌++◌, Option, Some, None}
 use Rattle.nfs_base.specs.declared.seal.Seal.{Seal}
 use Rattle.nfs_base.specs.declared.side.Side.{Side}
 use Rattle.nfs_base.specs.declared.side.Side.TheVariants.{Source, Dest}
@@ -19,13 +19,9 @@ use Rattle.outbox.specs.declared.label.Label.{Label}
 use Rattle.outbox.specs.declared.label.Label.TheVariants as labels
 use Rattle.outbox.specs.declared.note.Note.{Note}
 use Rattle.outbox.specs.declared.note.Note.TheVariants as notes
-use Rattle.outbox.specs.declared.outgoing.Outbox.{Outbox}
 use Rattle.outbox.specs.declared.outgoing.Outgoing.{Outgoing}
 use Rattle.outbox.specs.declared.outgoing.To.TheVariants.{Server}
 use Rattle.client_steps.specs.declared.desk.Desk.{Desk}
-
-abbrev pub no_outbox : Outbox
-no_outbox = record { sent = []; notes = []; accepted = None; used = []; undrawn = false }
 
 -- ---- the servers
 

@@ -1,7 +1,12 @@
+ghost use Rattle.std.specs.Prelude.{◌≡◌, IfOk};
+ghost use Rattle.outbox.specs.Outboxes.{no_outbox};
+
 use crate::label::Label;
 use crate::note::NoteList;
 use nfs_base::{End, Seal};
+use outcome::Mem;
 use server_volume::CallList;
+use std::alloc::Global;
 use wire_xdr::{Items, Octets};
 
 /// To whom a record goes.
@@ -46,4 +51,19 @@ pub struct Outbox {
 
     /// Whether a draw failed.
     pub undrawn: bool,
+}
+
+impl Outbox {
+    /// Nothing is sent, told or done.
+    pub fn new(alloc: Global) -> Mem<Outbox>
+        ensures { IfOk result (λ out. out ≡ no_outbox) }
+    {
+        Ok(Outbox {
+            sent: Items::new(alloc),
+            notes: NoteList::new(alloc)?,
+            accepted: None,
+            used: CallList::new(alloc)?,
+            undrawn: false,
+        })
+    }
 }

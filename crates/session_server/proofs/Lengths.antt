@@ -8,6 +8,7 @@ use Rattle.gss_ctx.specs.declared.context.Context.{Context}
 use Rattle.gss_mech.specs.Tokens.{IsSized}
 use Rattle.gss_mech.specs.declared.mechanism.TheConstants.{ACCEPTOR}
 use Rattle.nfs_base.specs.declared.seal.Seal.{Seal}
+use Rattle.outbox.specs.Outboxes.{one_reply}
 use Rattle.outbox.specs.declared.outgoing.Outbox.{Outbox}
 use Rattle.outbox.specs.declared.outgoing.Outgoing.{Outgoing}
 use Rattle.rpc_calls.specs.Answers.{denial_reply, failure_by, failure_reply, failure_with, plain_front, result_by, result_reply, result_with}
@@ -25,7 +26,6 @@ use Rattle.rpc_msg.specs.declared.reply.Stat.TheVariants.{Success, ProgUnavail, 
 use Rattle.wire_xdr.specs.LengthLaws.{opaque_length, padding_below, word_length}
 use Rattle.wire_xdr.specs.Words.{opaque_bytes, word_bytes}
 use Rattle.session_server.specs.Lengths.{AreShort, IsShort}
-use Rattle.session_server.specs.Steps.{one_reply}
 
 -- ---- heads
 

@@ -1,5 +1,5 @@
 pub mod Host
 pub mod Labels
-pub mod Room
+pub mod Leaving
 pub mod Steps
 pub mod Lengths

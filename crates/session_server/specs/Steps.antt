@@ -7,13 +7,14 @@ use Rattle.gss_mech.specs.declared.mechanism.Accepted.{Accepted}
 use Rattle.nfs_base.specs.declared.seal.Seal.{Seal}
 use Rattle.nfs_compound.specs.declared.compound.Compound.{Compound}
 use Rattle.nfs_compound.specs.Compounds.{compound_of}
+use Rattle.outbox.specs.Outboxes.{one_reply, silence}
+use Rattle.outbox.specs.declared.label.CallLabel.{CallLabel}
 use Rattle.outbox.specs.declared.label.CallLabel.TheVariants as calls
 use Rattle.outbox.specs.declared.label.Label.{Label}
 use Rattle.outbox.specs.declared.label.Label.TheVariants.{Reply}
 use Rattle.outbox.specs.declared.note.Dropped.TheVariants.{Unread, Unmatched}
 use Rattle.outbox.specs.declared.note.Note.{Note}
 use Rattle.outbox.specs.declared.note.Note.TheVariants as notes
-use Rattle.outbox.specs.declared.outgoing.Outbox.{Outbox}
 use Rattle.outbox.specs.declared.outgoing.Outgoing.{Outgoing}
 use Rattle.outbox.specs.declared.outgoing.To.TheVariants.{Conn}
 use Rattle.rpc_calls.specs.Answers.{accepted_seal, counted, denial_reply, ended, failure_reply, result_reply, seal_in}
@@ -37,6 +38,8 @@ use Rattle.streams.specs.declared.draws.Drawn.{Drawn}
 use Rattle.compound_server.specs.Compounds.{on_compound}
 use Rattle.compound_server.specs.State.{Given, Parting, State, with_own}
 use Rattle.compound_server.specs.declared.who.Who.{Who}
+use Rattle.session_server.specs.declared.empty.Empty.{Empty}
+use Rattle.session_server.specs.declared.empty.Empty.TheVariants as empties
 use Rattle.session_server.specs.declared.extending.Judgement.{Judgement}
 use Rattle.session_server.specs.declared.extending.Judgement.TheVariants as judgements
 use Rattle.session_server.specs.Host.{Codes, HostState, Rules, Stepped}
@@ -52,9 +55,6 @@ rested parting second contexts s = turned second contexts (with_own (parting.lap
 
 -- ---- records that are dropped
 
-abbrev pub silence : Note → Outbox
-silence note = record { sent = []; notes = note ∷ []; accepted = None; used = []; undrawn = false }
-
 abbrev pub dropped : {X C : Type 0} → Parting X → (second : ℕ) → ContextTable C → Note → HostState X C → Stepped X C
 dropped parting second contexts note s = record { host = rested parting second contexts s; out = silence note }
 
@@ -62,9 +62,6 @@ dropped parting second contexts note s = record { host = rested parting second c
 
 abbrev pub going_back : (conn : ℕ) → (bytes : List ℕ) → Option Seal → Label → Outgoing
 going_back conn bytes seal label = record { to = Conn conn; bytes = bytes; seal = seal; label = label }
-
-abbrev pub one_reply : Option Seal → Outgoing → Outbox
-one_reply accepted reply = record { sent = reply ∷ []; notes = []; accepted = accepted; used = []; undrawn = false }
 
 abbrev pub answered : {X C : Type 0} → Parting X → (second : ℕ) → ContextTable C → Call → Outgoing → HostState X C → Stepped X C
 answered parting second contexts call reply s =
@@ -91,13 +88,24 @@ result_back codes table conn call result label = going_back conn (result_reply c
 
 -- ---- NULL and DESTROY, which have no result
 
+abbrev pub empty_call : Empty → CallLabel
+empty_call empties.Null = calls.Null
+empty_call empties.Destroy = calls.Destroy
+
+-- DESTROY ends contexts
+abbrev pub empty_leaves : {C : Type 0} → Empty → (second : ℕ) → Call → ContextTable C → ContextTable C
+empty_leaves empties.Null second call table = counted second call table
+empty_leaves empties.Destroy second call table = ended second call table
+
+abbrev pub on_empty : {X C : Type 0} → Empty → Parting X → Codes → (second conn : ℕ) → Call → HostState X C → Stepped X C
+on_empty empty parting codes second conn call s =
+    answered parting second (empty_leaves empty second call s.contexts) call (result_back codes s.contexts conn call [] (Reply (empty_call empty) 0)) s
+
 abbrev pub on_null : {X C : Type 0} → Parting X → Codes → (second conn : ℕ) → Call → HostState X C → Stepped X C
-on_null parting codes second conn call s =
-    answered parting second (counted second call s.contexts) call (result_back codes s.contexts conn call [] (Reply calls.Null 0)) s
+on_null parting codes second conn call s = on_empty empties.Null parting codes second conn call s
 
 abbrev pub on_destroy : {X C : Type 0} → Parting X → Codes → (second conn : ℕ) → Call → HostState X C → Stepped X C
-on_destroy parting codes second conn call s =
-    answered parting second (ended second call s.contexts) call (result_back codes s.contexts conn call [] (Reply calls.Destroy 0)) s
+on_destroy parting codes second conn call s = on_empty empties.Destroy parting codes second conn call s
 
 -- ---- CREATE, by what the server says of the privilege
 

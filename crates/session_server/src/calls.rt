@@ -1,28 +1,28 @@
 //! Calls that aren't a COMPOUND, under a context or not.
 
-ghost use Rattle.std.specs.Prelude.{◌≡◌, ◌≢◌, ◌+◌, ◌<◌, ◌≤◌, ℕ, true, false, [], IfOk, OnErr};
+ghost use Rattle.std.specs.Prelude.{◌≡◌, ◌≢◌, ◌<◌, ◌≤◌, true, [], IfOk};
 ghost use Rattle.outcome.specs.Causes.{Rose};
 ghost use Rattle.rpc_msg.specs.Heads.{denial, stat};
 ghost use Rattle.rpc_calls.specs.Answers.{counted};
 ghost use Rattle.rpc_calls.specs.Judging.{HasSpelling, IsThere, MayHaveChild};
 ghost use Rattle.session_server.specs.declared.host.TheConstants.{MOST_STEPS};
-ghost use Rattle.session_server.specs.Host.{host_of, rules_of, stepped_of, IsCounted, KeepsOwn};
+ghost use Rattle.session_server.specs.Host.{host_of, rules_of, stepped_of, IsCounted};
 ghost use Rattle.session_server.specs.Labels.{drop_cause};
+ghost use Rattle.session_server.specs.Leaving.{IsStep, IsStill};
 ghost use Rattle.session_server.specs.Lengths.{AreShort};
-ghost use Rattle.session_server.specs.Steps.{IsInit, denied, dropped, failed, going_back, granted, on_create, on_destroy, on_null, reply_seal, with_note};
+ghost use Rattle.session_server.specs.Steps.{IsInit, denied, dropped, failed, going_back, granted, on_create, on_empty, reply_seal};
 
+use crate::empty::Empty;
 use crate::extending::{Extending, Judgement};
 use crate::host::Host;
 use crate::labels::{denial_label, drop_cause, fault_label};
-use crate::room::Room;
 use disk_model::Disk;
 use gss_ctx::{Contexts, Why};
 use nfs_base::Seal;
-use outbox::{CallLabel, Label, Note, Outbox, Outgoing, To};
+use outbox::{CallLabel, Label, Note, Outbox, Outgoing, Room, To};
 use outcome::Mem;
 use rpc_calls::{
-    Call, RPCSEC_GSS_PRIVILEGE_PROBLEM, answer_create, answer_destroy, answer_init, answer_null,
-    count, deny, fail,
+    Call, RPCSEC_GSS_PRIVILEGE_PROBLEM, answer_create, answer_init, count, deny, fail,
 };
 use rpc_msg::{Denial, Stat};
 use std::alloc::Global;
@@ -43,14 +43,9 @@ impl<D: Disk, X, C: Drop> Host<D, X, C> {
         requires few { self.old.steps < MOST_STEPS }
         requires counted { IsCounted X.given self.old }
         ensures is { IfOk result (λ out. stepped_of D.size self.new out ≡ dropped (record { leave = X.leaves; lapse = X.lapses }) second (counted second call.now self.old.contexts) (Note.Dropped (drop_cause why)) (host_of D.size self.old)) }
-        ensures volume { self.new.server.files.volume ≡ self.old.server.files.volume }
-        ensures unused { IfOk result (λ out. out.used ≡ []) }
+        ensures still { IsStill self.old self.new result }
         ensures short { IfOk result (λ out. AreShort out.sent) }
-        ensures drawn { IfOk result (λ out. out.undrawn ≡ false) }
-        ensures steps { IfOk result (λ _. self.new.steps ≡ self.old.steps + 1) }
-        ensures err { OnErr result (self.new ≡ self.old) }
-        ensures counted { IsCounted X.given self.new }
-        ensures own { KeepsOwn X.landed X.untold self.old self.new }
+        ensures step { IsStep X.given X.landed X.untold self.old self.new result }
     {
         let room = Room::new(alloc)?;
         count(&mut self.contexts, call, second);
@@ -74,14 +69,9 @@ impl<D: Disk, X, C: Drop> Host<D, X, C> {
         requires counted { IsCounted X.given self.old }
         requires fits { denial.Fits why }
         ensures is { IfOk result (λ out. stepped_of D.size self.new out ≡ denied (record { leave = X.leaves; lapse = X.lapses }) second conn call.now why (host_of D.size self.old)) }
-        ensures volume { self.new.server.files.volume ≡ self.old.server.files.volume }
-        ensures unused { IfOk result (λ out. out.used ≡ []) }
+        ensures still { IsStill self.old self.new result }
         ensures short { IfOk result (λ out. AreShort out.sent) }
-        ensures drawn { IfOk result (λ out. out.undrawn ≡ false) }
-        ensures steps { IfOk result (λ _. self.new.steps ≡ self.old.steps + 1) }
-        ensures err { OnErr result (self.new ≡ self.old) }
-        ensures counted { IsCounted X.given self.new }
-        ensures own { KeepsOwn X.landed X.untold self.old self.new }
+        ensures step { IsStep X.given X.landed X.untold self.old self.new result }
     {
         let room = Room::new(alloc)?;
         let accepted = call.accepted(&self.contexts);
@@ -107,14 +97,9 @@ impl<D: Disk, X, C: Drop> Host<D, X, C> {
         requires failed { failure ≢ Stat.Success }
         requires fits { stat.Fits failure }
         ensures is { IfOk result (λ out. stepped_of D.size self.new out ≡ failed (record { leave = X.leaves; lapse = X.lapses }) (record { mic = X.Mech.mic_of; derived = X.Mech.derived }) second conn call.now failure (host_of D.size self.old)) }
-        ensures volume { self.new.server.files.volume ≡ self.old.server.files.volume }
-        ensures unused { IfOk result (λ out. out.used ≡ []) }
+        ensures still { IsStill self.old self.new result }
         ensures short { IfOk result (λ out. AreShort out.sent) }
-        ensures drawn { IfOk result (λ out. out.undrawn ≡ false) }
-        ensures steps { IfOk result (λ _. self.new.steps ≡ self.old.steps + 1) }
-        ensures err { OnErr result (self.new ≡ self.old) }
-        ensures counted { IsCounted X.given self.new }
-        ensures own { KeepsOwn X.landed X.untold self.old self.new }
+        ensures step { IsStep X.given X.landed X.untold self.old self.new result }
     {
         let room = Room::new(alloc)?;
         let accepted = call.accepted(&self.contexts);
@@ -133,11 +118,13 @@ impl<D: Disk, X, C: Drop> Host<D, X, C> {
         ))
     }
 
-    pub(crate) fn on_null(
+    /// Answers a call without a result.
+    pub(crate) fn on_empty(
         &mut self,
         alloc: Global,
         conn: u32,
         call: &Call,
+        empty: Empty,
         second: u64,
     ) -> Mem<Outbox>
     where
@@ -146,20 +133,15 @@ impl<D: Disk, X, C: Drop> Host<D, X, C> {
         requires counted { IsCounted X.given self.old }
         requires head { HasSpelling call.now }
         requires there { IsThere self.old.contexts call.now }
-        ensures is { IfOk result (λ out. stepped_of D.size self.new out ≡ on_null (record { leave = X.leaves; lapse = X.lapses }) (record { mic = X.Mech.mic_of; derived = X.Mech.derived }) second conn call.now (host_of D.size self.old)) }
-        ensures volume { self.new.server.files.volume ≡ self.old.server.files.volume }
-        ensures unused { IfOk result (λ out. out.used ≡ []) }
+        ensures is { IfOk result (λ out. stepped_of D.size self.new out ≡ on_empty empty (record { leave = X.leaves; lapse = X.lapses }) (record { mic = X.Mech.mic_of; derived = X.Mech.derived }) second conn call.now (host_of D.size self.old)) }
+        ensures still { IsStill self.old self.new result }
         ensures short { IfOk result (λ out. AreShort out.sent) }
-        ensures drawn { IfOk result (λ out. out.undrawn ≡ false) }
-        ensures steps { IfOk result (λ _. self.new.steps ≡ self.old.steps + 1) }
-        ensures err { OnErr result (self.new ≡ self.old) }
-        ensures counted { IsCounted X.given self.new }
-        ensures own { KeepsOwn X.landed X.untold self.old self.new }
+        ensures step { IsStep X.given X.landed X.untold self.old self.new result }
     {
         let room = Room::new(alloc)?;
         let accepted = call.accepted(&self.contexts);
         let seal = reply_seal(&self.contexts, call);
-        let bytes = answer_null(
+        let bytes = empty.answer(
             &mut self.contexts,
             alloc,
             call,
@@ -167,50 +149,7 @@ impl<D: Disk, X, C: Drop> Host<D, X, C> {
             self.server.files.extra.mech(),
         )?;
         self.rest(second);
-        Ok(room.one_reply(
-            accepted,
-            going_back(conn, bytes, seal, done(CallLabel::Null)),
-        ))
-    }
-
-    pub(crate) fn on_destroy(
-        &mut self,
-        alloc: Global,
-        conn: u32,
-        call: &Call,
-        second: u64,
-    ) -> Mem<Outbox>
-    where
-        X: Extending<C>,
-        requires few { self.old.steps < MOST_STEPS }
-        requires counted { IsCounted X.given self.old }
-        requires head { HasSpelling call.now }
-        requires there { IsThere self.old.contexts call.now }
-        ensures is { IfOk result (λ out. stepped_of D.size self.new out ≡ on_destroy (record { leave = X.leaves; lapse = X.lapses }) (record { mic = X.Mech.mic_of; derived = X.Mech.derived }) second conn call.now (host_of D.size self.old)) }
-        ensures volume { self.new.server.files.volume ≡ self.old.server.files.volume }
-        ensures unused { IfOk result (λ out. out.used ≡ []) }
-        ensures short { IfOk result (λ out. AreShort out.sent) }
-        ensures drawn { IfOk result (λ out. out.undrawn ≡ false) }
-        ensures steps { IfOk result (λ _. self.new.steps ≡ self.old.steps + 1) }
-        ensures err { OnErr result (self.new ≡ self.old) }
-        ensures counted { IsCounted X.given self.new }
-        ensures own { KeepsOwn X.landed X.untold self.old self.new }
-    {
-        let room = Room::new(alloc)?;
-        let accepted = call.accepted(&self.contexts);
-        let seal = reply_seal(&self.contexts, call);
-        let bytes = answer_destroy(
-            &mut self.contexts,
-            alloc,
-            call,
-            second,
-            self.server.files.extra.mech(),
-        )?;
-        self.rest(second);
-        Ok(room.one_reply(
-            accepted,
-            going_back(conn, bytes, seal, done(CallLabel::Destroy)),
-        ))
+        Ok(room.one_reply(accepted, going_back(conn, bytes, seal, empty.label())))
     }
 
     pub(crate) fn on_init<W: Draws>(
@@ -230,10 +169,7 @@ impl<D: Disk, X, C: Drop> Host<D, X, C> {
         ensures volume { self.new.server.files.volume ≡ self.old.server.files.volume }
         ensures unused { IfOk result (λ out. out.used ≡ []) }
         ensures short { IfOk result (λ out. AreShort out.sent) }
-        ensures steps { IfOk result (λ _. self.new.steps ≡ self.old.steps + 1) }
-        ensures err { OnErr result (self.new ≡ self.old) }
-        ensures counted { IsCounted X.given self.new }
-        ensures own { KeepsOwn X.landed X.untold self.old self.new }
+        ensures step { IsStep X.given X.landed X.untold self.old self.new result }
         ensures later { W.faults draws.old ≤ W.faults draws.new }
         ensures undrawn { IfOk result (λ out. out.undrawn ≡ true → Rose (W.faults draws.old) (W.faults draws.new)) }
         ensures failing { W.failing draws.new ≡ W.failing draws.old }
@@ -278,14 +214,9 @@ impl<D: Disk, X, C: Drop> Host<D, X, C> {
         requires there { IsThere self.old.contexts call.now }
         requires parent { MayHaveChild self.old.contexts call.now }
         ensures is { IfOk result (λ out. stepped_of D.size self.new out ≡ on_create (rules_of X.gated X.serves X.leaves X.lapses X.judges X.tells X.silent) (record { mic = X.Mech.mic_of; derived = X.Mech.derived }) second conn call.now name.now privilege.now (host_of D.size self.old)) }
-        ensures volume { self.new.server.files.volume ≡ self.old.server.files.volume }
-        ensures unused { IfOk result (λ out. out.used ≡ []) }
+        ensures still { IsStill self.old self.new result }
         ensures short { IfOk result (λ out. AreShort out.sent) }
-        ensures drawn { IfOk result (λ out. out.undrawn ≡ false) }
-        ensures steps { IfOk result (λ _. self.new.steps ≡ self.old.steps + 1) }
-        ensures err { OnErr result (self.new ≡ self.old) }
-        ensures counted { IsCounted X.given self.new }
-        ensures own { KeepsOwn X.landed X.untold self.old self.new }
+        ensures step { IsStep X.given X.landed X.untold self.old self.new result }
     {
         let number = call.under.unwrap().number;
         let judgement = self
@@ -315,14 +246,9 @@ impl<D: Disk, X, C: Drop> Host<D, X, C> {
         requires there { IsThere self.old.contexts call.now }
         requires parent { MayHaveChild self.old.contexts call.now }
         ensures is { IfOk result (λ out. stepped_of D.size self.new out ≡ granted (record { leave = X.leaves; lapse = X.lapses }) (record { mic = X.Mech.mic_of; derived = X.Mech.derived }) second conn call.now carry (host_of D.size self.old)) }
-        ensures volume { self.new.server.files.volume ≡ self.old.server.files.volume }
-        ensures unused { IfOk result (λ out. out.used ≡ []) }
+        ensures still { IsStill self.old self.new result }
         ensures short { IfOk result (λ out. AreShort out.sent) }
-        ensures drawn { IfOk result (λ out. out.undrawn ≡ false) }
-        ensures steps { IfOk result (λ _. self.new.steps ≡ self.old.steps + 1) }
-        ensures err { OnErr result (self.new ≡ self.old) }
-        ensures counted { IsCounted X.given self.new }
-        ensures own { KeepsOwn X.landed X.untold self.old self.new }
+        ensures step { IsStep X.given X.landed X.untold self.old self.new result }
     {
         let room = Room::new(alloc)?;
         let accepted = call.accepted(&self.contexts);
@@ -364,11 +290,4 @@ pub(crate) fn going_back(conn: u32, bytes: Octets, seal: Option<Seal>, label: La
         seal,
         label,
     }
-}
-
-/// What the reply to a call without a result is called.
-fn done(to: CallLabel) -> Label
-    ensures { result ≡ Label.Reply to 0 }
-{
-    Label::Reply { to, status: 0 }
 }

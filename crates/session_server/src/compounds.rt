@@ -1,13 +1,14 @@
 //! COMPOUND under a context (RFC 8881 section 16.2).
 
-ghost use Rattle.std.specs.Prelude.{◌≡◌, ◌+◌, ◌<◌, ◌≤◌, false, [], length, IfOk, OnErr, Ok};
+ghost use Rattle.std.specs.Prelude.{◌≡◌, ◌<◌, ◌≤◌, false, [], length, IfOk, Ok};
 ghost use Rattle.nfs_base.specs.declared.limits.TheConstants.{TEXT_LIMIT};
 ghost use Rattle.nfs_compound.specs.Compounds.{compound_of};
 ghost use Rattle.rpc_calls.specs.Judging.{HasSpelling, IsAdmitted, IsThere};
 ghost use Rattle.server_volume.specs.Moments.{Counted};
 ghost use Rattle.server_volume.specs.Store.{seat_of};
 ghost use Rattle.session_server.specs.declared.host.TheConstants.{MOST_STEPS};
-ghost use Rattle.session_server.specs.Host.{host_of, rules_of, stepped_of, IsCounted, KeepsOwn};
+ghost use Rattle.session_server.specs.Host.{host_of, rules_of, stepped_of, IsCounted};
+ghost use Rattle.session_server.specs.Leaving.{IsStep};
 ghost use Rattle.session_server.specs.Lengths.{AreShort};
 ghost use Rattle.session_server.specs.Steps.{IsCompoundTurn, who_calls};
 
@@ -15,12 +16,11 @@ use crate::calls::{going_back, reply_seal};
 use crate::extending::Extending;
 use crate::host::Host;
 use crate::labels::{compound_label, status_in};
-use crate::room::Room;
 use compound_server::Who;
 use disk_model::Disk;
 use gss_ctx::Context;
 use nfs_compound::{Compound, read_compound};
-use outbox::{Label, Outbox};
+use outbox::{Label, Outbox, Room};
 use outcome::Mem;
 use rpc_calls::{Call, Under, count};
 use rpc_msg::Stat;
@@ -49,10 +49,7 @@ impl<D: Disk, X, C: Drop> Host<D, X, C> {
         ensures ran { IfOk result (λ out. Counted D.Told (seat_of D.size D.fuse D.timeline D.faults self.old.server.files.volume) (seat_of D.size D.fuse D.timeline D.faults self.new.server.files.volume) [] out.used) }
         ensures short { IfOk result (λ out. AreShort out.sent) }
         ensures drawn { IfOk result (λ out. out.undrawn ≡ false) }
-        ensures steps { IfOk result (λ _. self.new.steps ≡ self.old.steps + 1) }
-        ensures err { OnErr result (self.new ≡ self.old) }
-        ensures counted { IsCounted X.given self.new }
-        ensures own { KeepsOwn X.landed X.untold self.old self.new }
+        ensures step { IsStep X.given X.landed X.untold self.old self.new result }
     {
         match read_compound(alloc, args)? {
             Ok(compound) => self.evaluate(alloc, conn, call, compound, second),
@@ -82,10 +79,7 @@ impl<D: Disk, X, C: Drop> Host<D, X, C> {
         ensures ran { IfOk result (λ out. Counted D.Told (seat_of D.size D.fuse D.timeline D.faults self.old.server.files.volume) (seat_of D.size D.fuse D.timeline D.faults self.new.server.files.volume) [] out.used) }
         ensures short { IfOk result (λ out. AreShort out.sent) }
         ensures drawn { IfOk result (λ out. out.undrawn ≡ false) }
-        ensures steps { IfOk result (λ _. self.new.steps ≡ self.old.steps + 1) }
-        ensures err { OnErr result (self.new ≡ self.old) }
-        ensures counted { IsCounted X.given self.new }
-        ensures own { KeepsOwn X.landed X.untold self.old self.new }
+        ensures step { IsStep X.given X.landed X.untold self.old self.new result }
     {
         let room = Room::new(alloc)?;
         let accepted = call.accepted(&self.contexts);

@@ -1,20 +1,21 @@
 //! A server, and a step of it.
 
-ghost use Rattle.std.specs.Prelude.{◌≡◌, ◌+◌, ◌-◌, ◌*◌, ◌^◌, ◌<◌, ◌≤◌, [], true, false, max, IfOk, OnErr};
+ghost use Rattle.std.specs.Prelude.{◌≡◌, ◌+◌, ◌<◌, ◌≤◌, [], true, max, IfOk, OnErr};
 ghost use Rattle.outcome.specs.Causes.{Rose};
 ghost use Rattle.rpc_calls.specs.Judging.{IsSound, IsSoundWhere, judged_of};
 ghost use Rattle.server_volume.specs.Moments.{Counted};
 ghost use Rattle.server_volume.specs.Store.{seat_of};
 ghost use Rattle.session_server.specs.Host.{host_of, rules_of, stepped_of, IsCounted, IsCountedBy, KeepsOwn};
+ghost use Rattle.session_server.specs.Leaving.{IsStep, IsStill};
 ghost use Rattle.session_server.specs.Lengths.{AreShort};
 ghost use Rattle.session_server.specs.Steps.{IsTurn, IsCallTurn, dropped, rested};
 
+use crate::empty::Empty;
 use crate::extending::Extending;
-use crate::room::Room;
 use compound_server::Server;
 use disk_model::Disk;
-use gss_ctx::{Contexts, Why};
-use outbox::{Dropped, Note, Outbox};
+use gss_ctx::Contexts;
+use outbox::{Dropped, Note, Outbox, Room};
 use outcome::Mem;
 use rpc_calls::{Call, Judged, Program, What, judge};
 use std::alloc::Global;
@@ -127,7 +128,7 @@ impl<D: Disk, X, C: Drop> Host<D, X, C> {
             What::Dropped(why) => self.drop_call(alloc, call, *why, second),
             What::Denied(why) => self.deny(alloc, conn, call, *why, second),
             What::Failed(failure) => self.fail(alloc, conn, call, *failure, second),
-            What::Null => self.on_null(alloc, conn, call, second),
+            What::Null => self.on_empty(alloc, conn, call, Empty::Null, second),
             What::Init { token } => self.on_init(
                 alloc,
                 conn,
@@ -144,7 +145,7 @@ impl<D: Disk, X, C: Drop> Host<D, X, C> {
                 privilege.as_slice(),
                 second,
             ),
-            What::Destroy => self.on_destroy(alloc, conn, call, second),
+            What::Destroy => self.on_empty(alloc, conn, call, Empty::Destroy, second),
             What::Compound { args } => {
                 self.on_compound(alloc, conn, call, args.as_slice(), second)
             }
@@ -186,14 +187,9 @@ impl<D: Disk, X, C: Drop> Host<D, X, C> {
         requires few { self.old.steps < MOST_STEPS }
         requires counted { IsCounted X.given self.old }
         ensures is { IfOk result (λ out. stepped_of D.size self.new out ≡ dropped (record { leave = X.leaves; lapse = X.lapses }) second self.old.contexts (Note.Dropped why) (host_of D.size self.old)) }
-        ensures volume { self.new.server.files.volume ≡ self.old.server.files.volume }
-        ensures unused { IfOk result (λ out. out.used ≡ []) }
+        ensures still { IsStill self.old self.new result }
         ensures short { IfOk result (λ out. AreShort out.sent) }
-        ensures drawn { IfOk result (λ out. out.undrawn ≡ false) }
-        ensures steps { IfOk result (λ _. self.new.steps ≡ self.old.steps + 1) }
-        ensures err { OnErr result (self.new ≡ self.old) }
-        ensures counted { IsCounted X.given self.new }
-        ensures own { KeepsOwn X.landed X.untold self.old self.new }
+        ensures step { IsStep X.given X.landed X.untold self.old self.new result }
     {
         let room = Room::new(alloc)?;
         self.rest(second);

@@ -10,10 +10,10 @@
 
 mod calls;
 mod compounds;
+mod empty;
 mod extending;
 mod host;
 mod labels;
-mod room;
 
 pub use extending::{Extending, Judgement};
 pub use host::{Host, MOST_STEPS};

@@ -1,5 +1,5 @@
 -- What each of the three ends may do in a step, and where the records go that it sends. Own definitions.
-use Rattle.std.specs.Prelude.{ℕ, ◌==◌, List, [], Option, Some, None, false, if◌then◌else◌}
+use Rattle.std.specs.Prelude.{ℕ, ◌==◌, List, Option, Some, None, if◌then◌else◌}
 use Rattle.copy_model.specs.Volume.{Volume}
 use Rattle.nfs_base.specs.declared.copy_spec.CopySpec.{CopySpec}
 use Rattle.nfs_base.specs.declared.seal.End.{End}
@@ -52,10 +52,6 @@ pub record Machines (S T C W : Type 0) : Type 1 where
   pub dest_crashes : T → T → Kept → Type 0
   pub source_volume : S → Volume
   pub dest_volume : T → Volume
-
--- nothing is sent, told or done
-abbrev pub no_outbox : Outbox
-no_outbox = record { sent = []; notes = []; accepted = None; used = []; undrawn = false }
 
 -- ---- where a record goes that an end sends. A server answers on the connection of the call; the destination's workers call
 -- the source each on the connection of its number; the client calls the servers. Elsewhere nothing is sent.

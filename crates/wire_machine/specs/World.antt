@@ -4,12 +4,13 @@ use Rattle.std.specs.Prelude.{ℕ, zero, suc, ◌+◌, Bool, true, false, List, 
 use Rattle.nfs_base.specs.declared.seal.End.{End}
 use Rattle.nfs_base.specs.declared.seal.End.TheVariants.{Source, Dest, Client}
 use Rattle.nfs_base.specs.declared.seal.Seal.{Seal}
+use Rattle.outbox.specs.Outboxes.{no_outbox}
 use Rattle.outbox.specs.declared.outgoing.Outbox.{Outbox}
 use Rattle.outbox.specs.declared.outgoing.Outgoing.{Outgoing}
 use Rattle.wire_lines.specs.declared.letters.Speaker.{Speaker}
 use Rattle.wire_lines.specs.declared.letters.Speaker.TheVariants as speakers
 use Rattle.wire_machine.specs.declared.port.Port.{Port}
-use Rattle.wire_machine.specs.Ends.{Machines, no_outbox, port_of}
+use Rattle.wire_machine.specs.Ends.{Machines, port_of}
 
 -- ---- records
 

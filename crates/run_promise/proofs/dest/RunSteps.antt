@@ -13,6 +13,7 @@ use Rattle.dest_laws.specs.View.Steps.{part_by}
 use Rattle.dest_steps.specs.Copier.{Codes}
 use Rattle.dest_tasks.specs.declared.workers.TheConstants.{WORKERS}
 use Rattle.nfs_base.specs.declared.seal.End.TheVariants.{Dest}
+use Rattle.outbox.specs.Outboxes.{no_outbox}
 use Rattle.outbox.specs.declared.outgoing.Outbox.{Outbox}
 use Rattle.run_ends.specs.Ends.{RunWorld, Words, dest_goes, hears, is_worker}
 use Rattle.run_ends.specs.Handling.{dest_took}
@@ -22,7 +23,7 @@ use Rattle.run_promise.specs.Dest.Kept.{Fits, GoesSeen, IsKept, means_of}
 use Rattle.wire_lines.specs.declared.letters.Speaker.{Speaker}
 use Rattle.wire_lines.specs.declared.letters.Speaker.TheVariants as speakers
 use Rattle.wire_machine.specs.Ends as acts
-use Rattle.wire_machine.specs.Ends.{DestAct, no_outbox}
+use Rattle.wire_machine.specs.Ends.{DestAct}
 use Rattle.wire_machine.specs.History.{part_acts}
 use Rattle.wire_machine.specs.World.{Part, Parts}
 use Rattle.wire_model.specs.Wire.{Acts, Executed}

@@ -1,4 +1,4 @@
-use Rattle.std.proofs.Common.{◌≡◌, ◌∙◌, ap, sym, refl, Some, arith}
+use Rattle.std.proofs.Common.{◌≡◌, ◌∙◌, ap, sym, refl, Some, arith, rules}
 use Rattle.gss_ctx.specs.Seals.{sealed_reply, sealed_with}
 use Rattle.rpc_calls.specs.Answers.{result_reply}
 use Rattle.compound_server.specs.State.{Given, state_of}
@@ -47,26 +47,27 @@ returns-clause-short g c =
     sends_short _ _ _ _ c.one_reply-out.ensures c.going_back.ensures
     (rw bytes (result_short mic g.met.X.Mech.Mechanism.sized c.args.self.now.contexts c.args.call.now body (let short = c.in_ok-told.ensures.short in omega (arith, short))))
 
-pub returns-clause-counted : goal.returns-clause-counted
-returns-clause-counted g c =
+pub returns-clause-step : goal.returns-clause-step
+returns-clause-step g c =
     let told = c.on_compound.ensures.counted in
     let made : c.count.new.contexts.made ≡ c.args.self.now.contexts.made =
     ap (λ t. t.made) c.count.ensures ∙ counted_made c.args.second c.args.call.now c.args.self.now.contexts in
-    let by_telling = g.met.X.Extending.by_telling c.on_compound.new.self.files.extra in
-    let silent = ap g.X.Serving.given c.tell.ensures.silent in
-    record {
-      contexts = let few = c.requires.counted.contexts in omega arith;
-      opens = own_counted _ _ _ _ (let same = told.opens in omega arith) told.opens c.requires.counted.opens;
-      own = own_counted _ _ _ _ (rw silent by_telling) told.own c.requires.counted.own;
-      clients = let few = c.requires.counted.clients in let more = told.clients in omega arith;
-    }
-
-pub returns-clause-own : goal.returns-clause-own
-returns-clause-own g c =
     let left = c.on_compound.new.self.files.extra in
+    let by_telling = g.met.X.Extending.by_telling left in
     let silent = c.tell.ensures.silent in
+    let given = ap g.X.Serving.given silent in
     let none = ap g.X.Extending.untold silent ∙ g.met.X.Extending.all_told left in
     record {
-      landed = ap g.X.Serving.landed silent ∙ g.met.X.Extending.telling_lands_none left ∙ c.on_compound.ensures.counted.landed;
-      untold = omega (arith, none);
+      steps = search rules;
+      err = search rules;
+      counted = record {
+        contexts = let few = c.requires.counted.contexts in omega arith;
+        opens = own_counted _ _ _ _ (let same = told.opens in omega arith) told.opens c.requires.counted.opens;
+        own = own_counted _ _ _ _ (rw given by_telling) told.own c.requires.counted.own;
+        clients = let few = c.requires.counted.clients in let more = told.clients in omega arith;
+      };
+      own = record {
+        landed = ap g.X.Serving.landed silent ∙ g.met.X.Extending.telling_lands_none left ∙ told.landed;
+        untold = omega (arith, none);
+      };
     }

@@ -1,4 +1,4 @@
--- The memory of an outbox. Own.
+-- The memory of an outbox with one record, or one note. Own.
 use Rattle.std.specs.Prelude.{◌≡◌, ◌≤◌, ℕ, List, []}
 use Rattle.outbox.specs.declared.note.Note.{Note}
 use Rattle.outbox.specs.declared.outgoing.Outgoing.{Outgoing}

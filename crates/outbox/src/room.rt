@@ -1,19 +1,19 @@
-//! The memory of an outbox with one record, or one note.
+ghost use Rattle.std.specs.Prelude.{◌≡◌};
+ghost use Rattle.outbox.specs.Outboxes.{one_reply, silence, undrawn_outbox};
 
-ghost use Rattle.std.specs.Prelude.{◌≡◌, IfOk, [], ◌∷◌};
-ghost use Rattle.client_core.specs.Calls.{one_reply, silence};
-ghost use Rattle.client_core.specs.Endings.{undrawn_outbox};
-
+use crate::note::{Note, NoteList};
+use crate::outgoing::{Outbox, Outgoing};
 use nfs_base::Seal;
-use outbox::{CallList, Note, NoteList, Outbox, Outgoing};
 use outcome::Mem;
+use server_volume::CallList;
 use std::alloc::Global;
 use std::marker::Model;
 use wire_xdr::Items;
 
-/// The memory that such an outbox wants.
+/// The memory of an outbox with one record, or one note. A step takes it before anything changes, and then makes of it
+/// what it gives, which takes none.
 #[derive(Drop)]
-pub(crate) struct Room {
+pub struct Room {
     sent: Vec<Outgoing>,
     notes: NoteList,
     used: CallList,
@@ -21,7 +21,7 @@ pub(crate) struct Room {
 
 impl Model for Room {
     ghost use Rattle.std.specs.Prelude.{vec_capacity};
-    ghost use Rattle.client_core.specs.Room.{IsRoom};
+    ghost use Rattle.outbox.specs.Room.{IsRoom};
 
     ghost Value = { Unit {0} };
 
@@ -31,7 +31,8 @@ impl Model for Room {
 }
 
 impl Room {
-    pub(crate) fn new(alloc: Global) -> Mem<Room> {
+    /// Takes the memory: for one record, for what is told, and for the calls on the volume.
+    pub fn new(alloc: Global) -> Mem<Room> {
         Ok(Room {
             sent: Vec::with_capacity(alloc, 1)?,
             notes: NoteList::new(alloc)?,
@@ -40,7 +41,7 @@ impl Room {
     }
 
     /// The outbox of a step that tells this and sends nothing.
-    pub(crate) fn silence(self, note: Note) -> Outbox
+    pub fn silence(self, note: Note) -> Outbox
         ensures { result ≡ silence note }
     {
         let Room {
@@ -58,8 +59,8 @@ impl Room {
         }
     }
 
-    /// The outbox of a step that sends this record alone.
-    pub(crate) fn one_reply(self, accepted: Option<Seal>, reply: Outgoing) -> Outbox
+    /// The outbox of a step that sends this record alone, and took one that was accepted under this seal, if under one.
+    pub fn one_reply(self, accepted: Option<Seal>, reply: Outgoing) -> Outbox
         ensures { result ≡ one_reply accepted reply }
     {
         let Room {
@@ -78,7 +79,7 @@ impl Room {
     }
 
     /// The outbox of a step whose draw failed.
-    pub(crate) fn undrawn(self) -> Outbox
+    pub fn undrawn(self) -> Outbox
         ensures { result ≡ undrawn_outbox }
     {
         let Room { sent, notes, used } = self;

@@ -1,6 +1,6 @@
 use Rattle.std.proofs.Common.{[], arith}
 use Rattle.session_server.proofs.Lengths.{result_short, sends_short}
-use Rattle.session_server.proofs.host.Host.on_destroy.Goals as goal
+use Rattle.session_server.proofs.host.Host.on_empty.Goals as goal
 
 pub returns-clause-short : goal.returns-clause-short
 returns-clause-short g c =
