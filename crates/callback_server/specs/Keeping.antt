@@ -1,7 +1,7 @@
 -- What a server of one connection at a time did with the connections of a net. Own definitions.
 use Rattle.std.specs.Prelude.{◌≡◌, ℕ, ◌+◌, ◌-◌, min, List, ◌++◌, length, Option}
 use Rattle.rpc_msg.specs.declared.pump.Pumped.{Pumped}
-use Rattle.net_links.specs.Links.{Standing, HangsUp}
+use Rattle.net_links.specs.Links.{Standing}
 use Rattle.link_server.specs.Answering.{Caller}
 use Rattle.link_server.specs.Hanging.{Sums, no_sums, starved_by}
 use Rattle.link_server.specs.Keeping.{Books}
@@ -43,11 +43,3 @@ pub record ServesOne (answers : Caller → List ℕ → List ℕ → Caller → 
   pub served : AttendedIs answers given unused end link
   pub gave : given ≡ min tally.left EACH_RECORDS
   pub is : now ≡ tally_with tally given unused end
-
--- One that had been accepted was served and hung up.
-pub record ServesNext (told : Type 0) (answers : Caller → List ℕ → List ℕ → Caller → Type 0) (old new : Books) (tally now : Tally) : Type 0 where
-  pub link : Standing
-  pub one : ServesOne answers link tally now
-  pub hung : told → HangsUp old.hung new.hung link
-  pub up : told → old.up ≡ new.up + 1
-  pub accepted : told → new.accepted ≡ old.accepted

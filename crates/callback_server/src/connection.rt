@@ -1,4 +1,4 @@
-ghost use Rattle.std.specs.Prelude.{◌≡◌, ◌<◌};
+ghost use Rattle.std.specs.Prelude.{◌≡◌, ◌≤◌};
 ghost use Rattle.net_links.specs.Links.{IsNew};
 ghost use Rattle.link_server.specs.Serving.{Went};
 ghost use Rattle.callback_server.specs.Serving.{heard, AttendedIs};
@@ -12,49 +12,46 @@ use std::alloc::Global;
 use std::sync::ledger::{Ledger, Share};
 use std::sync::{Mutex, Wait};
 
-// A connection that was served: its share of calls, the line's share, its two ways, how it ended (without an answer: for want of
-// memory), and how many of the records that it was given are left.
+// A connection that was served: its two ways, how it ended (without an answer: for want of memory), and how many of the records
+// that it was given are left.
 #[derive(Drop)]
-pub(crate) struct Closed<Q: Ledger, B: Ledger, F, T> {
-    pub(crate) calls: Share<Q>,
-    pub(crate) own: Share<B>,
+pub(crate) struct Closed<F, T> {
     pub(crate) from: F,
     pub(crate) to: T,
     pub(crate) end: Option<Pumped>,
     pub(crate) unused: u64,
 }
 
-// Serves the records of a new connection, at most as many as are given.
+// Serves the records of a new connection, at most as many as are given, with a part of the share of calls and the line's share.
 pub(crate) fn serve_link<R: Wait, Q: Ledger, B: Ledger, H: Host<Q>, F: Source, T: Sink + Drop>(
     rt: &R,
     alloc: Global,
     desk: &Mutex<H>,
     gate: &Gate,
     line: &Mutex<Line<B, T>>,
-    calls: Share<Q>,
-    own: Share<B>,
+    calls: &mut Share<Q>,
+    own: &mut Share<B>,
     conn: u32,
     given: u64,
     from: F,
     to: T,
-) -> Closed<Q, B, F, T>
-    requires part { 0 < calls.parts }
-    requires calls { calls.amount ≡ 0 }
-    requires own { (own.parts ≡ B.parts) × (0 < own.parts) × (own.amount ≡ 0) }
+) -> Closed<F, T>
+    requires calls { 2 ≤ calls.old.parts }
+    requires own { (B.parts ≡ 1) × (own.old.parts ≡ 1) × (own.old.amount ≡ 0) }
     requires new { IsNew (record { brings = F.gives from; takes = T.takes to }) }
-    ensures part { 0 < result.calls.parts }
-    ensures own { (result.own.parts ≡ B.parts) × (result.own.amount ≡ 0) }
+    ensures calls { 2 ≤ calls.new.parts }
+    ensures own { (own.new.parts ≡ 1) × (own.new.amount ≡ 0) }
     ensures served { AttendedIs H.answers given result.unused result.end (record { brings = F.gives result.from; takes = T.takes result.to }) }
 {
     let mut from = from;
     let mut left = given;
-    let mut sending = Sending::open(rt, line, own, conn, to);
-    let mut handler = Answering::new(rt, desk, gate, line, calls, conn);
+    let mut sending = Sending::open(rt, line, own.split_off(1, 0), conn, to);
+    let mut handler = Answering::new(rt, desk, gate, line, calls.split_off(1, 0), conn);
     let end = pump(alloc, &mut from, &mut sending, &mut handler, &mut left);
-    let (own, to) = sending.close();
+    let (back, to) = sending.close();
+    own.merge(back);
+    calls.merge(handler.hand_back());
     Closed {
-        calls: handler.hand_back(),
-        own,
         from,
         to,
         end,

@@ -1,7 +1,7 @@
-ghost use Rattle.std.specs.Prelude.{◌≡◌, ◌^◌, ◌-◌, ◌<◌, ◌≤◌};
-ghost use Rattle.net_links.specs.Links.{IsNew};
+ghost use Rattle.std.specs.Prelude.{◌≡◌, ◌+◌, ◌^◌, ◌-◌, ◌<◌, ◌≤◌};
+ghost use Rattle.net_links.specs.Links.{HangsUp};
 ghost use Rattle.link_server.specs.Keeping.{books_of, StopIs};
-ghost use Rattle.callback_server.specs.Keeping.{tally_with, Serves, ServesNext};
+ghost use Rattle.callback_server.specs.Keeping.{tally_with, Serves};
 
 use crate::connection::{Closed, serve_link};
 use crate::host::Host;
@@ -9,7 +9,7 @@ use callback_links::Line;
 use copy_workers::Gate;
 use link_server::{ALL_RECORDS, EACH_RECORDS, Stop, Tally};
 use net_links::{Dialed, Halves, Net};
-use rpc_msg::{Pumped, Sink, Source};
+use rpc_msg::{Sink, Source};
 use std::alloc::Global;
 use std::sync::ledger::{Ledger, Share};
 use std::sync::{Mutex, Wait};
@@ -56,9 +56,12 @@ pub fn serve_each<
         match net.accept() {
             Dialed::Up(link) => {
                 let (from, to) = link.halves();
-                serve_next(
-                    rt, alloc, desk, gate, line, calls, own, &mut tally, net, from, to,
+                let given = tally.left.min(EACH_RECORDS);
+                let conn = tally.accepted;
+                let closed = serve_link(
+                    rt, alloc, desk, gate, line, calls, own, conn, given, from, to,
                 );
+                hang(&mut tally, net, given, closed);
             }
             Dialed::End => {
                 tally.stop = Stop::End;
@@ -73,77 +76,33 @@ pub fn serve_each<
     tally
 }
 
-// Serves one connection that was accepted, and hangs it up.
-fn serve_next<
-    R: Wait,
-    Q: Ledger,
-    B: Ledger,
-    H: Host<Q>,
-    F: Source,
-    T: Sink + Drop,
-    N: Net<From = F, To = T>,
->(
-    rt: &R,
-    alloc: Global,
-    desk: &Mutex<H>,
-    gate: &Gate,
-    line: &Mutex<Line<B, T>>,
-    calls: &mut Share<Q>,
-    own: &mut Share<B>,
+// Hangs up a connection that was served, counts it, and takes back the records that it left.
+fn hang<F: Source, T: Sink, N: Net<From = F, To = T>>(
     tally: &mut Tally,
     net: &mut N,
-    from: F,
-    to: T,
+    given: u64,
+    closed: Closed<F, T>,
 )
-    requires calls { 2 ≤ calls.old.parts }
-    requires own { (B.parts ≡ 1) × (own.old.parts ≡ 1) × (own.old.amount ≡ 0) }
-    requires new { IsNew (record { brings = F.gives from; takes = T.takes to }) }
     requires up { N.Told → 0 < N.up net.old }
     requires few { tally.old.accepted < 2 ^ 32 - 1 }
     requires starved { tally.old.starved ≤ tally.old.accepted }
     requires left { tally.old.left ≤ ALL_RECORDS }
-    ensures calls { 2 ≤ calls.new.parts }
-    ensures own { (own.new.parts ≡ 1) × (own.new.amount ≡ 0) }
-    ensures next { ServesNext N.Told H.answers (books_of N.hung N.up N.accepted net.old) (books_of N.hung N.up N.accepted net.new) tally.old tally.new }
+    requires given { given ≤ tally.old.left }
+    requires unused { closed.unused ≤ given }
+    ensures tally { tally.new ≡ tally_with tally.old given closed.unused closed.end }
+    ensures hung { N.Told → HangsUp (N.hung net.old) (N.hung net.new) (record { brings = F.gives closed.from; takes = T.takes closed.to }) }
+    ensures up { N.Told → N.up net.old ≡ N.up net.new + 1 }
+    ensures accepted { N.Told → N.accepted net.new ≡ N.accepted net.old }
     ensures coming { N.Told → N.coming net.new ≡ N.coming net.old }
     ensures faults { N.faults net.new ≡ N.faults net.old }
 {
-    let given = tally.left.min(EACH_RECORDS);
     let Closed {
-        calls: used,
-        own: back,
         from,
         to,
         end,
         unused,
-    } = serve_link(
-        rt,
-        alloc,
-        desk,
-        gate,
-        line,
-        calls.split_off(1, 0),
-        own.split_off(1, 0),
-        tally.accepted,
-        given,
-        from,
-        to,
-    );
-    calls.merge(used);
-    own.merge(back);
+    } = closed;
     net.hang_up(from, to);
-    count_one(tally, given, unused, end);
-}
-
-// Counts one more, which had ended so, and takes back the records that it left.
-fn count_one(tally: &mut Tally, given: u64, unused: u64, end: Option<Pumped>)
-    requires few { tally.old.accepted < 2 ^ 32 - 1 }
-    requires starved { tally.old.starved ≤ tally.old.accepted }
-    requires left { tally.old.left ≤ ALL_RECORDS }
-    requires given { given ≤ tally.old.left }
-    requires unused { unused ≤ given }
-    ensures { tally.new ≡ tally_with tally.old given unused end }
-{
     tally.accepted += 1;
     if end.is_none() {
         tally.starved += 1;

@@ -16,7 +16,7 @@ use std::alloc::Global;
 use std::marker::{Send, Sync};
 use std::sync::ledger::{Ledger, Share};
 use std::sync::{Mutex, Wait};
-use std::thread::{self, Scope, Threads};
+use std::thread::{self, Threads};
 
 /// The shares of a server's ledgers: of connections' calls, of their own puts, and of what workers landed, turned and were given.
 #[derive(Drop)]
@@ -26,83 +26,6 @@ pub struct Shares<Q: Ledger, B: Ledger, L: Ledger, T: Ledger, G: Ledger> {
     pub all: Share<L>,
     pub turned: Share<T>,
     pub given: Share<G>,
-}
-
-// Serves connections beside the workers of these links, and closes the host for workers then. The net comes back as it is then.
-fn serve_crew<
-    's,
-    E,
-    R: Threads + Wait + Sync,
-    Q: Ledger + Send,
-    B: Ledger + Send,
-    L: Ledger + Send + 's,
-    T: Ledger + Send + 's,
-    G: Ledger + Send + 's,
-    F: Source + Drop,
-    S: Sink + Drop,
-    K: Link + Send + Drop + 's,
-    Z: Send + Drop + 's,
-    H: Host<Q> + Desk<L, T, G, K, Shut = Z> + Send + 's,
-    N: Net<From = F, To = S>,
->(
-    rt: &'s R,
-    alloc: Global,
-    scope: &Scope<'s, E>,
-    desk: &'s Mutex<H>,
-    gate: &'s Gate,
-    line: &Mutex<Line<B, S>>,
-    shares: Shares<Q, B, L, T, G>,
-    conns: u32,
-    turns: u64,
-    crew: Vec<Watched<K>>,
-    net: &mut N,
-) -> (Tally, Worked<K, L, T, G, Z>)
-    requires some { 1 ≤ length crew.items }
-    requires few { length crew.items ≤ 8 }
-    requires unsent { AllUnsent crew.items }
-    requires turns { turns < 2 ^ 32 }
-    requires calls { 2 ≤ shares.calls.parts }
-    requires own { (B.parts ≡ 1) × (shares.own.parts ≡ 1) × (shares.own.amount ≡ 0) }
-    requires all { (8 ≤ L.parts) × (shares.all.parts ≡ L.parts) × (shares.all.amount ≡ 0) }
-    requires turned { (8 ≤ T.parts) × (shares.turned.parts ≡ T.parts) × (shares.turned.amount ≡ 0) }
-    requires given { (8 ≤ G.parts) × (shares.given.parts ≡ G.parts) × (shares.given.amount ≡ 0) }
-    ensures worked { WorkedIs (length crew.items) turns result.1.links.items (record {
-      shares = result.1.report.shares;
-      turned = result.1.report.turned;
-      given = result.1.report.given;
-      ends = result.1.report.ends;
-      shut = is_some result.1.report.shut;
-    }) }
-    ensures served { N.Told → Serves H.answers (books_of N.hung N.up N.accepted net.old) (books_of N.hung N.up N.accepted net.new) result.0 }
-    ensures stop { StopIs N.Told conns result.0.accepted result.0.left (N.coming net.new) (N.faults net.old) (N.faults net.new) result.0.stop }
-    ensures later { N.faults net.old ≤ N.faults net.new }
-{
-    let Shares {
-        calls,
-        own,
-        all,
-        turned,
-        given,
-    } = shares;
-    let (mut calls, mut own) = (calls, own);
-    match start(
-        rt, alloc, scope, desk, gate, all, turned, given, crew, turns,
-    ) {
-        Ok(handle) => {
-            let tally = serve_each(
-                rt, alloc, desk, gate, line, &mut calls, &mut own, conns, net,
-            );
-            desk.lock(rt).close();
-            gate.wake();
-            (tally, handle.join(rt))
-        }
-        Err(worked) => {
-            let tally = serve_each(
-                rt, alloc, desk, gate, line, &mut calls, &mut own, conns, net,
-            );
-            (tally, worked)
-        }
-    }
 }
 
 /// Serves up to `conns` connections of a net, one after the other, while workers work at these links. A connection is given
@@ -176,9 +99,27 @@ pub fn serve_beside<
             ensures stop { StopIs N.Told conns result.1.accepted result.1.left (N.coming result.0.now) (N.faults net.entry.now) (N.faults result.0.now) result.1.stop }
             ensures later { N.faults net.entry.now ≤ N.faults result.0.now }
         {
-            let (tally, worked) = serve_crew(
-                rt, alloc, scope, desk, gate, line, shares, conns, turns, crew, net,
+            let Shares {
+                mut calls,
+                mut own,
+                all,
+                turned,
+                given,
+            } = shares;
+            let crew = start(
+                rt, alloc, scope, desk, gate, all, turned, given, crew, turns,
             );
+            let tally = serve_each(
+                rt, alloc, desk, gate, line, &mut calls, &mut own, conns, net,
+            );
+            let worked = match crew {
+                Ok(handle) => {
+                    desk.lock(rt).close();
+                    gate.wake();
+                    handle.join(rt)
+                }
+                Err(worked) => worked,
+            };
             (net, tally, worked)
         },
     );

@@ -1,5 +1,5 @@
 -- A server while it accepts: what it keeps of the connections that threads serve, and what its parts do to that. Own definitions.
-use Rattle.std.specs.Prelude.{◌≡◌, ℕ, ◌+◌, ◌*◌, ◌≤◌, List, ◌⊎◌, Option, Some, None}
+use Rattle.std.specs.Prelude.{◌≡◌, ℕ, ◌+◌, ◌*◌, ◌≤◌, List, ◌⊎◌}
 use Rattle.outcome.specs.Causes.{Rose}
 use Rattle.link_server.specs.Answering.{Caller}
 use Rattle.link_server.specs.Keeping.{Books, Kept}
@@ -36,10 +36,9 @@ pub record Waits (old new : SiteState) : Type 0 where
   pub before : new.before ≡ old.before
   pub accepted : new.tally.accepted ≡ old.tally.accepted
 
--- One connection more was accepted, or none was, and no more will be, by the cause that is told.
-abbrev pub GoesOn : (told : Type 0) → (coming faults faults_now : ℕ) → (old new : SiteState) → Option Stop → Type 0
-GoesOn told coming faults faults_now old new None = (new.before ≡ old.before) × (new.tally.accepted ≡ old.tally.accepted + 1)
-GoesOn told coming faults faults_now old new (Some stops.All) = ⊥
-GoesOn told coming faults faults_now old new (Some stops.End) = Waits old new × (told → coming ≡ 0)
-GoesOn told coming faults faults_now old new (Some stops.Failed) = Waits old new × Rose faults faults_now
-GoesOn told coming faults faults_now old new (Some stops.Spent) = Waits old new × (new.running ≡ 0) × (new.tally.left ≡ 0)
+-- Why no more are accepted.
+abbrev pub Stops : (told : Type 0) → (coming faults faults_now : ℕ) → (now : SiteState) → Stop → Type 0
+Stops told coming faults faults_now now stops.All = ⊥
+Stops told coming faults faults_now now stops.End = told → coming ≡ 0
+Stops told coming faults faults_now now stops.Failed = Rose faults faults_now
+Stops told coming faults faults_now now stops.Spent = (now.running ≡ 0) × (now.tally.left ≡ 0)

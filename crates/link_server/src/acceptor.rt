@@ -1,63 +1,19 @@
-ghost use Rattle.std.specs.Prelude.{◌≡◌, ◌+◌, ◌-◌, ◌^◌, ◌<◌, ◌≤◌};
+ghost use Rattle.std.specs.Prelude.{◌≡◌, ◌+◌, ◌≤◌};
 ghost use Rattle.link_server.specs.Answering.{Answers};
-ghost use Rattle.link_server.specs.Accepting.{KeptAt, Waits, GoesOn};
 ghost use Rattle.link_server.specs.Keeping.{books_of, Serves, StopIs};
 
 use crate::bell::Bell;
 use crate::counted::{Counted, Origin};
 use crate::machine::Machine;
 use crate::site::Site;
-use crate::tally::{EACH_RECORDS, MOST_LINKS, Stop, Tally};
-use net_links::{Dialed, Halves, Net};
+use crate::tally::{MOST_LINKS, Stop, Tally};
+use net_links::Net;
 use rpc_msg::{Sink, Source};
 use std::alloc::Global;
 use std::marker::{Send, Sync};
 use std::sync::ledger::Share;
 use std::sync::{Mutex, Wait};
 use std::thread::{self, Scope, Threads};
-
-// Accepts one connection more, and has it served; or tells why there is none.
-fn accept_one<
-    's,
-    E,
-    R: Threads + Wait + Sync,
-    C: Origin<K> + Send + 's,
-    K: Machine + Send + 's,
-    F: Source + Send + Drop + 's,
-    T: Sink + Send + Drop + 's,
-    N: Net<From = F, To = T>,
->(
-    rt: &'s R,
-    alloc: Global,
-    scope: &Scope<'s, E>,
-    bell: &'s Bell,
-    desk: &'s Mutex<Counted<C, K>>,
-    site: &mut Site<C, K, F, T, N>,
-    net: &mut N,
-) -> Option<Stop>
-    requires more { site.old.tally.accepted < 2 ^ 32 - 1 }
-    requires kept { N.Told → KeptAt (Answers K.calls_of K.step K.kept C.origin) (books_of N.hung N.up N.accepted net.old) site.old }
-    ensures kept { N.Told → KeptAt (Answers K.calls_of K.step K.kept C.origin) (books_of N.hung N.up N.accepted net.new) site.new }
-    ensures goes { GoesOn N.Told (N.coming net.new) (N.faults net.old) (N.faults net.new) site.old site.new result }
-    ensures later { N.faults net.old ≤ N.faults net.new }
-{
-    site.make_room(rt, bell, net);
-    if site.left() < EACH_RECORDS {
-        site.wait_for_all(rt, bell, net);
-    }
-    if site.left() == 0 {
-        return Some(Stop::Spent);
-    }
-    match net.accept() {
-        Dialed::Up(link) => {
-            let (from, to) = link.halves();
-            site.admit(rt, alloc, scope, bell, desk, net, from, to);
-            None
-        }
-        Dialed::End => Some(Stop::End),
-        Dialed::Failed => Some(Stop::Failed),
-    }
-}
 
 // Accepts connections until as many were as are asked for, or there are no more, and waits until all have ended.
 fn accept_all<
@@ -89,9 +45,12 @@ fn accept_all<
     let mut stop = Stop::All;
     'conns: while site.accepted() < conns {
         site.gather(rt, bell, net);
-        if let Some(cause) = accept_one(rt, alloc, scope, bell, desk, &mut site, net) {
-            stop = cause;
-            break;
+        match site.accept(rt, bell, net) {
+            Ok((from, to)) => site.admit(rt, alloc, scope, bell, desk, net, from, to),
+            Err(cause) => {
+                stop = cause;
+                break;
+            }
         }
     }
     site.wait_for_all(rt, bell, net);

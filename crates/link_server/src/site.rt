@@ -1,7 +1,7 @@
-ghost use Rattle.std.specs.Prelude.{◌≡◌, ◌+◌, ◌-◌, ◌*◌, ◌^◌, ◌<◌, ◌≤◌, IfSome};
+ghost use Rattle.std.specs.Prelude.{◌≡◌, ◌+◌, ◌-◌, ◌*◌, ◌^◌, ◌<◌, ◌≤◌, IfErr, IfOk, IfSome};
 ghost use Rattle.net_links.specs.Links.{IsNew};
 ghost use Rattle.link_server.specs.Answering.{Answers};
-ghost use Rattle.link_server.specs.Accepting.{KeptAt, KeptNew, KeptWith, LentIs, Waits};
+ghost use Rattle.link_server.specs.Accepting.{KeptAt, KeptNew, KeptWith, LentIs, Stops, Waits};
 ghost use Rattle.link_server.specs.Keeping.{books_of};
 ghost use Rattle.link_server.specs.Serving.{ServedIs};
 
@@ -11,7 +11,7 @@ use crate::link::{Closed, serve_link};
 use crate::machine::Machine;
 use crate::running::{Running, start};
 use crate::tally::{ALL_RECORDS, EACH_RECORDS, MOST_LINKS, Stop, Tally};
-use net_links::Net;
+use net_links::{Dialed, Halves, Net};
 use rpc_msg::{Pumped, Sink, Source};
 use std::alloc::Global;
 use std::marker::{Model, Send, Sync};
@@ -163,7 +163,7 @@ impl<C: Origin<K>, K: Machine, F: Source + Drop, T: Sink + Drop, N: Net<From = F
     }
 
     // Waits until fewer are served than may be at once.
-    pub(crate) fn make_room<R: Threads + Wait>(&mut self, rt: &R, bell: &Bell, net: &mut N)
+    fn make_room<R: Threads + Wait>(&mut self, rt: &R, bell: &Bell, net: &mut N)
         requires kept { N.Told → KeptAt (Answers K.calls_of K.step K.kept C.origin) (books_of N.hung N.up N.accepted net.old) self.old }
         ensures kept { N.Told → KeptAt (Answers K.calls_of K.step K.kept C.origin) (books_of N.hung N.up N.accepted net.new) self.new }
         ensures room { self.new.running < MOST_LINKS }
@@ -244,58 +244,38 @@ impl<C: Origin<K>, K: Machine, F: Source + Drop, T: Sink + Drop, N: Net<From = F
         self.hang(net, from, to, end, given, unused);
     }
 
-    // Lends a connection the records of one and starts its thread, or serves it where no thread can be had.
-    fn serve_there<'s, E, R: Threads + Wait + Sync>(
+    // The ways of one connection more, or why no more are accepted.
+    pub(crate) fn accept<R: Threads + Wait>(
         &mut self,
-        rt: &'s R,
-        alloc: Global,
-        scope: &Scope<'s, E>,
-        bell: &'s Bell,
-        desk: &'s Mutex<Counted<C, K>>,
+        rt: &R,
+        bell: &Bell,
         net: &mut N,
-        from: F,
-        to: T,
-    )
-    where
-        C: Send + 's,
-        K: Send + 's,
-        F: Send + 's,
-        T: Send + 's,
-        requires new { IsNew (record { brings = F.gives from; takes = T.takes to }) }
-        requires room { self.old.running < MOST_LINKS }
-        requires records { EACH_RECORDS ≤ self.old.tally.left }
-        requires counted { self.old.tally.starved + self.old.running < self.old.tally.accepted }
-        requires kept { N.Told → KeptWith (Answers K.calls_of K.step K.kept C.origin) (books_of N.hung N.up N.accepted net.old) 0 self.old }
-        ensures kept { N.Told → KeptAt (Answers K.calls_of K.step K.kept C.origin) (books_of N.hung N.up N.accepted net.new) self.new }
+    ) -> Result<(F, T), Stop>
+        requires kept { N.Told → KeptAt (Answers K.calls_of K.step K.kept C.origin) (books_of N.hung N.up N.accepted net.old) self.old }
+        ensures new { IfOk result (λ ways. IsNew (record { brings = F.gives ways.0; takes = T.takes ways.1 })) }
+        ensures room { self.new.running < MOST_LINKS }
+        ensures records { IfOk result (λ ways. self.new.tally.left < EACH_RECORDS → self.new.running ≡ 0) }
+        ensures kept_new { IfOk result (λ ways. N.Told → KeptNew (Answers K.calls_of K.step K.kept C.origin) (books_of N.hung N.up N.accepted net.new) self.new) }
+        ensures kept { IfErr result (λ stop. N.Told → KeptAt (Answers K.calls_of K.step K.kept C.origin) (books_of N.hung N.up N.accepted net.new) self.new) }
+        ensures stops { IfErr result (λ stop. Stops N.Told (N.coming net.new) (N.faults net.old) (N.faults net.new) self.new stop) }
         ensures waits { Waits self.old self.new }
-        ensures coming { N.Told → N.coming net.new ≡ N.coming net.old }
-        ensures faults { N.faults net.new ≡ N.faults net.old }
+        ensures later { N.faults net.old ≤ N.faults net.new }
     {
-        if self.running.len() == self.running.capacity() {
-            self.serve_here(rt, alloc, desk, net, from, to);
-            return;
+        self.make_room(rt, bell, net);
+        if self.tally.left < EACH_RECORDS {
+            self.wait_for_all(rt, bell, net);
         }
-        let conn = self.tally.accepted;
-        let seat = self.free_seat();
-        let share = self.all.split_off(1, 0);
-        self.tally.left -= EACH_RECORDS;
-        match start(rt, alloc, scope, bell, desk, share, conn, seat, from, to) {
-            Ok(running) => self.running.push_reserved(running),
-            Err(closed) => {
-                let Closed {
-                    mine,
-                    from,
-                    to,
-                    end,
-                    unused,
-                } = closed;
-                self.all.merge(mine);
-                self.hang(net, from, to, end, EACH_RECORDS, unused);
-            }
+        if self.tally.left == 0 {
+            return Err(Stop::Spent);
+        }
+        match net.accept() {
+            Dialed::Up(link) => Ok(link.halves()),
+            Dialed::End => Err(Stop::End),
+            Dialed::Failed => Err(Stop::Failed),
         }
     }
 
-    // Has a connection served that was accepted just now.
+    // Has a connection served that was accepted just now: by a thread, with the records of one connection, or by itself.
     pub(crate) fn admit<'s, E, R: Threads + Wait + Sync>(
         &mut self,
         rt: &'s R,
@@ -324,18 +304,28 @@ impl<C: Origin<K>, K: Machine, F: Source + Drop, T: Sink + Drop, N: Net<From = F
         ensures faults { N.faults net.new ≡ N.faults net.old }
     {
         self.tally.accepted += 1;
-        if self.tally.left < EACH_RECORDS {
+        if self.tally.left < EACH_RECORDS || self.running.len() == self.running.capacity() {
             self.serve_here(rt, alloc, desk, net, from, to);
-        } else {
-            self.serve_there(rt, alloc, scope, bell, desk, net, from, to);
+            return;
         }
-    }
-
-    // How many records are left to be lent.
-    pub(crate) fn left(&self) -> u64
-        ensures { result ≡ self.now.tally.left }
-    {
-        self.tally.left
+        let conn = self.tally.accepted;
+        let seat = self.free_seat();
+        let share = self.all.split_off(1, 0);
+        self.tally.left -= EACH_RECORDS;
+        match start(rt, alloc, scope, bell, desk, share, conn, seat, from, to) {
+            Ok(running) => self.running.push_reserved(running),
+            Err(closed) => {
+                let Closed {
+                    mine,
+                    from,
+                    to,
+                    end,
+                    unused,
+                } = closed;
+                self.all.merge(mine);
+                self.hang(net, from, to, end, EACH_RECORDS, unused);
+            }
+        }
     }
 
     // How many connections were accepted.

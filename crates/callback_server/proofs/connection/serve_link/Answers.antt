@@ -10,6 +10,6 @@ returns-clause-served g c = record {
   new = unread (record { brings = g.F.Stream.gives c.args.from; takes = g.T.Stream.takes c.args.to }) c.requires.new;
   same = c.pump-end.ensures.whole;
   few = went_few _ _ _ _ _ _ _ _ c.pump-end.ensures.went;
-  counted = c.close-own.ensures.failed;
-  went = rw (c.new-handler.ensures, c.requires.calls, c.open-sending.ensures) at c.pump-end.ensures.went;
+  counted = c.close-back.ensures.failed;
+  went = rw (c.new-handler.ensures, c.split_off-2.ensures.amount, c.open-sending.ensures) at c.pump-end.ensures.went;
 }
