@@ -50,12 +50,8 @@ pub(crate) fn hold<R: Wait, L: Ledger, T: Ledger, G: Ledger, N: Link, K: Desk<L,
     if let Some(shut) = held.closed() {
         return Held::Closed(shut);
     }
-    let answer = if reply {
-        held.on_source_reply(alloc, worker, link.record(), share, turned, given)
-    } else {
-        held.work(alloc, worker, share, turned, given)
-    };
-    match answer {
+    let record_ = if reply { Some(link.record()) } else { None };
+    match held.turn(alloc, worker, record_, share, turned, given) {
         Ok(out) => Held::Gave(out),
         Err(_) => Held::Starved,
     }

@@ -3,7 +3,7 @@
 //!
 //! A [`Desk`] is what lies under the lock, and a [`Link`] a worker's way to the source. [`run_workers`] runs a thread for each
 //! link until its turns are used, its link is down or the desk is closed; its [`WorkerReport`] tells of each worker why it ended,
-//! and ties what landed to the desk's book. The contracts to read first are those of [`Desk::work`] and [`run_workers`], with
+//! and ties what landed to the desk's book. The contracts to read first are those of [`Desk::turn`] and [`run_workers`], with
 //! `specs/Workers.antt`. A [`Gate`] is where workers rest. Nothing is said of which worker comes first, or that a rest ends.
 #![tactic(auto)]
 

@@ -1,8 +1,7 @@
-ghost use Rattle.std.specs.Prelude.{◌≡◌, ◌+◌, ◌<◌, ◌≤◌, true, false, All, IfOk, OnOk, OnErr};
-ghost use Rattle.copy_workers.specs.Desk.{chunk_limit, given_by, given_to, landed_by, Adds, IsModest, IsSmall};
+ghost use Rattle.std.specs.Prelude.{◌≡◌, ◌+◌, ◌<◌, ◌≤◌, true, false, All, IfOk, IfSome, MatchOption, OnOk, OnErr, option_copied};
+ghost use Rattle.copy_workers.specs.Desk.{chunk_limit, given_to, landed_by, Adds, IsModest, IsSmall};
 ghost use Rattle.outbox.specs.Counting.{landed_in, records_to};
-ghost use Rattle.rpc_msg.specs.Watching.{is_down};
-ghost use Rattle.core_desk.specs.Core.{closing_of, passed_sent, same_sent, Gave, IsEmpty};
+ghost use Rattle.core_desk.specs.Core.{closing_of, passed_sent, same_sent, Gave, IsEmpty, LossIs, TurnIs};
 ghost use Rattle.core_desk.specs.Kept.{kept_of, nothing_kept, passed_of, Gives};
 
 use crate::kept::Kept;
@@ -252,6 +251,38 @@ fn put_first(kept: &mut Kept, worker: u8, sent: &mut Vec<Outgoing>)
     }
 }
 
+/// A worker's step of the machine: it takes the record that came for the worker, or finds what the worker is to do, which goes behind
+/// the call that is kept for it.
+fn step<K: Core<W>, W: Draws>(
+    core: &mut K,
+    draws: &mut W,
+    kept: &mut Kept,
+    alloc: Global,
+    worker: u8,
+    reply: Option<&[u8]>,
+    now: u64,
+) -> Mem<Outbox>
+    requires few { K.steps core.old < MOST_CALLS }
+    requires worker { 1 ≤ worker }
+    requires workers { worker ≤ 8 }
+    ensures step { IfOk result (λ out. MatchOption (option_copied reply.entry)
+        (Gave (λ second old told new. K.works worker second draws.old draws.new old told new) (Gives worker kept.old kept.new) core.old out core.new)
+        (λ message. Gave (K.takes_reply worker message) same_sent core.old out core.new)) }
+    ensures rest { IfSome (option_copied reply.entry) (λ message. (draws.new ≡ draws.old) × (kept.new ≡ kept.old)) }
+    ensures modest { IfOk result (λ out. IsModest worker out) }
+    ensures landed { K.landed core.new ≡ K.landed core.old + landed_by result }
+    ensures counted { OnOk result (K.steps core.new ≡ K.steps core.old + 1) }
+    ensures err { OnErr result (core.new ≡ core.old) }
+{
+    match reply {
+        Some(bytes) => core.on_source_reply(alloc, worker, bytes, now),
+        None => {
+            let out = core.work(alloc, worker, now, draws)?;
+            Ok(with_kept(kept, worker, out))
+        }
+    }
+}
+
 /// Books what a turn landed and what it gives the worker to send.
 fn book_all<L: Ledger, G: Ledger>(
     landed: &mut Book<L>,
@@ -289,32 +320,19 @@ impl<L: Ledger, T: Ledger, G: Ledger, N, K: Core<W> + Send, C: Clock + Send, W: 
 
     ghost shut_by = { λ d. closing_of d.asked (K.steps d.core) };
 
-    fn work(
+    ghost takes_turn = { λ worker reply old result new. TurnIs K.steps (K.works worker) (K.takes_reply worker) worker reply old result new };
+
+    ghost loses_link = { λ worker old result new. LossIs K.steps (K.fails_link worker) old result new };
+
+    fn turn(
         &mut self,
         alloc: Global,
         worker: u8,
+        reply: Option<&[u8]>,
         share: &mut Share<L>,
         turned: &mut Share<T>,
         given: &mut Share<G>,
-    ) -> Mem<Outbox>
-        requires worker { 1 ≤ worker }
-        requires workers { worker ≤ 8 }
-        requires share { 0 < share.old.parts }
-        requires turned { 0 < turned.old.parts }
-        requires given { 0 < given.old.parts }
-        ensures share_parts { share.new.parts ≡ share.old.parts }
-        ensures turned_parts { turned.new.parts ≡ turned.old.parts }
-        ensures given_parts { given.new.parts ≡ given.old.parts }
-        ensures landed { Adds (landed_by result) self.old.landed self.new.landed share.old.amount share.new.amount }
-        ensures turned { Adds 1 self.old.turns self.new.turns turned.old.amount turned.new.amount }
-        ensures given { Adds (given_by worker result) self.old.given self.new.given given.old.amount given.new.amount }
-        ensures modest { IfOk result (λ out. IsModest worker out) }
-        ensures step { K.steps self.old.core < MOST_CALLS → IfOk result (λ out. Gave (λ now old told new. K.works worker now self.old.draws self.new.draws old told new) (Gives worker self.old.kept self.new.kept) self.old.core out self.new.core) }
-        ensures full { MOST_CALLS ≤ K.steps self.old.core → IfOk result IsEmpty × (self.new.core ≡ self.old.core) }
-        ensures later { K.steps self.old.core ≤ K.steps self.new.core }
-        ensures err { OnErr result (self.new.core ≡ self.old.core) }
-        ensures asked { self.new.asked ≡ self.old.asked }
-    {
+    ) -> Mem<Outbox> {
         let CoreDesk {
             core,
             clock,
@@ -329,70 +347,12 @@ impl<L: Ledger, T: Ledger, G: Ledger, N, K: Core<W> + Send, C: Clock + Send, W: 
         if core.calls() >= MOST_CALLS {
             return nothing(alloc);
         }
-        let out = core.work(alloc, worker, clock.now(), draws)?;
-        let out = with_kept(kept, worker, out);
+        let out = step(core, draws, kept, alloc, worker, reply, clock.now())?;
         book_all(landed, book, worker, &out, share, given);
         Ok(out)
     }
 
-    fn on_source_reply(
-        &mut self,
-        alloc: Global,
-        worker: u8,
-        bytes: &[u8],
-        share: &mut Share<L>,
-        turned: &mut Share<T>,
-        given: &mut Share<G>,
-    ) -> Mem<Outbox>
-        requires worker { 1 ≤ worker }
-        requires workers { worker ≤ 8 }
-        requires share { 0 < share.old.parts }
-        requires turned { 0 < turned.old.parts }
-        requires given { 0 < given.old.parts }
-        ensures share_parts { share.new.parts ≡ share.old.parts }
-        ensures turned_parts { turned.new.parts ≡ turned.old.parts }
-        ensures given_parts { given.new.parts ≡ given.old.parts }
-        ensures landed { Adds (landed_by result) self.old.landed self.new.landed share.old.amount share.new.amount }
-        ensures turned { Adds 1 self.old.turns self.new.turns turned.old.amount turned.new.amount }
-        ensures given { Adds (given_by worker result) self.old.given self.new.given given.old.amount given.new.amount }
-        ensures modest { IfOk result (λ out. IsModest worker out) }
-        ensures step { K.steps self.old.core < MOST_CALLS → IfOk result (λ out. Gave (λ now old told new. K.takes_reply worker bytes.now now old told new) same_sent self.old.core out self.new.core) }
-        ensures full { MOST_CALLS ≤ K.steps self.old.core → IfOk result IsEmpty × (self.new.core ≡ self.old.core) }
-        ensures rest { self.new ≡ record self.old { core = self.new.core; landed = self.new.landed; turns = self.new.turns; given = self.new.given } }
-        ensures later { K.steps self.old.core ≤ K.steps self.new.core }
-        ensures err { OnErr result (self.new.core ≡ self.old.core) }
-    {
-        let CoreDesk {
-            core,
-            clock,
-            landed,
-            turns,
-            given: book,
-            ..
-        } = self;
-        turns.add(turned, 1);
-        if core.calls() >= MOST_CALLS {
-            return nothing(alloc);
-        }
-        let out = core.on_source_reply(alloc, worker, bytes, clock.now())?;
-        book_all(landed, book, worker, &out, share, given);
-        Ok(out)
-    }
-
-    fn link_failed(&mut self, alloc: Global, worker: u8, _link: &Watched<N>) -> Mem<Outbox>
-        requires worker { 1 ≤ worker }
-        requires workers { worker ≤ 8 }
-        requires down { is_down _link.now.signs ≡ true }
-        ensures landed { self.new.landed ≡ self.old.landed }
-        ensures turned { self.new.turns ≡ self.old.turns }
-        ensures given { self.new.given ≡ self.old.given }
-        ensures none { IfOk result (λ out. records_to worker out.sent ≡ 0) }
-        ensures step { K.steps self.old.core < MOST_CALLS → IfOk result (λ out. K.fails_link worker self.old.core out self.new.core) }
-        ensures full { MOST_CALLS ≤ K.steps self.old.core → IfOk result IsEmpty × (self.new ≡ self.old) }
-        ensures rest { self.new ≡ record self.old { core = self.new.core } }
-        ensures later { K.steps self.old.core ≤ K.steps self.new.core }
-        ensures err { OnErr result (self.new ≡ self.old) }
-    {
+    fn link_failed(&mut self, alloc: Global, worker: u8, _link: &Watched<N>) -> Mem<Outbox> {
         if self.core.calls() >= MOST_CALLS {
             return nothing(alloc);
         }

@@ -2,7 +2,8 @@
 use Rattle.std.proofs.Common.{◌≡◌, ◌⊎◌, ℕ, ◌<◌, ◌≤◌, List, [], ◌∷◌, ◌++◌, refl, ap, subst, sym, inl, inr, Some, None, Ok, Err}
 use Rattle.std.proofs.lemmas.Bool.{cases_lt}
 use Rattle.std.specs.Prelude.{Option, Result, IfOk, OnErr}
-use Rattle.core_desk.specs.Core.{DeskState, Gave}
+use Rattle.core_desk.specs.Core.{same_sent, DeskState, Gave, TurnIs}
+use Rattle.core_desk.specs.Kept.{Gives}
 use Rattle.core_desk.specs.declared.machine.TheConstants.{MOST_CALLS}
 use Rattle.outbox.specs.declared.outgoing.Outbox.{Outbox}
 use Rattle.outbox.specs.declared.outgoing.Outgoing.{Outgoing}
@@ -62,6 +63,18 @@ module _ {K W : Type 0} (c : CoreWords K W) where
       → (steps < MOST_CALLS → IfOk result (λ out. Gave step sends old out new)) → (MOST_CALLS ≤ steps → new ≡ old)
       → OnErr result (new ≡ old) → ComesFrom c origin old → ComesFrom c origin new
   comes_by origin step sends old new steps result = by_room origin step sends old new steps result (cases_lt steps MOST_CALLS)
+
+  -- a worker's turn, with a record that came for the worker or without one
+  pub comes_turn : (origin : Option K) (works : ℕ → W → W → K → Outbox → K → Type 0) (takes : List ℕ → ℕ → K → Outbox → K → Type 0) (worker : ℕ)
+      (reply : Option (List ℕ)) (old : DeskState K W) (result : Result Outbox NoMemory) (new : DeskState K W) (steps : K → ℕ)
+      → ((now : ℕ) (told : Outbox) → works now old.draws new.draws old.core told new.core → Moves c old.core new.core)
+      → ((message : List ℕ) (now : ℕ) (told : Outbox) → takes message now old.core told new.core → Moves c old.core new.core)
+      → TurnIs steps works takes worker reply old result new → ComesFrom c origin old.core → ComesFrom c origin new.core
+  comes_turn origin works takes worker None old result new steps worked took turn =
+      comes_by origin (λ now before told after. works now old.draws new.draws before told after) (Gives worker old.kept new.kept) old.core new.core
+      (steps old.core) result worked turn.step (λ full. (turn.full full).1) turn.err
+  comes_turn origin works takes worker (Some message) old result new steps worked took turn =
+      comes_by origin (takes message) same_sent old.core new.core (steps old.core) result (took message) turn.step (λ full. (turn.full full).1) turn.err
 
   -- ---- the same, where what it gives is just what the step told
 

@@ -120,38 +120,20 @@ impl<
 
     ghost shut_by = { λ d. closing_of d.desk.asked (K.steps d.desk.core) };
 
-    fn work(
+    fn turn(
         &mut self,
         alloc: Global,
         worker: u8,
+        reply: Option<&[u8]>,
         share: &mut Share<L>,
         turned: &mut Share<T>,
         given: &mut Share<G>,
     ) -> Mem<Outbox> {
-        <CoreDesk<L, T, G, K, C, W> as Desk<L, T, G, N>>::work(
+        <CoreDesk<L, T, G, K, C, W> as Desk<L, T, G, N>>::turn(
             &mut self.desk,
             alloc,
             worker,
-            share,
-            turned,
-            given,
-        )
-    }
-
-    fn on_source_reply(
-        &mut self,
-        alloc: Global,
-        worker: u8,
-        bytes: &[u8],
-        share: &mut Share<L>,
-        turned: &mut Share<T>,
-        given: &mut Share<G>,
-    ) -> Mem<Outbox> {
-        <CoreDesk<L, T, G, K, C, W> as Desk<L, T, G, N>>::on_source_reply(
-            &mut self.desk,
-            alloc,
-            worker,
-            bytes,
+            reply,
             share,
             turned,
             given,

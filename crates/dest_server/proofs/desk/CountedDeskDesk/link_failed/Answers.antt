@@ -7,7 +7,7 @@ pub invariant_of-self : goal.invariant_of-self
 invariant_of-self g c =
     let old = c.self.inside.desk in
     let new = c.link_failed.new.self in
-    let failed = c.link_failed.ensures in
+    let failed = c.link_failed.ensures.loss in
     record {
       few = omega (arith, c.self.invariant.few, failed.later);
       came = comes_failed (core_words g.K.Core.takes_record g.K.Core.ticks g.K.Core.works g.K.Core.takes_reply g.K.Core.fails_link) g.Q.Origin.origin
