@@ -37,7 +37,7 @@ pub fn runs_owe_all<M: Mechanism>()
     crate::opening::openings_stand_behind::<M>();
     crate::opening::stops_open_anew::<M>();
     crate::opening::stops_lose_all::<M>();
-    crate::serving::destinations_crash_lawfully::<M>();
+    crate::serving::destinations_are_lawful_servers::<M>();
     volume_stops::one_stop_is_one_crash();
     opening_laws::callers_open_anew();
     opening_laws::crashes_lose_all_copies();

@@ -48,32 +48,14 @@ pub fn sources_call_nobody<M: Mechanism>()
         → IsSilentCaller (spelling accepts whose) (system_of (run_machines M.mic_of M.derived M.started M.accepted M.finished) (record { mic = M.mic_of; derived = M.derived }) (spelling accepts whose) meaning seen first steps purposes) }
 {}
 
-/// The destination of every run obeys the laws of a server in each step, also where it stops.
+/// The destination of every run obeys the laws of a server in each step, also where it stops. In each step in which it stops, its volume
+/// goes on by a crash, which is allowed, as the system shows it, where the destination takes only what calls a volume once at most.
 pub fn destinations_are_lawful_servers<M: Mechanism>()
-    ensures { (mech : M) (events : List Numbered) (first : RunWorld M) (steps : List (RunStep M)) (accepts : List ℕ → Option (List ℕ)) (whose : List ℕ → Option End)
+    ensures laws { (mech : M) (events : List Numbered) (first : RunWorld M) (steps : List (RunStep M)) (accepts : List ℕ → Option (List ℕ)) (whose : List ℕ → Option End)
         (seen : ClientView M) (purposes : ℕ → Purposes) → IsFirst mech events first
         → AreSteps (run_machines M.mic_of M.derived M.started M.accepted M.finished) first steps
         → IsLawfulDest (spelling accepts whose) (system_of (run_machines M.mic_of M.derived M.started M.accepted M.finished) (record { mic = M.mic_of; derived = M.derived }) (spelling accepts whose) meaning seen first steps purposes) }
-{
-    server_laws::steps_are_lawful::<Destination<M>, dest_jobs::Carried, CountDraws>();
-    server_laws::rests_are_lawful::<Destination<M>, dest_jobs::Carried>();
-    server_laws::slots_are_kept::<Destination<M>, dest_jobs::Carried, CountDraws>();
-    server_laws::slots_rest::<Destination<M>, dest_jobs::Carried>();
-    server_laws::contexts_stay::<Destination<M>, dest_jobs::Carried, CountDraws>();
-    dest_laws::calls::heard_records_are_not_answered::<M>();
-    server_laws::contexts_rest::<Destination<M>, dest_jobs::Carried>();
-    tell_laws::volumes_stay_fitting();
-    tell_laws::steps_call_once::<Destination<M>, dest_jobs::Carried, CountDraws>();
-    commit_laws::steps_change_by_calls::<Destination<M>, dest_jobs::Carried, CountDraws>();
-    dest_laws::landings::workers_call_once::<M, CountDraws>();
-    opening_laws::servers_open_anew();
-    volume_stops::one_stop_is_one_crash();
-}
-
-/// In each step in which the destination of a run stops, its volume goes on by a crash, which is allowed, as the system shows it, where
-/// the destination takes only what calls a volume once at most.
-pub fn destinations_crash_lawfully<M: Mechanism>()
-    ensures { (mech : M) (events : List Numbered) (first : RunWorld M) (steps : List (RunStep M)) (accepts : List ℕ → Option (List ℕ)) (whose : List ℕ → Option End)
+    ensures crashes { (mech : M) (events : List Numbered) (first : RunWorld M) (steps : List (RunStep M)) (accepts : List ℕ → Option (List ℕ)) (whose : List ℕ → Option End)
         (seen : ClientView M) (purposes : ℕ → Purposes) → IsFirst mech events first
         → AreSteps (run_machines M.mic_of M.derived M.started M.accepted M.finished) first steps
         → CrashesLawfully (run_machines M.mic_of M.derived M.started M.accepted M.finished) (record { mic = M.mic_of; derived = M.derived }) (spelling accepts whose) meaning seen first steps purposes }

@@ -60,7 +60,7 @@ returns g c mech events first steps accepts whose seen purposes is_first are own
       begins =
           start_shown _ (own (suc k)) _ run (suc k) (shows (suc k)) (at_first m codes spell meaning seen first steps purposes k kept some)
           (owing (suc k)).calls.start;
-      crashes = c.destinations_crash_lawfully.ensures mech events first steps accepts whose seen purposes is_first are k at.step kept at.is at.cut;
+      crashes = c.destinations_are_lawful_servers.ensures.crashes mech events first steps accepts whose seen purposes is_first are k at.step kept at.is at.cut;
     } in
     let known : AreKnown = record {
       callers_anew = λ a b d e f h. c.callers_open_anew.ensures a b d e f h;

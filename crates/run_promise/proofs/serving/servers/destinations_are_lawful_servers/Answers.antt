@@ -1,12 +1,13 @@
 use Rattle.run_ends.specs.Ends.{count_gives, words_of}
-use Rattle.run_promise.proofs.serving.DestRuns.{AreKnownDest, dest_lawful}
+use Rattle.run_promise.proofs.serving.DestRuns.{AreKnownDest, crashes_lawfully, dest_lawful}
 use Rattle.run_promise.proofs.Premises.{calls_none}
 use Rattle.run_promise.proofs.serving.servers.destinations_are_lawful_servers.Goals as goal
 
 pub returns : goal.returns
-returns g c mech events first steps accepts whose seen purposes is are =
+returns g c =
     let k = g.M.Mechanism in
-    let known : AreKnownDest (words_of k.mic_of k.derived k.started k.accepted k.finished count_gives) = record {
+    let words = words_of k.mic_of k.derived k.started k.accepted k.finished count_gives in
+    let known : AreKnownDest words = record {
       laws = c.steps_are_lawful.ensures.laws;
       owner = c.steps_are_lawful.ensures.owner;
       good = c.contexts_stay.ensures.good;
@@ -31,4 +32,7 @@ returns g c mech events first steps accepts whose seen purposes is are =
       };
       anew = c.servers_open_anew.ensures;
     } in
-    dest_lawful (words_of k.mic_of k.derived k.started k.accepted k.finished count_gives) known accepts whose mech events first steps seen purposes is are
+    record {
+      laws = λ mech events first steps accepts whose seen purposes is are. dest_lawful words known accepts whose mech events first steps seen purposes is are;
+      crashes = λ mech events first steps accepts whose seen purposes is are. crashes_lawfully words known accepts whose mech events first steps seen purposes is are;
+    }
