@@ -25,8 +25,7 @@
 //!    reader, MAX)?`, `Octets::parse_between(..)?` and `Items::parse(alloc, reader, MAX)?`. A union begins with
 //!    `let start = reader.at();` and a `match` on `u32::parse`, whose last arm is `Err(ReadError::at(start))`; a
 //!    field of `such_that` is read and then tested in the same way. Fields without a limit are read as nested pairs
-//!    where their forms are nested so, as those that stand last are: `<(u32, (u64, bool))>::parse(alloc, reader)?` is
-//!    proved in the time of one field.
+//!    where their forms are nested so, as those that stand last are: `<(u32, (u64, bool))>::parse(alloc, reader)?`.
 //! 6. `put` writes each field by `self.x.put(writer)?`; a variant writes its number first, and one that holds
 //!    nothing ends with `writer.void()`. Fields that can be copied are written as nested pairs too, wherever they
 //!    stand: `(self.x, (self.y, self.z)).put(writer)?`. Where they can't, [`put_four`] writes four at a time.
