@@ -1,13 +1,12 @@
 -- What a record says that is taken for an answer: it is the reply by the awaited xid; its results, and the context that it gives.
-use Rattle.std.proofs.Common.{◌≡◌, ℕ, Bool, true, false, List, ◌++◌, length, drop, Option, Some, None, Result, Ok, Err, refl, ap, subst, ◌∙◌}
+use Rattle.std.proofs.Common.{◌≡◌, ℕ, Bool, true, false, List, length, drop, Option, Some, None, Result, Ok, Err, refl, ap, ◌∙◌}
 use Rattle.std.specs.Prelude.{◌==◌, if◌then◌else◌}
 use Rattle.std.proofs.lemmas.Bool.{eqb-true}
-use Rattle.std.proofs.lemmas.Nat.{from_be_bytes-to_be_bytes_4}
 use Rattle.wire_xdr.specs.All.{value_of}
-use Rattle.wire_xdr.specs.Cursor.{Cursor, IsBytes}
+use Rattle.wire_xdr.specs.Cursor.{IsBytes}
 use Rattle.wire_xdr.specs.Words.{word_bytes}
 use Rattle.gss_ctx.specs.Forms.{create_result, init_result}
-use Rattle.gss_ctx.specs.Replies.{begun_of, begun_head, begun_read, begun_under, begun_with, checked_of, of_head, of_read, result_of}
+use Rattle.gss_ctx.specs.Replies.{begun_of, begun_head, begun_read, begun_under, begun_with, checked_of, of_head, of_read}
 use Rattle.gss_ctx.specs.Seals.{Mic, is_code, unsealed}
 use Rattle.gss_ctx.specs.declared.begin.Begun.{Begun}
 use Rattle.gss_ctx.specs.declared.begin.Begun.TheVariants as begins
@@ -20,9 +19,8 @@ use Rattle.nfs_compound.specs.Results as results
 use Rattle.nfs_compound.specs.declared.op.Op.{Op}
 use Rattle.nfs_compound.specs.declared.reply.Reply.{Reply}
 use Rattle.rpc_msg.specs.Heads.{reply}
-use Rattle.rpc_msg.specs.Messages.{behind, first, head_told, kind_of, unless_other}
+use Rattle.rpc_msg.specs.Messages.{first, head_told, kind_of}
 use Rattle.rpc_msg.specs.declared.messages.RpcFault.{RpcFault}
-use Rattle.rpc_msg.specs.declared.messages.RpcFault.TheVariants.{OtherKind}
 use Rattle.rpc_msg.specs.declared.reply.Denial.{Denial}
 use Rattle.rpc_msg.specs.declared.reply.ReplyHead.{ReplyHead}
 use Rattle.rpc_msg.specs.declared.reply.ReplyHead.TheVariants.{Accepted, Denied}
@@ -39,35 +37,10 @@ use Rattle.session_client.specs.declared.answers.TakenChild.TheVariants as child
 use Rattle.wire_spelling.specs.Calls.{xid_in}
 use Rattle.wire_spelling.specs.ReadLaws.{unsealed_carried}
 use Rattle.wire_spelling.specs.Replies.{context_given, context_in, is_read, is_reply, results_of, results_read}
+use Rattle.caller_laws.proofs.Replied.{guarded, unless_spelled, xid_spelled}
 use Rattle.caller_laws.specs.View.{handle_named}
 
 -- ---- the xid of a reply is its first word
-
-record IsSpelled (head : ReplyHead) (bytes : List ℕ) : Type 0 where
-  rest : List ℕ
-  is : bytes ≡ reply.spell head ++ rest
-  fits : reply.Fits head
-
-behind_spelled : (bytes : List ℕ) (told : Result (ReplyHead × Cursor) ℕ) (read : ReplyHead × ℕ) → reply.read (first bytes) ≡ told → behind told ≡ Ok read → IsBytes bytes
-    → IsSpelled read.0 bytes
-behind_spelled bytes (Ok x) read is h all =
-    let same : (x.0, x.1.at) ≡ read = cc in
-    let passed = reply.lawful.takes (first bytes) x.0 x.1 all is in
-    subst (λ (r : ReplyHead × ℕ). IsSpelled r.0 bytes) same (record { rest = x.1.rest; is = passed.0.parts; fits = passed.1 })
-behind_spelled bytes (Err at) read is h all = absurd cc
-
-unless_spelled : (bytes : List ℕ) (kind : Option ℕ) (read : ReplyHead × ℕ) → unless_other 0 kind (behind (reply.read (first bytes))) ≡ Ok read → IsBytes bytes → IsSpelled read.0 bytes
-unless_spelled bytes None read h all = behind_spelled bytes (reply.read (first bytes)) read refl h all
-unless_spelled bytes (Some kind) read h all = by bytes (kind == 0) kind read h all
-  where
-    by : (bytes : List ℕ) (b : Bool) (kind : ℕ) (read : ReplyHead × ℕ) → (if b then Err (OtherKind kind) else behind (reply.read (first bytes))) ≡ Ok read → IsBytes bytes → IsSpelled read.0 bytes
-    by bytes true kind read h all = absurd cc
-    by bytes false kind read h all = behind_spelled bytes (reply.read (first bytes)) read refl h all
-
-xid_spelled : (head : ReplyHead) (rest : List ℕ) → reply.Fits head → xid_in (reply.spell head ++ rest) ≡ head_xid head
-unfolding reply word_bytes
-xid_spelled (Accepted xid verf stat) rest fits = from_be_bytes-to_be_bytes_4 xid fits.0
-xid_spelled (Denied xid why) rest fits = from_be_bytes-to_be_bytes_4 xid fits.0
 
 xid_read : (bytes : List ℕ) (read : ReplyHead × ℕ) → head_told reply 0 bytes ≡ Ok read → IsBytes bytes → xid_in bytes ≡ head_xid read.0
 xid_read bytes read h all =
@@ -88,13 +61,6 @@ reply_by xid bytes read told all same = record { is_one = ap is_read told; xid_i
 record IsResult (xid : ℕ) (bytes result : List ℕ) : Type 0 where
   by : IsReplyBy xid bytes
   results : results_of bytes ≡ result
-
-guarded : (a b : Bool) (o : Option (List ℕ)) (result : List ℕ) → (if a then (if b then result_of o else checked.Unmatched) else checked.Unmatched) ≡ checked.Result result
-    → (a ≡ true) × (o ≡ Some result)
-guarded true true (Some x) result h = (refl, cc)
-guarded true true None result h = absurd cc
-guarded true false o result h = absurd cc
-guarded false b o result h = absurd cc
 
 failed_never : (a : Bool) (stat : Stat) (result : List ℕ) → (if a then checked.Failed stat else checked.Unmatched) ≡ checked.Result result → ⊥
 failed_never true stat result h = cc

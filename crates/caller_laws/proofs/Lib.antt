@@ -2,6 +2,7 @@ pub mod Faces
 pub mod Gained
 pub mod Heard
 pub mod Losses
+pub mod Replied
 pub mod SendMoves
 pub mod SentLaws
 pub mod Shrunk

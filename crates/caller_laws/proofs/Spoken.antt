@@ -5,11 +5,9 @@ use Rattle.std.proofs.lemmas.Bool.{le-leb}
 use Rattle.nfs_base.specs.declared.programs.TheConstants.{NFS_PROGRAM, PROC_COMPOUND}
 use Rattle.nfs_compound.specs.VolumeCalls.{volume_calls}
 use Rattle.std.specs.List.{AllByRecursion}
-use Rattle.std.proofs.lemmas.List.{length-append}
 use Rattle.wire_xdr.specs.All.{value_of}
 use Rattle.wire_xdr.specs.AllLaws.{spelled_value}
 use Rattle.wire_xdr.specs.Cursor.{IsBytes}
-use Rattle.wire_xdr.specs.LengthLaws.{word_length, opaque_length, padding_below}
 use Rattle.wire_xdr.specs.Words.{word_bytes, opaque_bytes, fixed_bytes}
 use Rattle.gss_mech.specs.Tokens.{IsSized}
 use Rattle.gss_ctx.specs.Calls.{Side, call_cred, sealed_call, verified, with_cred}
@@ -34,6 +32,7 @@ use Rattle.wire_spelling.specs.Calls.{asks_for, begun_by, begun_in, call_in, cal
 use Rattle.wire_spelling.specs.ReadLaws.{call_is_no_reply, call_read_back, call_xid, carried_back, ops_back}
 use Rattle.wire_spelling.specs.Replies.{is_reply}
 use Rattle.wire_spelling.specs.Slots.{asks_compound, carried_in, calls_in, first_slot, is_simple, ops_of, slot_asked, slot_in, slot_of}
+use Rattle.caller_laws.specs.CredLaws.{short_cred}
 use Rattle.caller_laws.specs.Good.{Identity, IsAsked, IsOurs, IsOwnToken}
 
 -- a call by this xid, and to no callback program
@@ -65,26 +64,6 @@ AreRead =
     → AllByRecursion (λ op. op_is_cut op ≡ false) c.ops → compound_of (compound_bytes c) ≡ Ok c
 
 -- ---- a call under a context
-
-short_handle : (handle : List ℕ) → length handle ≡ 8 → length (opaque_bytes handle) ≤ 15
-short_handle handle eight = omega (arith, opaque_length handle, padding_below (length handle))
-
-length-five : (a b c d e : List ℕ) → length (a ++ (b ++ (c ++ (d ++ e)))) ≡ length a + (length b + (length c + (length d + length e)))
-length-five a b c d e =
-    omega (arith, length-append a (b ++ (c ++ (d ++ e))), length-append b (c ++ (d ++ e)), length-append c (d ++ e), length-append d e)
-
-short_cred : (v : GssCred) → length v.handle ≡ 8 → length (gss_cred.spell v) ≤ 400
-unfolding gss_cred
-short_cred v eight =
-    omega (
-      arith,
-      length-five (word_bytes v.version) (word_bytes v.gss_proc) (word_bytes v.seq_num) (word_bytes v.service) (opaque_bytes v.handle),
-      word_length v.version,
-      word_length v.gss_proc,
-      word_length v.seq_num,
-      word_length v.service,
-      short_handle v.handle eight,
-    )
 
 -- the side of a context may seal a call by this xid
 pub record IsOpen (mic : Mic) (side : Side) (xid : ℕ) : Type 0 where

@@ -1,4 +1,5 @@
 pub mod Answers
+pub mod CredLaws
 pub mod Duties
 pub mod Fitting
 pub mod Good

@@ -1,15 +1,15 @@
 -- Nothing that is done to a book raises how many chunks of a sized job are left.
 use Rattle.std.proofs.Common.{◌≡◌, ℕ, zero, suc, ◌+◌, ◌*◌, ◌≤◌, Bool, true, false, List, [], ◌∷◌, ◌++◌, refl, sym, ap, subst, ◌∙◌, arith}
-use Rattle.std.proofs.lemmas.Bool.{eqb-true, eq-eqb, ne_eqb}
+use Rattle.std.proofs.lemmas.Bool.{eqb-true, ne_eqb}
 use Rattle.std.proofs.lemmas.List.Elements.{All-head, All-tail}
 use Rattle.std.proofs.lemmas.List.Folds.{list_any-append}
-use Rattle.std.specs.Prelude.{◌==◌, ◌&&◌, ◌||◌, not, if◌then◌else◌, All, Option, Some, None, find, filter, option_map}
+use Rattle.std.specs.Prelude.{◌==◌, ◌&&◌, ◌||◌, if◌then◌else◌, All, Option, Some, None, find, option_map}
 use Rattle.std.specs.List.{list_any}
 use Rattle.copy_model.specs.Job.{Committed, Entry, Landed, Reported, Sized, Stopped, chunk_size, chunks_of, has_landed, is_landing, size_of}
 use Rattle.job_log.specs.Log.{JobView, after_landing, given_back, is_claimed, sized, total_of, with_claim, with_entry}
 use Rattle.job_log.specs.declared.chunk.Chunk.{Chunk}
 use Rattle.job_log.specs.declared.chunk.Landing.TheVariants as landings
-use Rattle.job_table.specs.Table.{changed, is_job, new_job}
+use Rattle.job_table.specs.Table.{is_job, new_job}
 use Rattle.job_table.specs.declared.job.Job.{Job}
 use Rattle.job_table.specs.declared.job.Plan.{Plan}
 use Rattle.job_book.specs.Book.{BookView, IsSound, accept_answer, after_accept, id_of, named, retired}
@@ -18,6 +18,7 @@ use Rattle.job_book.specs.declared.acceptance.Acceptance.{Acceptance}
 use Rattle.job_book.specs.declared.acceptance.Acceptance.TheVariants as answers
 use Rattle.nfs_base.specs.declared.job.JobName.{JobName}
 use Rattle.dest_tasks.specs.Completing.{Accepts, Claims, Comes, Commits, Deed, Does, GivesBack, Lands, Retires, Sizes, Stops, chunks_left, left_of, one_unless}
+use Rattle.dest_tasks.specs.NamedLaws.{find_behind, find_changed, find_other, find_without, none_left, same_name, two_names}
 use Rattle.dest_tasks.specs.Posts.{is_same}
 use Rattle.dest_laws.specs.Deeds.{ByDeeds}
 
@@ -59,98 +60,11 @@ more_holds len most es e h =
     let was = h.1 in
     (size_kept es e len h.0, omega (arith, less, was))
 
--- ---- names
+-- ---- both of two
 
 both_so : (a b : Bool) → (a && b) ≡ true → (a ≡ true) × (b ≡ true)
 both_so true b is = (refl, is)
 both_so false b is = absurd (cc)
-
-join : (a b : Bool) → a ≡ true → b ≡ true → (a && b) ≡ true
-join true b is more = more
-join false b is more = absurd (cc)
-
-abbrev a_name : (boot number : ℕ) → JobName
-a_name boot number = record { boot = boot; number = number }
-
-same_name : (job name : JobName) → is_same job name ≡ true → job ≡ name
-same_name job name is =
-    let parts = both_so (job.boot == name.boot) (job.number == name.number) is in
-    let boots : job.boot ≡ name.boot = eqb-true job.boot name.boot parts.0 in
-    let numbers : job.number ≡ name.number = eqb-true job.number name.number parts.1 in
-    let first : job ≡ a_name name.boot job.number = ap (λ (b : ℕ). a_name b job.number) boots in
-    let second : a_name name.boot job.number ≡ name = ap (λ (n : ℕ). a_name name.boot n) numbers in
-    first ∙ second
-
-two_names : (boot : ℕ) (job name : JobName) (x : Job) → is_same job name ≡ false → is_job boot (id_of job) x ≡ true → is_job boot (id_of name) x ≡ true → ⊥
-two_names boot job name x other first second =
-    let a = both_so (job.boot == boot) (job.number == x.number) first in
-    let b = both_so (name.boot == boot) (name.number == x.number) second in
-    let boots : job.boot ≡ name.boot = eqb-true job.boot boot a.0 ∙ sym (eqb-true name.boot boot b.0) in
-    let numbers : job.number ≡ name.number = eqb-true job.number x.number a.1 ∙ sym (eqb-true name.number x.number b.1) in
-    let same : is_same job name ≡ true = join (job.boot == name.boot) (job.number == name.number) (eq-eqb job.boot name.boot boots) (eq-eqb job.number name.number numbers) in
-    absurd (cc)
-
--- ---- a job among others, one of which changes
-
-found_at : (p : Job → Bool) (f : Job → Job) (x : Job) (xs : List Job) (b : Bool) → p x ≡ b → p (f x) ≡ p x
-    → find p (changed p f xs) ≡ option_map f (find p xs)
-    → find p (if b then f x ∷ xs else x ∷ changed p f xs) ≡ option_map f (if b then Some x else find p xs)
-found_at p f x xs true is keeps rest = rw (keeps, is) refl
-found_at p f x xs false is keeps rest = rw is rest
-
-pub find_changed : (p : Job → Bool) (f : Job → Job) (xs : List Job) → ((x : Job) → p (f x) ≡ p x) → find p (changed p f xs) ≡ option_map f (find p xs)
-find_changed p f [] keeps = refl
-find_changed p f (x ∷ xs) keeps = found_at p f x xs (p x) refl (keeps x) (find_changed p f xs keeps)
-
-not_this : (q : Job → Bool) (f : Job → Job) (x : Job) (xs : List Job) (b : Bool) → q x ≡ b → q (f x) ≡ q x → (b ≡ true → ⊥)
-    → find q (f x ∷ xs) ≡ find q (x ∷ xs)
-not_this q f x xs true is keeps never = absurd (never refl)
-not_this q f x xs false is keeps never = rw (keeps, is) refl
-
-other_at : (p q : Job → Bool) (f : Job → Job) (x : Job) (xs : List Job) (b : Bool) → p x ≡ b → q (f x) ≡ q x → (p x ≡ true → q x ≡ true → ⊥)
-    → find q (changed p f xs) ≡ find q xs → find q (if b then f x ∷ xs else x ∷ changed p f xs) ≡ find q (x ∷ xs)
-other_at p q f x xs true is keeps apart rest = not_this q f x xs (q x) refl keeps (λ here. apart is here)
-other_at p q f x xs false is keeps apart rest = ap (λ (o : Option Job). if q x then Some x else o) rest
-
-find_other : (p q : Job → Bool) (f : Job → Job) (xs : List Job) → ((x : Job) → q (f x) ≡ q x) → ((x : Job) → p x ≡ true → q x ≡ true → ⊥)
-    → find q (changed p f xs) ≡ find q xs
-find_other p q f [] keeps apart = refl
-find_other p q f (x ∷ xs) keeps apart = other_at p q f x xs (p x) refl (keeps x) (apart x) (find_other p q f xs keeps apart)
-
--- ---- without some, or with one more
-
-passed_over : (q : Job → Bool) (x : Job) (xs : List Job) (b : Bool) → q x ≡ b → (b ≡ true → ⊥) → find q xs ≡ find q (x ∷ xs)
-passed_over q x xs true is never = absurd (never refl)
-passed_over q x xs false is never = rw is refl
-
-without_at : (p q : Job → Bool) (x : Job) (xs : List Job) (b : Bool) → p x ≡ b → (p x ≡ true → q x ≡ true → ⊥)
-    → find q (filter (λ y. not (p y)) xs) ≡ find q xs
-    → find q (if not b then x ∷ filter (λ y. not (p y)) xs else filter (λ y. not (p y)) xs) ≡ find q (x ∷ xs)
-without_at p q x xs true is apart rest = rest ∙ passed_over q x xs (q x) refl (λ here. apart is here)
-without_at p q x xs false is apart rest = ap (λ (o : Option Job). if q x then Some x else o) rest
-
-find_without : (p q : Job → Bool) (xs : List Job) → ((x : Job) → p x ≡ true → q x ≡ true → ⊥) → find q (filter (λ y. not (p y)) xs) ≡ find q xs
-find_without p q [] apart = refl
-find_without p q (x ∷ xs) apart = without_at p q x xs (p x) refl (apart x) (find_without p q xs apart)
-
--- none is left that has the name
-none_at : (p : Job → Bool) (x : Job) (xs : List Job) (b : Bool) → p x ≡ b → find p (filter (λ y. not (p y)) xs) ≡ None
-    → find p (if not b then x ∷ filter (λ y. not (p y)) xs else filter (λ y. not (p y)) xs) ≡ None
-none_at p x xs true is rest = rest
-none_at p x xs false is rest = rw is rest
-
-find_none : (p : Job → Bool) (xs : List Job) → find p (filter (λ y. not (p y)) xs) ≡ None
-find_none p [] = refl
-find_none p (x ∷ xs) = none_at p x xs (p x) refl (find_none p xs)
-
-new_at : (q : Job → Bool) (x new : Job) (xs : List Job) (b : Bool) → find q (xs ++ new ∷ []) ≡ find q xs
-    → (if b then Some x else find q (xs ++ new ∷ [])) ≡ (if b then Some x else find q xs)
-new_at q x new xs true rest = refl
-new_at q x new xs false rest = rest
-
-find_new : (q : Job → Bool) (new : Job) (xs : List Job) → q new ≡ false → find q (xs ++ new ∷ []) ≡ find q xs
-find_new q new [] other = rw other refl
-find_new q new (x ∷ xs) other = new_at q x new xs (q x) (find_new q new xs other)
 
 -- ---- the job of a name
 
@@ -212,7 +126,7 @@ accept_at len most name plan b (answers.Accepted at) a =
     let other : is_job b.table.boot (id_of name) (new_job (b.table.made + 1) plan) ≡ false =
     both_false (name.boot == b.table.boot) (name.number == b.table.made + 1) (ne_eqb name.number (b.table.made + 1) (λ same. omega (arith, le, same))) in
     record {
-      holds = subst (λ (o : Option Job). HoldsOf len most o) (sym (find_new (is_job b.table.boot (id_of name)) (new_job (b.table.made + 1) plan) b.table.jobs other)) a.holds;
+      holds = subst (λ (o : Option Job). HoldsOf len most o) (sym (find_behind (is_job b.table.boot (id_of name)) b.table.jobs (new_job (b.table.made + 1) plan) other)) a.holds;
       given = omega (arith, le);
     }
 accept_at len most name plan b (answers.Overlap at) a = a
@@ -224,7 +138,7 @@ retire_holds : (len most : ℕ) (name other : JobName) (b : BookView) (same : Bo
 retire_holds len most name other b true is h =
     let this : other ≡ name = same_name other name is in
     subst (λ (n : JobName). HoldsOf len most (named (retired n b).table name)) (sym this)
-    (subst (λ (o : Option Job). HoldsOf len most o) (sym (find_none (is_job b.table.boot (id_of name)) b.table.jobs)) tt)
+    (subst (λ (o : Option Job). HoldsOf len most o) (sym (none_left (is_job b.table.boot (id_of name)) b.table.jobs)) tt)
 retire_holds len most name other b false is h =
     let still = find_without (is_job b.table.boot (id_of other)) (is_job b.table.boot (id_of name)) b.table.jobs (λ x first second. two_names b.table.boot other name x is first second) in
     subst (λ (o : Option Job). HoldsOf len most o) (sym still) h

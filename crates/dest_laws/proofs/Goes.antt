@@ -2,6 +2,7 @@
 use Rattle.std.proofs.Common.{◌≡◌, ℕ, ◌+◌, ◌^◌, ◌<◌, ◌≤◌, Bool, true, false, List, Option, Some, None, refl, sym, ap, subst, ◌∙◌}
 use Rattle.std.proofs.lemmas.Bool.{lt-ltb}
 use Rattle.std.specs.Prelude.{nat_lt, is_some, length, if◌then◌else◌, IsSome, option_map}
+use Rattle.dest_tasks.specs.NamedLaws.{find_changed}
 use Rattle.dest_tasks.specs.Posts.{holds, post_at}
 use Rattle.dest_tasks.specs.Seats.{seat_of}
 use Rattle.dest_tasks.specs.Tasks.{after_task, has_context}
@@ -30,7 +31,7 @@ use Rattle.nfs_base.specs.declared.job.JobName.{JobName}
 use Rattle.nfs_base.specs.declared.limits.TheConstants.{MOST_JOBS, NAME_LIMIT, PRIVILEGE_LIMIT}
 use Rattle.sess_slots.specs.Table.{SessionTable}
 use Rattle.dest_laws.specs.Going.{CanAsk, CanAskAll, CanCall, is_rest}
-use Rattle.dest_laws.proofs.Falls.{find_changed, relogged}
+use Rattle.dest_laws.proofs.Falls.{relogged}
 use Rattle.dest_laws.proofs.Found.{IsDue, WantsCall, WantsContext, found_is_due}
 use Rattle.dest_laws.proofs.Sends.{call_some, confirm_some, seen_there, setup_some}
 use Rattle.dest_laws.proofs.Turns.{ChunksAreNext}

@@ -1,3 +1,4 @@
+pub mod CallingLaws
 pub mod Orderly
 pub mod Posted
 pub mod Seating

@@ -1,14 +1,14 @@
 -- What is done to a book leaves a sized job as far as it was, but for its own landings.
-use Rattle.std.proofs.Common.{◌≡◌, ⊎_elim, ◌⊎◌, inl, inr, ℕ, zero, suc, ◌+◌, ◌*◌, ◌/◌, ◌%◌, ◌<◌, Bool, true, false, List, [], ◌∷◌, ◌++◌, set, refl, sym, ap, subst, ◌∙◌, arith}
-use Rattle.std.proofs.lemmas.Bool.{eqb-true, eq-eqb}
+use Rattle.std.proofs.Common.{◌≡◌, ⊎_elim, ◌⊎◌, ℕ, zero, suc, ◌+◌, ◌*◌, ◌/◌, ◌%◌, ◌<◌, Bool, true, false, List, [], ◌∷◌, ◌++◌, refl, sym, ap, subst, ◌∙◌, arith}
+use Rattle.std.proofs.lemmas.Bool.{eqb-true}
 use Rattle.std.proofs.lemmas.List.Folds.{list_any-append}
-use Rattle.std.specs.Prelude.{◌==◌, ◌&&◌, ◌||◌, not, if◌then◌else◌, Option, Some, None, option_map, find, filter}
+use Rattle.std.specs.Prelude.{◌==◌, ◌&&◌, ◌||◌, not, if◌then◌else◌, Option, Some, None, option_map, find}
 use Rattle.copy_model.specs.Job.{Entry, Landed, Sized, Stopped, Committed, Reported, chunk_len, chunk_size, chunks_of, has_ended, has_landed, is_end, size_of}
 use Rattle.job_log.specs.Bits.{flag}
 use Rattle.job_log.specs.Log.{ClaimsAreNew, JobView, after_landing, given_back, is_claimed, landed, landing_of, sized, total, total_of, waits, with_claim, with_entry}
 use Rattle.job_log.specs.declared.chunk.Chunk.{Chunk}
 use Rattle.job_log.specs.declared.chunk.Landing.TheVariants as landings
-use Rattle.job_table.specs.Table.{changed, is_job, landing_at, table_landing}
+use Rattle.job_table.specs.Table.{is_job, landing_at, table_landing}
 use Rattle.job_table.specs.declared.job.Job.{Job}
 use Rattle.job_table.specs.declared.job.Plan.{Plan}
 use Rattle.job_book.specs.Book.{BookView, accept_answer, after_accept, id_of, named, retired}
@@ -16,82 +16,19 @@ use Rattle.job_book.specs.declared.acceptance.Acceptance.{Acceptance}
 use Rattle.job_book.specs.declared.acceptance.Acceptance.TheVariants as answers
 use Rattle.job_book.specs.Working.{chunk_at, claimed, first_free, is_taken, next_chunk, next_unless, size_in, stopped, with_its}
 use Rattle.nfs_base.specs.declared.job.JobName.{JobName}
+use Rattle.dest_tasks.specs.FlagLaws.{set_true, set_false}
+use Rattle.dest_tasks.specs.NamedLaws.{find_changed, find_other, find_without, same_name, two_names}
 use Rattle.dest_tasks.specs.Posts.{is_same}
 use Rattle.dest_tasks.specs.Completing.{Deed, Accepts, Sizes, Claims, GivesBack, Lands, Stops, Commits, Retires, Does, ends, landing_in, left_of, one_if}
 use Rattle.dest_tasks.proofs.Left.{landed_else, left_lower}
 
--- ---- names
+-- ---- both of two
 
 both : (a b : Bool) → (a && b) ≡ true → (a ≡ true) × (b ≡ true)
 both true b is = (refl, is)
 both false b is = absurd (cc)
 
-abbrev a_name : (boot number : ℕ) → JobName
-a_name boot number = record { boot = boot; number = number }
-
-same_name : (job name : JobName) → is_same job name ≡ true → job ≡ name
-same_name job name is =
-    let parts = both (job.boot == name.boot) (job.number == name.number) is in
-    let boots : job.boot ≡ name.boot = eqb-true job.boot name.boot parts.0 in
-    let numbers : job.number ≡ name.number = eqb-true job.number name.number parts.1 in
-    let first : job ≡ a_name name.boot job.number = ap (λ (b : ℕ). a_name b job.number) boots in
-    let second : a_name name.boot job.number ≡ name = ap (λ (n : ℕ). a_name name.boot n) numbers in
-    first ∙ second
-
-join : (a b : Bool) → a ≡ true → b ≡ true → (a && b) ≡ true
-join true b is more = more
-join false b is more = absurd (cc)
-
--- two names of one job are one
-two_names : (boot : ℕ) (job name : JobName) (x : Job) → is_same job name ≡ false → is_job boot (id_of job) x ≡ true → is_job boot (id_of name) x ≡ true → ⊥
-two_names boot job name x other first second =
-    let a = both (job.boot == boot) (job.number == x.number) first in
-    let b = both (name.boot == boot) (name.number == x.number) second in
-    let boots : job.boot ≡ name.boot = eqb-true job.boot boot a.0 ∙ sym (eqb-true name.boot boot b.0) in
-    let numbers : job.number ≡ name.number = eqb-true job.number x.number a.1 ∙ sym (eqb-true name.number x.number b.1) in
-    let same : is_same job name ≡ true = join (job.boot == name.boot) (job.number == name.number) (eq-eqb job.boot name.boot boots) (eq-eqb job.number name.number numbers) in
-    absurd (cc)
-
--- ---- a job among others, one of which changes
-
-found_at : (p : Job → Bool) (f : Job → Job) (x : Job) (xs : List Job) (b : Bool) → p x ≡ b → p (f x) ≡ p x
-    → find p (changed p f xs) ≡ option_map f (find p xs)
-    → find p (if b then f x ∷ xs else x ∷ changed p f xs) ≡ option_map f (if b then Some x else find p xs)
-found_at p f x xs true is keeps rest = rw (keeps, is) refl
-found_at p f x xs false is keeps rest = rw is rest
-
-find_changed : (p : Job → Bool) (f : Job → Job) (xs : List Job) → ((x : Job) → p (f x) ≡ p x) → find p (changed p f xs) ≡ option_map f (find p xs)
-find_changed p f [] keeps = refl
-find_changed p f (x ∷ xs) keeps = found_at p f x xs (p x) refl (keeps x) (find_changed p f xs keeps)
-
-not_this : (q : Job → Bool) (f : Job → Job) (x : Job) (xs : List Job) (b : Bool) → q x ≡ b → q (f x) ≡ q x → (b ≡ true → ⊥)
-    → find q (f x ∷ xs) ≡ find q (x ∷ xs)
-not_this q f x xs true is keeps never = absurd (never refl)
-not_this q f x xs false is keeps never = rw (keeps, is) refl
-
-other_at : (p q : Job → Bool) (f : Job → Job) (x : Job) (xs : List Job) (b : Bool) → p x ≡ b → q (f x) ≡ q x → (p x ≡ true → q x ≡ true → ⊥)
-    → find q (changed p f xs) ≡ find q xs → find q (if b then f x ∷ xs else x ∷ changed p f xs) ≡ find q (x ∷ xs)
-other_at p q f x xs true is keeps apart rest = not_this q f x xs (q x) refl keeps (λ here. apart is here)
-other_at p q f x xs false is keeps apart rest = ap (λ (o : Option Job). if q x then Some x else o) rest
-
-find_other : (p q : Job → Bool) (f : Job → Job) (xs : List Job) → ((x : Job) → q (f x) ≡ q x) → ((x : Job) → p x ≡ true → q x ≡ true → ⊥)
-    → find q (changed p f xs) ≡ find q xs
-find_other p q f [] keeps apart = refl
-find_other p q f (x ∷ xs) keeps apart = other_at p q f x xs (p x) refl (keeps x) (apart x) (find_other p q f xs keeps apart)
-
-passed_over : (q : Job → Bool) (x : Job) (xs : List Job) (b : Bool) → q x ≡ b → (b ≡ true → ⊥) → find q xs ≡ find q (x ∷ xs)
-passed_over q x xs true is never = absurd (never refl)
-passed_over q x xs false is never = rw is refl
-
-gone_at : (p q : Job → Bool) (x : Job) (xs : List Job) (b : Bool) → p x ≡ b → (p x ≡ true → q x ≡ true → ⊥)
-    → find q (filter (λ y. not (p y)) xs) ≡ find q xs
-    → find q (if not b then x ∷ filter (λ y. not (p y)) xs else filter (λ y. not (p y)) xs) ≡ find q (x ∷ xs)
-gone_at p q x xs true is apart rest = rest ∙ passed_over q x xs (q x) refl (λ here. apart is here)
-gone_at p q x xs false is apart rest = ap (λ (o : Option Job). if q x then Some x else o) rest
-
-find_without : (p q : Job → Bool) (xs : List Job) → ((x : Job) → p x ≡ true → q x ≡ true → ⊥) → find q (filter (λ y. not (p y)) xs) ≡ find q xs
-find_without p q [] apart = refl
-find_without p q (x ∷ xs) apart = gone_at p q x xs (p x) refl (apart x) (find_without p q xs apart)
+-- ---- a job among others, with more behind them
 
 more_at : (q : Job → Bool) (x y : Job) (xs ys : List Job) (b : Bool) → (if b then Some x else find q xs) ≡ Some y
     → (find q xs ≡ Some y → find q (xs ++ ys) ≡ Some y) → (if b then Some x else find q (xs ++ ys)) ≡ Some y
@@ -112,21 +49,6 @@ pub record Goes (len count : ℕ) (v w : JobView) : Type 0 where
 
 stays : (len : ℕ) (v : JobView) → size_of v.entries ≡ Some len → ClaimsAreNew v → Goes len 0 v v
 stays len v is new = record { is_sized = is; claims = new; as_far = refl; left = omega arith }
-
--- flags that are set
-set_true : (xs : List Bool) (n j : ℕ) → flag (set xs n true) j ≡ true → (j ≡ n) ⊎ (flag xs j ≡ true)
-set_true [] n j is = inr is
-set_true (x ∷ xs) zero zero is = inl refl
-set_true (x ∷ xs) zero (suc j) is = inr is
-set_true (x ∷ xs) (suc n) zero is = inr is
-set_true (x ∷ xs) (suc n) (suc j) is = ⊎_elim (λ (here : j ≡ n). inl (ap suc here)) (λ (there : flag xs j ≡ true). inr there) (set_true xs n j is)
-
-set_false : (xs : List Bool) (n j : ℕ) → flag (set xs n false) j ≡ true → (n ≡ j → ⊥) × (flag xs j ≡ true)
-set_false [] n j is = absurd (cc)
-set_false (x ∷ xs) zero zero is = absurd (cc)
-set_false (x ∷ xs) zero (suc j) is = ((λ (e : zero ≡ suc j). absurd (cc)), is)
-set_false (x ∷ xs) (suc n) zero is = ((λ (e : suc n ≡ zero). absurd (cc)), is)
-set_false (x ∷ xs) (suc n) (suc j) is = let rest = set_false xs n j is in ((λ (e : suc n ≡ suc j). rest.0 (omega arith)), rest.1)
 
 -- a claim of the next chunk
 neither : (a b : Bool) → (a || b) ≡ false → (a ≡ false) × (b ≡ false)

@@ -2,9 +2,9 @@
 use Rattle.std.proofs.Common.{◌≡◌, ◌∙◌, ℕ, Bool, true, false, List, ◌++◌, drop, Option, Some, None, Result, Ok, Err, refl, ap, subst}
 use Rattle.std.specs.Prelude.{◌==◌, if◌then◌else◌}
 use Rattle.std.proofs.lemmas.Bool.{eqb-true}
-use Rattle.std.proofs.lemmas.Nat.{from_be_bytes-to_be_bytes_4}
+use Rattle.caller_laws.proofs.Replied.{guarded, unless_spelled, xid_spelled}
 use Rattle.caller_laws.specs.Answers.Awaited.{IsAwaited}
-use Rattle.gss_ctx.specs.Replies.{checked_of, of_head, of_read, result_of}
+use Rattle.gss_ctx.specs.Replies.{checked_of, of_head, of_read}
 use Rattle.gss_ctx.specs.Seals.{Mic, is_code, unsealed}
 use Rattle.gss_ctx.specs.Table.{ContextTable}
 use Rattle.gss_ctx.specs.declared.begin.Begun.{Begun}
@@ -35,7 +35,6 @@ use Rattle.rpc_calls.specs.declared.call.Program.{Program}
 use Rattle.rpc_msg.specs.Heads.{call, reply}
 use Rattle.rpc_msg.specs.Messages.{behind, first, head_told, kind_of, unless_other}
 use Rattle.rpc_msg.specs.declared.messages.RpcFault.{RpcFault}
-use Rattle.rpc_msg.specs.declared.messages.RpcFault.TheVariants.{OtherKind}
 use Rattle.rpc_msg.specs.declared.reply.Denial.{Denial}
 use Rattle.rpc_msg.specs.declared.reply.ReplyHead.{ReplyHead}
 use Rattle.rpc_msg.specs.declared.reply.ReplyHead.TheVariants.{Accepted, Denied}
@@ -45,7 +44,6 @@ use Rattle.session_calls.specs.Answers.{is_answer}
 use Rattle.session_client.specs.Answers.{answer_to, child_of, taken_by, taken_of}
 use Rattle.session_client.specs.Asked.{ops_of}
 use Rattle.session_client.specs.Pending.{Asking, Beginning}
-use Rattle.session_client.specs.Records.{head_xid}
 use Rattle.session_client.specs.Setup.{after_answer}
 use Rattle.session_client.specs.declared.answers.Taken.{Taken}
 use Rattle.session_client.specs.declared.answers.Taken.TheVariants as answers
@@ -56,36 +54,10 @@ use Rattle.wire_spelling.specs.Calls.{xid_in}
 use Rattle.wire_spelling.specs.ReadLaws.{unsealed_carried}
 use Rattle.wire_spelling.specs.Replies.{is_read, is_reply, results_of, results_read}
 use Rattle.wire_xdr.specs.All.{value_of}
-use Rattle.wire_xdr.specs.Cursor.{Cursor, IsBytes}
+use Rattle.wire_xdr.specs.Cursor.{IsBytes}
 use Rattle.wire_xdr.specs.Words.{word_bytes}
 
 -- ---- a reply that was read
-
-record IsSpelled (head : ReplyHead) (bytes : List ℕ) : Type 0 where
-  rest : List ℕ
-  is : bytes ≡ reply.spell head ++ rest
-  fits : reply.Fits head
-
-behind_spelled : (bytes : List ℕ) (told : Result (ReplyHead × Cursor) ℕ) (read : ReplyHead × ℕ) → reply.read (first bytes) ≡ told → behind told ≡ Ok read → IsBytes bytes
-    → IsSpelled read.0 bytes
-behind_spelled bytes (Ok x) read is h all =
-    let same : (x.0, x.1.at) ≡ read = cc in
-    let passed = reply.lawful.takes (first bytes) x.0 x.1 all is in
-    subst (λ (r : ReplyHead × ℕ). IsSpelled r.0 bytes) same (record { rest = x.1.rest; is = passed.0.parts; fits = passed.1 })
-behind_spelled bytes (Err at) read is h all = absurd cc
-
-unless_spelled : (bytes : List ℕ) (kind : Option ℕ) (read : ReplyHead × ℕ) → unless_other 0 kind (behind (reply.read (first bytes))) ≡ Ok read → IsBytes bytes → IsSpelled read.0 bytes
-unless_spelled bytes None read h all = behind_spelled bytes (reply.read (first bytes)) read refl h all
-unless_spelled bytes (Some kind) read h all = by (kind == 0) h
-  where
-    by : (b : Bool) → (if b then Err (OtherKind kind) else behind (reply.read (first bytes))) ≡ Ok read → IsSpelled read.0 bytes
-    by true h = absurd cc
-    by false h = behind_spelled bytes (reply.read (first bytes)) read refl h all
-
-xid_spelled : (head : ReplyHead) (rest : List ℕ) → reply.Fits head → xid_in (reply.spell head ++ rest) ≡ head_xid head
-unfolding reply word_bytes
-xid_spelled (Accepted xid verf stat) rest fits = from_be_bytes-to_be_bytes_4 xid fits.0
-xid_spelled (Denied xid why) rest fits = from_be_bytes-to_be_bytes_4 xid fits.0
 
 kind_spelled : (head : ReplyHead) (rest : List ℕ) → kind_of (reply.spell head ++ rest) ≡ Some 1
 unfolding reply word_bytes
@@ -110,13 +82,6 @@ record IsResult (xid : ℕ) (bytes result : List ℕ) : Type 0 where
   told : head_told reply 0 bytes ≡ Ok read
   xid_is : xid_in bytes ≡ xid
   results : results_of bytes ≡ result
-
-guarded : (a b : Bool) (o : Option (List ℕ)) (result : List ℕ) → (if a then (if b then result_of o else checked.Unmatched) else checked.Unmatched) ≡ checked.Result result
-    → (a ≡ true) × (o ≡ Some result)
-guarded true true (Some x) result h = (refl, cc)
-guarded true true None result h = absurd cc
-guarded true false o result h = absurd cc
-guarded false b o result h = absurd cc
 
 failed_never : {A : Type 0} (a : Bool) (stat : Stat) (result : List ℕ) → (if a then checked.Failed stat else checked.Unmatched) ≡ checked.Result result → A
 failed_never true stat result h = absurd cc

@@ -5,7 +5,7 @@ use Rattle.std.proofs.lemmas.List.Folds.{find-append}
 use Rattle.std.specs.Option.{option_or}
 use Rattle.std.specs.Prelude.{if◌then◌else◌, All, find, option_map, unwrap_or}
 use Rattle.copy_model.specs.Job.{Committed, Entry, Landed, Sized, Stopped}
-use Rattle.dest_laws.proofs.histories.Named.{find_behind, find_changed, find_other, find_without, is_older, none_left, number_of, same_name, two_names}
+use Rattle.dest_tasks.specs.NamedLaws.{find_behind, find_changed, find_other, find_without, is_older, none_left, number_of, same_name, two_names}
 use Rattle.dest_laws.specs.Histories.Kinds.{AreOf, GoesBy, is_taking}
 use Rattle.dest_laws.specs.Histories.Seen.{GrowsBy, IsGiven, Later, Seen, entries_by, entries_in, seen, seen_in}
 use Rattle.dest_tasks.specs.Completing as deeds

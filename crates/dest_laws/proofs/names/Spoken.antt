@@ -1,7 +1,7 @@
 -- A callback is read as it was told, whatever the numbers of bytes, of its slot and of the client's program are.
 use Rattle.std.proofs.Common.{◌≡◌, ℕ, ◌+◌, ◌<◌, ◌≤◌, ◌^◌, Bool, List, [], ◌++◌, length, refl, ap, subst, ◌∙◌, arith, lit<, lit≤}
 use Rattle.std.specs.Prelude.{◌==◌, ◌&&◌, ◌||◌, if◌then◌else◌, true, false}
-use Rattle.std.proofs.lemmas.List.{length-append}
+use Rattle.caller_laws.specs.CredLaws.{short_cred}
 use Rattle.copy_ops.specs.Forms.{cb_offload, offload_end, offload_end_arms}
 use Rattle.copy_ops.specs.declared.callback.OffloadEnd.{OffloadEnd}
 use Rattle.copy_ops.specs.declared.callback.OffloadEnd.TheVariants as ends
@@ -26,10 +26,8 @@ use Rattle.nfs_compound.specs.Callbacks.{cb_arg, cb_operation}
 use Rattle.nfs_compound.specs.Compounds.{CbCompoundFits, cb_compound_bytes, cb_compound_of}
 use Rattle.nfs_compound.specs.declared.cb_compound.CbCompound.{CbCompound}
 use Rattle.nfs_compound.specs.declared.tail.Tail.TheVariants.{Whole}
-use Rattle.rpc_msg.specs.GssCred.{gss_cred}
 use Rattle.rpc_msg.specs.Heads.{auth, call}
 use Rattle.rpc_msg.specs.declared.call.CallHead.{CallHead}
-use Rattle.rpc_msg.specs.declared.gss_cred.GssCred.{GssCred}
 use Rattle.rpc_msg.specs.declared.numbers.TheConstants.{RPCSEC_GSS_DATA}
 use Rattle.session_calls.specs.declared.slot_call.SlotUse.{SlotUse}
 use Rattle.slot_calls.specs.BytesLaws.{ops_are_bytes}
@@ -38,7 +36,6 @@ use Rattle.wire_spelling.specs.ReadLaws.{ops_back}
 use Rattle.wire_spelling.specs.Slots.{ops_of}
 use Rattle.wire_xdr.specs.Arms.{is_listed}
 use Rattle.wire_xdr.specs.Cursor.{IsBytes}
-use Rattle.wire_xdr.specs.LengthLaws.{opaque_length, padding_below, word_length}
 use Rattle.wire_xdr.specs.Parts.{list_spell, option_spell}
 use Rattle.wire_xdr.specs.Words.{fixed_bytes, flag_bytes, opaque_bytes, word_bytes}
 
@@ -120,26 +117,6 @@ compound_fits slot told whole can = record {
 }
 
 -- ---- the head of the call
-
-short_handle : (handle : List ℕ) → length handle ≡ 8 → length (opaque_bytes handle) ≤ 15
-short_handle handle eight = omega (arith, opaque_length handle, padding_below (length handle))
-
-length-five : (a b c d e : List ℕ) → length (a ++ (b ++ (c ++ (d ++ e)))) ≡ length a + (length b + (length c + (length d + length e)))
-length-five a b c d e =
-    omega (arith, length-append a (b ++ (c ++ (d ++ e))), length-append b (c ++ (d ++ e)), length-append c (d ++ e), length-append d e)
-
-short_cred : (v : GssCred) → length v.handle ≡ 8 → length (gss_cred.spell v) ≤ 400
-unfolding gss_cred
-short_cred v eight =
-    omega (
-      arith,
-      length-five (word_bytes v.version) (word_bytes v.gss_proc) (word_bytes v.seq_num) (word_bytes v.service) (opaque_bytes v.handle),
-      word_length v.version,
-      word_length v.gss_proc,
-      word_length v.seq_num,
-      word_length v.service,
-      short_handle v.handle eight,
-    )
 
 abbrev head_asked : Side → ℕ → ℕ → CallHead
 head_asked side xid program = with_cred (callback_head xid program) (call_cred side.handle side.next (asked_cred RPCSEC_GSS_DATA))

@@ -1,11 +1,12 @@
 -- How the log of one job goes on, as its job may.
-use Rattle.std.proofs.Common.{◌≡◌, ◌⊎◌, inl, inr, ⊎_elim, ℕ, zero, suc, ◌+◌, ◌*◌, ◌/◌, ◌%◌, ◌<◌, ◌≤◌, Bool, true, false, List, [], ◌∷◌, ◌++◌, Option, Some, None, set, replicate, refl, sym, ap, subst, ◌∙◌, arith}
+use Rattle.std.proofs.Common.{◌≡◌, ◌⊎◌, inl, inr, ⊎_elim, ℕ, zero, suc, ◌+◌, ◌*◌, ◌/◌, ◌%◌, ◌<◌, ◌≤◌, Bool, true, false, List, [], ◌∷◌, ◌++◌, Option, Some, None, replicate, refl, sym, ap, subst, ◌∙◌, arith}
 use Rattle.std.proofs.lemmas.Bool.{and_parts, cases_lt, eqb-true, ltb-false, ne_eqb, or_parts}
 use Rattle.std.specs.List.{list_any}
 use Rattle.std.specs.Prelude.{◌==◌, ◌&&◌, ◌||◌, ◌-◌, not, nat_lt, is_none, if◌then◌else◌, option_map, slice_get, take, Ok, Err}
 use Rattle.copy_model.specs.Job.{Allows, AllowsCommit, AllowsLanding, Committed, Entry, IsChunk, IsLawful, Landed, Sized, Stopped, chunk_len, chunk_size, chunks_of, has_ended, has_landed, is_end, is_landing, size_of, unlanded}
 use Rattle.dest_work.specs.Findings.{len_of as length_for, range_len}
 use Rattle.job_book.specs.Working.{chunk_at, first_free, is_taken, is_whole_by, next_unless, stopped}
+use Rattle.dest_tasks.specs.FlagLaws.{set_false, set_true}
 use Rattle.job_log.specs.Bits.{flag}
 use Rattle.job_log.specs.Log.{ClaimsAreNew, JobView, given_back, have_landed, is_claimed, landed, landing_of, sized, total, total_of, waits, with_claim, with_entry}
 use Rattle.job_log.specs.declared.chunk.Chunk.{Chunk}
@@ -135,20 +136,6 @@ module _ (laws : LogLaws) (capacity : ℕ) (plan : Plan) where
       }
 
   -- ---- a chunk is claimed, goes back, or lands
-
-  set_true : (xs : List Bool) (n j : ℕ) → flag (set xs n true) j ≡ true → (j ≡ n) ⊎ (flag xs j ≡ true)
-  set_true [] n j is = inr is
-  set_true (x ∷ xs) zero zero is = inl refl
-  set_true (x ∷ xs) zero (suc j) is = inr is
-  set_true (x ∷ xs) (suc n) zero is = inr is
-  set_true (x ∷ xs) (suc n) (suc j) is = ⊎_elim (λ (here : j ≡ n). inl (ap suc here)) (λ (there : flag xs j ≡ true). inr there) (set_true xs n j is)
-
-  set_false : (xs : List Bool) (n j : ℕ) → flag (set xs n false) j ≡ true → (n ≡ j → ⊥) × (flag xs j ≡ true)
-  set_false [] n j is = absurd (cc)
-  set_false (x ∷ xs) zero zero is = absurd (cc)
-  set_false (x ∷ xs) zero (suc j) is = ((λ (e : zero ≡ suc j). absurd (cc)), is)
-  set_false (x ∷ xs) (suc n) zero is = ((λ (e : suc n ≡ zero). absurd (cc)), is)
-  set_false (x ∷ xs) (suc n) (suc j) is = let rest = set_false xs n j is in ((λ (e : suc n ≡ suc j). rest.0 (omega arith)), rest.1)
 
   pub same_follows : (v : JobView) → IsGood plan v → Follows capacity plan v v
   same_follows v good = record { good = good; runs = λ runs. runs; covers = λ byte low. low }

@@ -41,10 +41,6 @@ came_one s asked answer taken off_root = record {
   off_root = (off_root, tt);
 }
 
-pub came_as : (old now left : Store) (used noted : List Used) → now ≡ left → used ≡ noted → CameOffRoot old left noted → CameOffRoot old now used
-came_as old now left used noted is same came =
-    subst (λ (s : Store). CameOffRoot old s used) (sym is) (subst (λ (us : List Used). CameOffRoot old left us) (sym same) came)
-
 -- ---- it is steady from its formatting on, over such calls
 
 pub formatted_steady : (files capacity : ℕ) → IsSteady (formatted files capacity)
