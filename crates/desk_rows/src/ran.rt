@@ -147,6 +147,7 @@ fn have_size(
     file: u32,
     size: u64,
 ) -> bool {
+    let (source, dest) = (source.volume(), dest.volume());
     source.files() >= 1
         && 1 <= file
         && file <= dest.files()
@@ -163,9 +164,9 @@ fn is_same(
     here: &mut [u8],
     there: &mut [u8],
 ) -> bool {
-    source.files() >= 1
+    source.volume().files() >= 1
         && 1 <= file
-        && file <= dest.files()
+        && file <= dest.volume().files()
         && source.peek(1, off, here).is_ok()
         && dest.peek(file, off, there).is_ok()
         && &*here == &*there

@@ -44,7 +44,7 @@ impl<M: Mechanism> Extending<Carried> for Destination<M> {
         number: u32,
         name: &[u8],
         privilege: &[u8],
-        second: u64,
+        _second: u64,
     ) -> Mem<Judgement<Carried>> {
         let parent = contexts.context(number).unwrap();
         match read_privilege(alloc, name, privilege)? {

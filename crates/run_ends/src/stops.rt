@@ -8,4 +8,4 @@ mod laws;
 mod reopening;
 
 pub use laws::servers_open_anew;
-pub use reopening::{kept_by_dest, kept_by_source, reopen_dest, reopen_source};
+pub use reopening::{kept_by, reopen_dest, reopen_source};

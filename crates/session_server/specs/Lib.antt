@@ -1,3 +1,4 @@
+pub mod Beside
 pub mod Host
 pub mod Labels
 pub mod Leaving

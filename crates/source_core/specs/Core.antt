@@ -1,12 +1,11 @@
 -- The rules of a source, those that every server leaves open, and a source that was just opened.
-use Rattle.std.specs.Prelude.{◌≡◌, ℕ, List, [], false, None}
+use Rattle.std.specs.Prelude.{◌≡◌, ℕ, List, [], None}
 use Rattle.copy_grants.specs.Grants.{no_grants}
 use Rattle.copy_privs.specs.declared.peer.Peer.{Peer}
 use Rattle.gss_ctx.specs.Seals.{Mic}
 use Rattle.gss_ctx.specs.Table.{ContextTable}
 use Rattle.nfs_base.specs.declared.net_loc.NetLoc.{NetLoc}
 use Rattle.nfs_base.specs.declared.seal.End.TheVariants as ends
-use Rattle.outbox.specs.declared.outgoing.Outbox.{Outbox}
 use Rattle.sess_slots.specs.Table.{SessionTable}
 use Rattle.session_server.specs.Host.{Rules, rules_of}
 use Rattle.session_server.specs.declared.host.Host.{Host}
@@ -19,10 +18,6 @@ use Rattle.source_core.specs.declared.source.Source.{Source}
 
 abbrev pub source_rules : {M : Type 0} → Mic → Rules (Source M) Carried
 source_rules mic = rules_of (gated mic) serves leaves lapses (judges mic) tells silent
-
--- nothing is sent, told or done
-abbrev pub nothing : Outbox
-nothing = record { sent = []; notes = []; accepted = None; used = []; undrawn = false }
 
 -- ---- just opened: nobody has called, and nothing is granted
 

@@ -1,28 +1,28 @@
 //! The whole server.
 
-ghost use Rattle.std.specs.Prelude.{true, false, ◌≡◌, ◌↔◌, ◌≤◌, ◌<◌, ◌+◌, ℕ, [], length, None, IfOk, IsOk, IsTrue, OnErr, Ok, Err, MatchResult};
+ghost use Rattle.std.specs.Prelude.{true, false, ◌≡◌, ◌≤◌, ◌<◌, ◌+◌, ℕ, [], length, None, IfOk, IsOk, OnErr, MatchResult};
 ghost use Rattle.block_file.specs.declared.faults.OpenFault.{OpenFault};
-ghost use Rattle.block_file.specs.declared.faults.ReadFault.{ReadFault};
-ghost use Rattle.block_file.specs.Opened.{homes_by, CanBeOpened, MayBeLeft, RefusedFor, StandsFor};
+ghost use Rattle.block_file.specs.Opened.{homes_by, CanBeOpened, RefusedFor, StandsFor};
 ghost use Rattle.block_file.specs.Stored.{flaw_of, home_of, reopened, tag_of};
-ghost use Rattle.copy_model.specs.Volume.{bytes_at, file_at};
 ghost use Rattle.disk_model.specs.declared.fuse.Fuse.TheVariants.{Unset};
 ghost use Rattle.disk_model.specs.Disk.{Image, MayLeave};
-ghost use Rattle.disk_model.specs.Elapsed.{contents, present, set_to, IsOut};
+ghost use Rattle.disk_model.specs.Elapsed.{contents, present};
+ghost use Rattle.outbox.specs.Outboxes.{no_outbox};
 ghost use Rattle.outcome.specs.Causes.{Rose};
 ghost use Rattle.server_volume.specs.Moments.{Counted};
 ghost use Rattle.server_volume.specs.Store.{seat_of};
 ghost use Rattle.session_server.specs.declared.host.TheConstants.{MOST_STEPS};
+ghost use Rattle.session_server.specs.Beside.{IsArmed, IsHandedBack, IsPeek};
 ghost use Rattle.session_server.specs.Host.{host_of, stepped_of};
 ghost use Rattle.session_server.specs.Lengths.{AreShort};
 ghost use Rattle.session_server.specs.Steps.{IsTurn, ticked};
-ghost use Rattle.source_core.specs.Core.{nothing, source_rules, IsNew};
+ghost use Rattle.source_core.specs.Core.{source_rules, IsNew};
 ghost use Rattle.source_core.specs.Location.{IsShort};
 
 use crate::carried::Carried;
 use crate::own_location::OwnLocation;
 use crate::source::Source;
-use block_file::{FileInfo, OpenFault, ReadFault, Volume};
+use block_file::{OpenFault, ReadFault, Volume};
 use compound_server::Server;
 use copy_grants::Grants;
 use copy_privs::Peer;
@@ -31,7 +31,7 @@ use file_server::Files;
 use gss_ctx::Contexts;
 use gss_mech::Mechanism;
 use nfs_base::{End, NetLoc};
-use outbox::{CallList, NoteList, Outbox};
+use outbox::Outbox;
 use outcome::Mem;
 use sess_slots::Sessions;
 use session_server::Host;
@@ -161,19 +161,13 @@ impl<D: Disk, M: Mechanism> SourceCore<D, M> {
     /// A second comes by itself: a step that sends nothing. Without memory the source is as before.
     pub fn tick(&mut self, alloc: Global, now: u64) -> Mem<Outbox>
         requires few { self.old.steps < MOST_STEPS }
-        ensures out { IfOk result (λ out. out ≡ nothing) }
+        ensures out { IfOk result (λ out. out ≡ no_outbox) }
         ensures is { IsOk result → host_of D.size self.new ≡ ticked (source_rules M.mic_of) now (host_of D.size self.old) }
         ensures volume { self.new.server.files.volume ≡ self.old.server.files.volume }
         ensures counted { IfOk result (λ _. self.new.steps ≡ self.old.steps + 1) }
         ensures err { OnErr result (self.new ≡ self.old) }
     {
-        let out = Outbox {
-            sent: Items::new(alloc),
-            notes: NoteList::new(alloc)?,
-            accepted: None,
-            used: CallList::new(alloc)?,
-            undrawn: false,
-        };
+        let out = Outbox::new(alloc)?;
         self.host.tick(now);
         Ok(out)
     }
@@ -198,60 +192,20 @@ impl<D: Disk, M> SourceCore<D, M> {
         self.host.server.files.volume.boot()
     }
 
-    /// How many files there are, but for the root directory.
-    pub fn files(&self) -> u32
-        ensures { result + 1 ≡ length self.now.server.files.volume.volume.files }
+    /// The volume, to look at.
+    pub fn volume(&self) -> &Volume<D>
+        ensures { result.now ≡ self.now.server.files.volume }
     {
-        self.host.server.files.volume.files()
-    }
-
-    /// A file's size and change attribute.
-    pub fn file(&self, file: u32) -> FileInfo
-        requires no_root { 1 ≤ file }
-        requires there { file < length self.now.server.files.volume.volume.files }
-        ensures { result ≡ record { size = length (file_at self.now.server.files.volume.volume file).now; change = (file_at self.now.server.files.volume.volume file).change } }
-    {
-        self.host.server.files.volume.file(file)
-    }
-
-    /// The home in force of a file's table, 0 or 1.
-    pub fn home(&self, file: u32) -> u8
-        requires no_root { 1 ≤ file }
-        requires there { file < length self.now.server.files.volume.volume.files }
-        ensures { result ≡ homes_by self.now.server.files.volume.homes file }
-    {
-        self.host.server.files.volume.home(file)
+        &self.host.server.files.volume
     }
 
     /// Fills `out` with a file's bytes from `off` on, and with zeros past its end. It is no step.
     pub fn peek(&mut self, file: u32, off: u64, out: &mut [u8]) -> Result<(), ReadFault>
         requires no_root { 1 ≤ file }
         requires there { file < length self.old.server.files.volume.volume.files }
-        ensures broken { (result ≡ Err ReadFault.Broken) ↔ (self.old.server.files.volume.volume.broken ≡ true) }
-        ensures bytes { D.Told → IsOk result → out.new ≡ bytes_at (file_at self.old.server.files.volume.volume file).now off (length out.old) }
-        ensures still { D.Told → host_of D.size self.new ≡ host_of D.size self.old }
-        ensures counted { self.new.steps ≡ self.old.steps }
-        ensures fuse { D.fuse self.new.server.files.volume.disk ≡ D.fuse self.old.server.files.volume.disk }
-        ensures size { D.size self.new.server.files.volume.disk ≡ D.size self.old.server.files.volume.disk }
-        ensures faults { D.faults self.old.server.files.volume.disk ≤ D.faults self.new.server.files.volume.disk }
-        ensures cause { result ≡ Err ReadFault.DiskFailed → Rose (D.faults self.old.server.files.volume.disk) (D.faults self.new.server.files.volume.disk) }
+        ensures { IsPeek D.Told D.size D.fuse D.faults file off self.old self.new out.old out.new result }
     {
         self.host.server.files.volume.read(file, off, out)
-    }
-
-    /// Gives the disk back.
-    pub fn hand_back(self) -> D
-    where
-        M: Drop,
-        ensures disk { result ≡ self.server.files.volume.disk }
-        ensures left { D.Told → (image : Image) → MayLeave (present (D.timeline result)) image → MayBeLeft (D.size result) self.server.files.volume.tag (homes_by self.server.files.volume.homes) self.server.files.volume.volume image }
-        ensures again { D.Told → (image : Image) → MayLeave (present (D.timeline result)) image → CanBeOpened (D.size result) image }
-    {
-        let SourceCore { host } = self;
-        let Host { server, .. } = host;
-        let Server { files, .. } = server;
-        let Files { volume, .. } = files;
-        volume.hand_back()
     }
 
     /// Closes it: the disk and the mechanism come back.
@@ -268,23 +222,24 @@ impl<D: Disk, M> SourceCore<D, M> {
     }
 }
 
+impl<D: Disk, M: Drop> SourceCore<D, M> {
+    /// Gives the disk back.
+    pub fn hand_back(self) -> D
+        ensures { IsHandedBack D.Told D.size D.timeline self result }
+    {
+        let SourceCore { host } = self;
+        let Host { server, .. } = host;
+        let Server { files, .. } = server;
+        let Files { volume, .. } = files;
+        volume.hand_back()
+    }
+}
+
 impl<D: CrashDisk, M> SourceCore<D, M> {
     /// Lets this many more writes and syncs of the disk pass; the one after them stops the machine.
     pub fn fuse(&mut self, calls: u64)
-        ensures fuse { D.fuse self.new.server.files.volume.disk ≡ set_to (D.fuse self.old.server.files.volume.disk) calls }
-        ensures still { D.Told → host_of D.size self.new ≡ host_of D.size self.old }
-        ensures counted { self.new.steps ≡ self.old.steps }
-        ensures boot { self.new.server.files.volume.volume.boot ≡ self.old.server.files.volume.volume.boot }
-        ensures size { D.size self.new.server.files.volume.disk ≡ D.size self.old.server.files.volume.disk }
-        ensures faults { D.faults self.new.server.files.volume.disk ≡ D.faults self.old.server.files.volume.disk }
+        ensures { IsArmed D.Told D.size D.fuse D.faults calls self.old self.new }
     {
         self.host.server.files.volume.fuse(calls);
-    }
-
-    /// Whether the machine has stopped.
-    pub fn stopped(&self) -> bool
-        ensures { IsTrue result ↔ IsOut (D.fuse self.now.server.files.volume.disk) }
-    {
-        self.host.server.files.volume.stopped()
     }
 }

@@ -4,7 +4,6 @@ ghost use Rattle.std.specs.Prelude.{◌≡◌, ◌+◌, ◌<◌, ◌≤◌, ℕ,
 ghost use Rattle.wire_run.specs.Cutting.{DestCalls, SourceCalls};
 ghost use Rattle.wire_run.specs.Watching.{fuse_in};
 ghost use Rattle.session_server.specs.declared.host.TheConstants.{MOST_STEPS};
-ghost use Rattle.source_core.specs.Core.{nothing};
 ghost use Rattle.wire_machine.specs.Ends as acts;
 ghost use Rattle.wire_machine.specs.Steps.{command_of};
 ghost use Rattle.run_ends.specs.Ends.{is_worker, run_machines};
@@ -21,13 +20,11 @@ use dest_tasks::WORKERS;
 use disk_model::CrashDisk;
 use gss_mech::Mechanism;
 use nfs_base::Side;
-use outbox::{NoteList, Outbox};
+use outbox::Outbox;
 use outcome::Mem;
-use server_volume::CallList;
 use std::alloc::Global;
 use streams::CountDraws;
 use wire_schedule::Event;
-use wire_xdr::Items;
 
 impl<D: CrashDisk + Drop, M: Mechanism> SourceEnd<D, M> {
     /// Takes a record on a connection.
@@ -91,10 +88,11 @@ impl<D: CrashDisk + Drop, M: Mechanism> SourceEnd<D, M> {
         let SourceEnd::Open(core) = self else {
             unreachable!()
         };
-        if core.files() < file {
+        let volume = core.volume();
+        if volume.files() < file {
             return 0;
         }
-        core.file(file).size
+        volume.file(file).size
     }
 
     /// Fills `out` with bytes of a file as they are now.
@@ -107,7 +105,7 @@ impl<D: CrashDisk + Drop, M: Mechanism> SourceEnd<D, M> {
         let SourceEnd::Open(core) = self else {
             unreachable!()
         };
-        if core.files() < file {
+        if core.volume().files() < file {
             return Peeked::Refused;
         }
         peeked(core.peek(file, off, out))
@@ -182,7 +180,7 @@ impl<D: CrashDisk + Drop, M: Mechanism> DestEnd<D, M> {
             are_bytes(bytes);
             self.has_fit_plans();
             self.rests();
-            no_outbox(alloc)
+            Outbox::new(alloc)
         }
     }
 
@@ -255,10 +253,11 @@ impl<D: CrashDisk + Drop, M: Mechanism> DestEnd<D, M> {
         let DestEnd::Open(core) = self else {
             unreachable!()
         };
-        if core.files() < file {
+        let volume = core.volume();
+        if volume.files() < file {
             return 0;
         }
-        core.file(file).size
+        volume.file(file).size
     }
 
     /// Fills `out` with bytes of a file as they are now.
@@ -271,7 +270,7 @@ impl<D: CrashDisk + Drop, M: Mechanism> DestEnd<D, M> {
         let DestEnd::Open(core) = self else {
             unreachable!()
         };
-        if core.files() < file {
+        if core.volume().files() < file {
             return Peeked::Refused;
         }
         peeked(core.peek(file, off, out))
@@ -346,17 +345,4 @@ fn peeked(read: Result<(), ReadFault>) -> Peeked
         Err(ReadFault::Broken) => Peeked::Refused,
         Err(ReadFault::DiskFailed) => Peeked::Failed,
     }
-}
-
-/// Nothing is sent, told or done.
-fn no_outbox(alloc: Global) -> Mem<Outbox>
-    ensures { IfOk result (λ out. out ≡ nothing) }
-{
-    Ok(Outbox {
-        sent: Items::new(alloc),
-        notes: NoteList::new(alloc)?,
-        accepted: None,
-        used: CallList::new(alloc)?,
-        undrawn: false,
-    })
 }

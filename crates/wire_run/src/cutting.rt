@@ -22,9 +22,7 @@ use disk_model::CrashDisk;
 use gss_mech::Mechanism;
 use nfs_base::{NetLoc, Side};
 use outcome::Mem;
-use run_ends::stops::{
-    kept_by_dest, kept_by_source, reopen_dest, reopen_source, servers_open_anew,
-};
+use run_ends::stops::{kept_by, reopen_dest, reopen_source, servers_open_anew};
 use run_ends::{dest_name, dest_place, dest_source, source_peers, source_place};
 use server_volume::Used;
 use std::alloc::Global;
@@ -95,7 +93,7 @@ impl<D: CrashDisk + Drop, M: Mechanism> SourceEnd<D, M> {
         let SourceEnd::Open(core) = self else {
             unreachable!()
         };
-        kept_by_source(core, pending)
+        kept_by(core.volume(), pending)
     }
 
     /// Whether its machine has stopped.
@@ -106,7 +104,7 @@ impl<D: CrashDisk + Drop, M: Mechanism> SourceEnd<D, M> {
         let SourceEnd::Open(core) = self else {
             unreachable!()
         };
-        core.stopped()
+        core.volume().stopped()
     }
 
     /// Between two of its steps no calls are made on its volume.
@@ -171,7 +169,7 @@ impl<D: CrashDisk + Drop, M: Mechanism> DestEnd<D, M> {
         let DestEnd::Open(core) = self else {
             unreachable!()
         };
-        kept_by_dest(core, pending)
+        kept_by(core.volume(), pending)
     }
 
     /// Whether its machine has stopped.
@@ -182,7 +180,7 @@ impl<D: CrashDisk + Drop, M: Mechanism> DestEnd<D, M> {
         let DestEnd::Open(core) = self else {
             unreachable!()
         };
-        core.stopped()
+        core.volume().stopped()
     }
 
     /// Between two of its steps no calls are made on its volume.

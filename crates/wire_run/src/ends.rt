@@ -122,7 +122,7 @@ fn open_source<D: Disk + Drop, M: Mechanism>(
     };
     match SourceCore::open(alloc, disk, mech, peers, own)? {
         Ok(core) => {
-            if core.files() == files {
+            if core.volume().files() == files {
                 Ok(Ok(core))
             } else {
                 Ok(Err((core.hand_back(), OTHER_FILES)))
@@ -211,7 +211,7 @@ fn open_dest<D: Disk + Drop, M: Mechanism>(
     };
     match DestCore::open(alloc, disk, mech, source, principal, own)? {
         Ok(core) => {
-            if core.files() == files {
+            if core.volume().files() == files {
                 Ok(Ok(core))
             } else {
                 Ok(Err((core.hand_back(), OTHER_FILES)))

@@ -7,7 +7,7 @@ ghost use Rattle.source_core.specs.Core as new_source;
 ghost use Rattle.source_core.specs.Location.{IsShort};
 ghost use Rattle.volume_stops.specs.Stops.{kept_by};
 
-use block_file::OpenFault;
+use block_file::{OpenFault, Volume};
 use copy_privs::Peer;
 use dest_core::DestCore;
 use disk_model::{CrashDisk, Disk};
@@ -73,30 +73,14 @@ pub fn reopen_dest<D: CrashDisk + Drop, M: Mechanism>(
 }
 
 /// What a crash kept of a commit that it may have found unfinished, by the home in force of its file's table.
-pub fn kept_by_source<D: Disk, M>(core: &SourceCore<D, M>, pending: Option<Pending>) -> Kept
-    ensures { result ≡ kept_by (length core.now.server.files.volume.volume.files) core.now.server.files.volume.homes pending }
+pub fn kept_by<D: Disk>(volume: &Volume<D>, pending: Option<Pending>) -> Kept
+    ensures { result ≡ kept_by (length volume.now.volume.files) volume.now.homes pending }
 {
     match pending {
         None => Kept::Nothing,
         Some(commit) => {
-            if 1 <= commit.file && commit.file <= core.files() {
-                commit.kept(core.home(commit.file))
-            } else {
-                Kept::Nothing
-            }
-        }
-    }
-}
-
-/// The same of a destination.
-pub fn kept_by_dest<D: Disk, M>(core: &DestCore<D, M>, pending: Option<Pending>) -> Kept
-    ensures { result ≡ kept_by (length core.now.server.files.volume.volume.files) core.now.server.files.volume.homes pending }
-{
-    match pending {
-        None => Kept::Nothing,
-        Some(commit) => {
-            if 1 <= commit.file && commit.file <= core.files() {
-                commit.kept(core.home(commit.file))
+            if 1 <= commit.file && commit.file <= volume.files() {
+                commit.kept(volume.home(commit.file))
             } else {
                 Kept::Nothing
             }

@@ -1,4 +1,5 @@
-use Rattle.std.proofs.Common.{◌≡◌, ℕ, ◌+◌, ◌*◌, List, ap, sym, ◌∙◌, subst, le_of_eq, le_trans, arith}
+use Rattle.std.proofs.Common.{◌≡◌, ℕ, ◌+◌, ◌*◌, List, length, ap, sym, ◌∙◌, subst, le_of_eq, le_trans, arith}
+use Rattle.block_file.specs.Opened.{Opened}
 use Rattle.copy_privs.specs.declared.peer.Peer.{Peer}
 use Rattle.nfs_base.specs.declared.net_loc.NetLoc.{NetLoc}
 use Rattle.source_core.specs.Core.{IsNew}
@@ -24,7 +25,7 @@ returns-then-files-clause-made g c =
     record {
       made = record {
         steps = new.steps;
-        count = sym c.files.ensures ∙ ap (λ (n : ℕ). n + 1) c.if-files.true;
+        count = sym (c.files.ensures.count ∙ ap (λ (v : Opened _). length v.volume.files) c.volume.ensures) ∙ ap (λ (n : ℕ). n + 1) c.if-files.true;
         fits = rw c.in-Ok.is at c.in_ok-disk.ensures.small;
         later = le_trans faults faults2;
         as_large = size2 ∙ size;
@@ -52,7 +53,7 @@ returns-else-files-clause-made g c =
             let is = read_formatted (g.D.Disk.size c.in-Ok.disk) c.args.files c.args.blocks SOURCE_TAG (g.D.Disk.timeline c.in-Ok.disk) all in
             let volume = rw c.in-Ok-2.is at (c.in_ok-core.ensures.volume told) in
             let count = formatted_files _ c.args.files (c.args.blocks * 4096) (volume ∙ is.opened) in
-            let told_count = c.files.ensures in
+            let told_count = c.files.ensures.count ∙ ap (λ (v : Opened _). length v.volume.files) c.volume.ensures in
             let same : c.files.result ≡ c.args.files = omega (arith, count, told_count) in
             c.if-files.false same,
         rw c.in-Ok.is at c.in_ok-disk.ensures.small,

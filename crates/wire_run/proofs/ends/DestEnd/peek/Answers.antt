@@ -1,11 +1,13 @@
-use Rattle.std.proofs.Common.{refl}
+use Rattle.std.proofs.Common.{length, ap, refl, ◌∙◌}
+use Rattle.block_file.specs.Opened.{Opened}
 use Rattle.wire_run.proofs.Acts.{dest_peeks, dest_peeks_none}
 use Rattle.wire_run.proofs.Calling.{dest_fuse}
 use Rattle.wire_run.proofs.ends.DestEnd.peek.Goals as goal
 
 pub returns-then-files-file-clause-peeks : goal.returns-then-files-file-clause-peeks
 returns-then-files-file-clause-peeks g c =
-    dest_peeks_none g.D.Disk.Told g.D.Disk.faults g.D.Disk.size c.args.file c.args.off c.files.result c.args.out.now c.args.self.now c.in-Open.core c.in-Open.is c.files.ensures c.if-files-file.true
+    dest_peeks_none g.D.Disk.Told g.D.Disk.faults g.D.Disk.size c.args.file c.args.off c.files.result c.args.out.now c.args.self.now c.in-Open.core c.in-Open.is
+    (c.files.ensures.count ∙ ap (λ (v : Opened _). length v.volume.files) c.volume.ensures) c.if-files-file.true
 
 pub returns-clause-peeks : goal.returns-clause-peeks
 returns-clause-peeks g c =
