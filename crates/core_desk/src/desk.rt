@@ -7,7 +7,7 @@ ghost use Rattle.core_desk.specs.Kept.{kept_of, nothing_kept, passed_of, Gives};
 use crate::kept::Kept;
 use crate::machine::{Core, MOST_CALLS};
 use copy_workers::{Desk, given_to, landed_in};
-use outbox::{CallList, NoteList, Outbox, Outgoing, To};
+use outbox::{Outbox, Outgoing, To};
 use outcome::Mem;
 use rpc_msg::Watched;
 use std::alloc::Global;
@@ -152,13 +152,7 @@ impl<L: Ledger, T: Ledger, G: Ledger, K: Core<W>, C: Clock, W: Draws> CoreDesk<L
 fn nothing(alloc: Global) -> Mem<Outbox>
     ensures { IfOk result IsEmpty }
 {
-    Ok(Outbox {
-        sent: Items::new(alloc),
-        notes: NoteList::new(alloc)?,
-        accepted: None,
-        used: CallList::new(alloc)?,
-        undrawn: false,
-    })
+    Outbox::new(alloc)
 }
 
 /// What a step gives, without the calls to the source, which are kept.

@@ -12,12 +12,13 @@ use Rattle.dest_tasks.specs.declared.workers.TheConstants.{WORKERS}
 use Rattle.gss_ctx.specs.Seals.{Mic}
 use Rattle.gss_mech.specs.declared.mechanism.Accepted.{Accepted}
 use Rattle.job_table.specs.Fits.{PlansAreFit}
+use Rattle.outbox.specs.Outboxes.{no_outbox}
 use Rattle.outbox.specs.declared.outgoing.Outbox.{Outbox}
 use Rattle.session_server.specs.Host.{HostState}
 use Rattle.session_server.specs.Lengths.{AreShort}
 use Rattle.session_server.specs.Steps.{IsTurn, ticked}
 use Rattle.session_server.specs.declared.host.TheConstants as server
-use Rattle.source_core.specs.Core.{nothing, source_rules}
+use Rattle.source_core.specs.Core.{source_rules}
 use Rattle.source_core.specs.declared.carried.Carried.{Carried}
 use Rattle.source_core.specs.declared.source.Source.{Source}
 use Rattle.streams.specs.Draws.{counted_draw, next_count}
@@ -55,7 +56,7 @@ module _ {M W : Type 0} (words : Words M W) where
   source_does (acts.SourceTakes conn bytes) now s before t after out =
       IsTurn (source_rules words.mic) (record { mic = words.mic; derived = words.derived }) (words.accepted s.state.machine.extra.mech) words.gives conn bytes now s before after
       (record { host = t; out = out })
-  source_does acts.SourceTicks now s before t after out = (t ≡ ticked (source_rules words.mic) now s) × (out ≡ nothing) × (after ≡ before)
+  source_does acts.SourceTicks now s before t after out = (t ≡ ticked (source_rules words.mic) now s) × (out ≡ no_outbox) × (after ≡ before)
 
   -- ---- the destination; its workers are counted from 1, and their places from 0
 
@@ -64,7 +65,7 @@ module _ {M W : Type 0} (words : Words M W) where
   hears true worker bytes now s t out =
       dest.IsReply (record { mic = words.mic; derived = words.derived }) (words.finished s.state.machine.extra.mech s.state.machine.extra.copier.principal) (worker - 1) bytes now s
       (record { host = t; out = out })
-  hears false worker bytes now s t out = (t ≡ s) × (out ≡ nothing)
+  hears false worker bytes now s t out = (t ≡ s) × (out ≡ no_outbox)
 
   abbrev pub dest_does : DestAct → (now : ℕ) → DestState M → W → DestState M → W → Outbox → Type 0
   dest_does (acts.DestTakes conn bytes) now s before t after out =

@@ -13,6 +13,7 @@ use Rattle.block_file.specs.Opened.{Opened}
 use Rattle.disk_model.specs.Elapsed.{Timeline}
 use Rattle.disk_model.specs.declared.fuse.Fuse.{Fuse}
 use Rattle.job_table.specs.Fits.{PlansAreFit}
+use Rattle.outbox.specs.Outboxes.{no_outbox}
 use Rattle.outbox.specs.declared.outgoing.Outbox.{Outbox}
 use Rattle.outbox.specs.declared.outgoing.Outgoing.{Outgoing}
 use Rattle.outcome.specs.Causes.{Rose, RoseBy}
@@ -24,7 +25,6 @@ use Rattle.server_volume.specs.declared.used.Used.{Used}
 use Rattle.session_server.specs.Host.{HostState, Stepped, host_of}
 use Rattle.session_server.specs.Lengths.{AreShort, IsShort}
 use Rattle.session_server.specs.declared.host.TheConstants as server
-use Rattle.source_core.specs.Core.{nothing}
 use Rattle.volume_laws.specs.Failing as laws
 use Rattle.volume_laws.specs.Keeping.{KeepsFiles}
 use Rattle.wire_machine.specs.Ends.{DestAct, SourceAct}
@@ -185,7 +185,7 @@ pub with_that : {E : Type 0} (r : Result Outbox E) (A : Type 0) (P : Outbox → 
 with_that (Ok out) A P that p = (that, p)
 with_that (Err e) A P that p = tt
 
-pub ticked_alone : {E A : Type 0} (r : Result Outbox E) (d : ℕ) → IfOk r (λ out. out ≡ nothing) → (IsOk r → A) → IfOk r (λ out. A × (out ≡ nothing) × (d ≡ d))
+pub ticked_alone : {E A : Type 0} (r : Result Outbox E) (d : ℕ) → IfOk r (λ out. out ≡ no_outbox) → (IsOk r → A) → IfOk r (λ out. A × (out ≡ no_outbox) × (d ≡ d))
 ticked_alone (Ok out) d none is = (is refl, none, refl)
 ticked_alone (Err e) d none is = tt
 
@@ -205,7 +205,7 @@ pub handled : {E : Type 0} (r : Result Outbox E) (made limit : ℕ) (took : Opti
 handled (Ok out) made limit took few taken sent = record { few = few; taken = taken; sent = sent }
 handled (Err e) made limit took few taken sent = tt
 
-none_sent : (out : Outbox) (P : List Outgoing → Type 0) → out ≡ nothing → P [] → P out.sent
+none_sent : (out : Outbox) (P : List Outgoing → Type 0) → out ≡ no_outbox → P [] → P out.sent
 none_sent out P none empty = subst (λ (o : Outbox). P o.sent) (sym none) empty
 
 no_bytes : AreBytes []
@@ -214,11 +214,11 @@ no_bytes = All-nil (λ (o : Outgoing). IsBytes o.bytes)
 no_short : AreShort []
 no_short = All-nil (λ (o : Outgoing). IsShort o.bytes)
 
-pub quiet_bytes : {E : Type 0} (r : Result Outbox E) → IfOk r (λ out. out ≡ nothing) → IfOk r (λ out. AreBytes out.sent)
+pub quiet_bytes : {E : Type 0} (r : Result Outbox E) → IfOk r (λ out. out ≡ no_outbox) → IfOk r (λ out. AreBytes out.sent)
 quiet_bytes (Ok out) none = none_sent out AreBytes none no_bytes
 quiet_bytes (Err e) none = tt
 
-pub quiet_short : {E : Type 0} (r : Result Outbox E) → IfOk r (λ out. out ≡ nothing) → IfOk r (λ out. AreShort out.sent)
+pub quiet_short : {E : Type 0} (r : Result Outbox E) → IfOk r (λ out. out ≡ no_outbox) → IfOk r (λ out. AreShort out.sent)
 quiet_short (Ok out) none = none_sent out AreShort none no_short
 quiet_short (Err e) none = tt
 
@@ -232,7 +232,7 @@ pub dest_served : {E : Type 0} (r : Result Outbox E) (P Q S : Outbox → Type 0)
 dest_served (Ok out) P Q S T q s p t = (p, q, s, t)
 dest_served (Err e) P Q S T q s p t = tt
 
-pub nothing_fails : {E : Type 0} (r : Result Outbox E) → IfOk r (λ out. out ≡ nothing) → IfOk r (λ out. steps.any_failed out.used ≡ false)
+pub nothing_fails : {E : Type 0} (r : Result Outbox E) → IfOk r (λ out. out ≡ no_outbox) → IfOk r (λ out. steps.any_failed out.used ≡ false)
 nothing_fails (Ok out) none = ap (λ (o : Outbox). steps.any_failed o.used) none
 nothing_fails (Err e) none = tt
 
@@ -249,7 +249,7 @@ heard_at words there worker bytes now s t d (Err e) is h = tt
 
 pub unheard : {D M E : Type 0} (told : Type 0) (words : Words M ℕ) (faults size : D → ℕ) (worker : ℕ) (bytes : List ℕ) (now : ℕ) (end : DestEnd D M) (core : DestHost D M) (r : Result Outbox E)
     → end ≡ dest_end.Open core → core.steps < server.MOST_STEPS → IsBytes bytes → is_worker worker ≡ false → PlansAreFit core.server.files.extra.copier.copies.book.table
-    → IfOk r (λ out. out ≡ nothing)
+    → IfOk r (λ out. out ≡ no_outbox)
     → IfOk r (λ out. (d : ℕ) → DestActs told (machines words) faults size (acts.Hears worker bytes) now end d end d out)
 unheard told words faults size worker bytes now end core (Ok out) is few taken none plans quiet = λ d. record {
   was = core;

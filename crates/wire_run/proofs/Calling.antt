@@ -5,13 +5,13 @@ use Rattle.block_file.specs.Opened.{Opened, StandsFor}
 use Rattle.disk_model.specs.Elapsed.{Timeline}
 use Rattle.disk_model.specs.Passes.{passes_none}
 use Rattle.disk_model.specs.declared.fuse.Fuse.{Fuse}
+use Rattle.outbox.specs.Outboxes.{no_outbox}
 use Rattle.outbox.specs.declared.outgoing.Outbox.{Outbox}
 use Rattle.run_ends.specs.Stops.Reopening.{MadeCalls}
 use Rattle.server_volume.specs.Moments.{Counted, LeftBy, Ran}
 use Rattle.server_volume.specs.Store.{Seat, seat_of}
 use Rattle.server_volume.specs.declared.used.Used.{Used}
 use Rattle.session_server.specs.Host.{HostState, Stepped}
-use Rattle.source_core.specs.Core.{nothing}
 use Rattle.volume_stops.specs.Stops.{IsCertain}
 use Rattle.wire_run.specs.Cutting.{DestCalls, SourceCalls}
 use Rattle.wire_run.specs.Stage.{DestHost, SourceHost, dest_disk, source_disk}
@@ -100,7 +100,7 @@ module _ {D M : Type 0} (told : Type 0) (size : D → ℕ) (fuse : D → Fuse) (
     dest_quiet old new core next (Err e) was is stood certain same none = tt
 
     -- what rests makes none either
-    pub dest_rested : (end : DestEnd D M) (r : Result Outbox E) → DestCalls told size fuse timeline faults end end [] → IfOk r (λ out. out ≡ nothing)
+    pub dest_rested : (end : DestEnd D M) (r : Result Outbox E) → DestCalls told size fuse timeline faults end end [] → IfOk r (λ out. out ≡ no_outbox)
         → IfOk r (λ out. DestCalls told size fuse timeline faults end end out.used)
     dest_rested end (Ok out) rests none =
         subst (λ (o : Outbox). DestCalls told size fuse timeline faults end end o.used) (sym none) rests
@@ -108,7 +108,7 @@ module _ {D M : Type 0} (told : Type 0) (size : D → ℕ) (fuse : D → Fuse) (
 
 -- ---- what gives nothing, and a step that notes no calls
 
-pub nothing_used : {E : Type 0} (r : Result Outbox E) → IfOk r (λ out. out ≡ nothing) → IfOk r (λ out. out.used ≡ [])
+pub nothing_used : {E : Type 0} (r : Result Outbox E) → IfOk r (λ out. out ≡ no_outbox) → IfOk r (λ out. out.used ≡ [])
 nothing_used (Ok out) none = ap (λ (o : Outbox). o.used) none
 nothing_used (Err e) none = tt
 

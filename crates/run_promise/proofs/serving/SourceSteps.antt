@@ -1,8 +1,9 @@
 -- What a small step is to the source: it takes a record on a connection, a second comes to it by itself, or it rests.
 use Rattle.std.proofs.Common.{◌≡◌, ◌⊎◌, inl, inr, ℕ, ◌+◌, List, Option, Some, None, sym, ap, subst, ◌∙◌}
+use Rattle.outbox.specs.Outboxes.{no_outbox}
 use Rattle.outbox.specs.declared.outgoing.Outbox.{Outbox}
 use Rattle.session_server.specs.Steps.{ticked}
-use Rattle.source_core.specs.Core.{nothing, source_rules}
+use Rattle.source_core.specs.Core.{source_rules}
 use Rattle.wire_lines.specs.declared.letters.Speaker.{Speaker}
 use Rattle.wire_lines.specs.declared.letters.Speaker.TheVariants as speakers
 use Rattle.wire_machine.specs.declared.port.Port.{Port}
@@ -34,7 +35,7 @@ module _ {M : Type 0} (words : Words M ℕ) where
   -- it takes none: it is as it was, or a second came
   pub record Rests (before : RunWorld M) (parts : Parts) (after : RunWorld M) : Type 0 where
     pub source : (after.source ≡ before.source) ⊎ ((now : ℕ) × (after.source ≡ ticked (source_rules words.mic) now before.source))
-    pub part : parts.source ≡ source_part None nothing
+    pub part : parts.source ≡ source_part None no_outbox
 
   abbrev pub Did : RunWorld M → Parts → RunWorld M → Type 0
   Did before parts after = Takes before parts after ⊎ Rests before parts after
