@@ -11,7 +11,7 @@ ghost use Rattle.source_server.specs.Serving.{net_words, ServeEnds};
 ghost use Rattle.volume_format.specs.DiskWords.{disk_words};
 ghost use Rattle.run_ends.specs.Setting.{dest_name, dest_place, dest_source, source_peers, source_place};
 
-use crate::command::DestOrder;
+use crate::command::{DestOrder, Service};
 use crate::ends::serve_code;
 use dest_server::{DestService, Partner, serve_dest};
 use disk_model::Disk;
@@ -40,7 +40,7 @@ pub(crate) fn serve_as_source<
 >(
     rt: &R,
     alloc: Global,
-    conns: u32,
+    service: Service,
     mech: M,
     clock: C,
     draws: W,
@@ -51,7 +51,7 @@ pub(crate) fn serve_as_source<
     requires there { is_some disk.old ≡ true }
     requires volume { IfSome disk.old (MayOpen (disk_words D.Told D.faults D.size D.timeline)) }
     ensures ends { EndsAs serve_status (ServeEnds (disk_words D.Told D.faults D.size D.timeline) (net_words N.Told N.coming N.faults (books_of N.hung N.up N.accepted))
-        (source_by (disk_words D.Told D.faults D.size D.timeline) mech clock draws (seat_of D.size D.fuse D.timeline D.faults) M.mic_of M.derived M.accepted W.gives) conns
+        (source_by (disk_words D.Told D.faults D.size D.timeline) mech clock draws (seat_of D.size D.fuse D.timeline D.faults) M.mic_of M.derived M.accepted W.gives) service.conns
         (K.takes output.old).taken (K.takes output.new).taken (K.takes output.old).faults (K.takes output.new).faults net.old net.new disk.old disk.new) result }
     ensures later { (K.takes output.old).faults ≤ (K.takes output.new).faults }
 {
@@ -59,7 +59,16 @@ pub(crate) fn serve_as_source<
         return serve_code(ServeEnd::NoMemory);
     };
     serve_code(serve_source(
-        rt, alloc, conns, known, mech, clock, draws, output, disk, net,
+        rt,
+        alloc,
+        service.conns,
+        known,
+        mech,
+        clock,
+        draws,
+        output,
+        disk,
+        net,
     ))
 }
 

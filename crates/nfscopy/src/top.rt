@@ -82,17 +82,7 @@ pub fn nfscopy<
         Command::Format(new) => do_format(alloc, new, output, disks),
         Command::ServeSource(service) => {
             let source = &mut disks.source;
-            serve_as_source(
-                rt,
-                alloc,
-                service.conns,
-                mech,
-                clock,
-                draws,
-                output,
-                source,
-                net,
-            )
+            serve_as_source(rt, alloc, service, mech, clock, draws, output, source, net)
         }
         Command::ServeDest(order) => {
             let dest = &mut disks.dest;
