@@ -1,82 +1,19 @@
--- Why a connection was hung up: what serving tells of it.
-use Rattle.std.proofs.Common.{◌≡◌, ℕ, ◌+◌, ◌-◌, ◌≤◌, List, [], ◌∷◌, ◌++◌, ◌⊎◌, length, Option, Some, None, IfSome, refl, ap, ◌∙◌, arith, inl, inr}
-use Rattle.std.specs.Io.KnownBytes.{Consumes}
+-- Why the connections were hung up that a server served, one after another.
+use Rattle.std.proofs.Common.{◌≡◌, ℕ, ◌+◌, ◌-◌, ◌≤◌, List, [], ◌∷◌, ◌++◌, ◌⊎◌, Option, Some, None, refl, ap, arith}
 use Rattle.rpc_msg.specs.declared.pump.Pumped.{Pumped}
-use Rattle.rpc_msg.specs.declared.pump.Pumped.TheVariants as pumped
-use Rattle.rpc_msg.specs.Serving.{state_of}
-use Rattle.rpc_msg.specs.Underway.{Feed, IsFresh, Open, fresh, flow}
-use Rattle.net_links.specs.Links.{Standing, IsNew}
+use Rattle.net_links.specs.Links.{Standing}
 use Rattle.link_server.specs.Answering.{Caller}
-use Rattle.link_server.specs.Serving.{ServedIs, Pumps, PumpsShort, Untouched, Went, newcomer}
-use Rattle.link_server.specs.Hanging.{HungIs, AllHung, AllForCause, WhyHung, Ended, ReadFailed, PutFailed, TooLarge, Many, AllTaken, TooLong, Brought, Sums, starved_by, sums_after}
+use Rattle.link_server.specs.Serving.{ServedIs, newcomer}
+use Rattle.link_server.specs.Hanging.{HungIs, AllHung, AllForCause, WhyHung, Sums, starved_by, sums_after}
+use Rattle.link_server.specs.HangingLaws.{pumps_why, unread}
 use Rattle.link_server.specs.declared.tally.TheConstants.{ALL_RECORDS, EACH_RECORDS}
-
--- ---- no more records are left than were given
-
-pumps_few : (answers : Caller → List ℕ → List ℕ → Caller → Type 0) (first last : Caller) (start now : Standing) (given unused : ℕ) (end : Pumped)
-    → Pumps answers first last start now given unused end → unused ≤ given
-pumps_few answers first last start now given unused (pumped.End rest) by = omega (arith, by.pump.0.passed.counted)
-pumps_few answers first last start now given unused (pumped.TooLarge sum) by = omega (arith, by.pump.0.passed.counted)
-pumps_few answers first last start now given unused pumped.TooMuch by = omega (arith, by.pump.1.passed.counted)
-pumps_few answers first last start now given unused pumped.Enough by = omega (arith, by.pump.0.passed.counted)
-pumps_few answers first last start now given unused pumped.ReadFault by = omega (arith, by.pump.1.passed.counted)
-pumps_few answers first last start now given unused pumped.WriteFault by = omega (arith, by.pump.passed.counted)
-
-short_few : (answers : Caller → List ℕ → List ℕ → Caller → Type 0) (first last : Caller) (start now : Standing) (given unused : ℕ)
-    → (PumpsShort answers first last start now given unused ⊎ Untouched first last start now given unused) → unused ≤ given
-short_few answers first last start now given unused (inl by) = omega (arith, by.short.stopped.counted)
-short_few answers first last start now given unused (inr by) = omega (arith, by.records)
-
-pub went_few : (answers : Caller → List ℕ → List ℕ → Caller → Type 0) (first last : Caller) (start now : Standing) (given unused : ℕ) (end : Option Pumped)
-    → Went answers first last start now given unused end → unused ≤ given
-went_few answers first last start now given unused (Some end) by = pumps_few answers first last start now given unused end by
-went_few answers first last start now given unused None by = short_few answers first last start now given unused by
-
--- ---- why it was hung up
-
-fresh_open : (feed : Feed) → IsFresh feed → state_of 0 feed ≡ Open 0 fresh
-fresh_open feed new = rw (new.1, new.0) refl
-
--- A new link has all left that it brings, where it tells that.
-brings_all : (whole left now : Option (List ℕ)) (taken : Option (List ℕ)) (bytes : List ℕ)
-    → IfSome whole (λ all. (left ≡ Some all) × (taken ≡ Some [])) → Consumes left now bytes → Consumes whole now bytes
-brings_all None left now taken bytes told took = tt
-brings_all (Some all) left now taken bytes told took = rw told.0 at took
-
-brought : (start now : Standing) (bytes over : List ℕ) → IsNew start → now.brings.whole ≡ start.brings.whole
-    → Consumes start.brings.left now.brings.left (bytes ++ over) → Brought now bytes over
-brought start now bytes over new same took = rw same (brings_all start.brings.whole start.brings.left now.brings.left start.takes.taken (bytes ++ over) new.told took)
-
--- All records that it was given were taken.
-spends : (earlier : ℕ) (now : Standing) (bytes over : List ℕ) (given : ℕ) → Brought now bytes over
-    → length (flow (Open 0 fresh) bytes).records ≡ given
-    → ((given ≡ EACH_RECORDS) ⊎ ((given ≤ EACH_RECORDS) × (earlier + given ≡ ALL_RECORDS))) → WhyHung earlier now
-spends earlier now bytes over given brings count (inl each) = Many bytes over brings (count ∙ each)
-spends earlier now bytes over given brings count (inr rest) = AllTaken bytes over brings (omega (arith, count, rest.1))
-
-pumps_why : (answers : Caller → List ℕ → List ℕ → Caller → Type 0) (first last : Caller) (start now : Standing) (earlier given unused : ℕ) (end : Pumped)
-    → IsNew start → now.brings.whole ≡ start.brings.whole
-    → ((given ≡ EACH_RECORDS) ⊎ ((given ≤ EACH_RECORDS) × (earlier + given ≡ ALL_RECORDS)))
-    → Pumps answers first last start now given unused end → WhyHung earlier now
-pumps_why answers first last start now earlier given unused (pumped.End rest) new same gave by = Ended by.pump.2
-pumps_why answers first last start now earlier given unused (pumped.TooLarge sum) new same gave by =
-    let ran = by.pump.0 in
-    TooLarge ran.bytes ran.over sum (brought start now ran.bytes ran.over new same ran.taken) (rw (fresh_open by.feed by.fresh) at ran.passed.state)
-pumps_why answers first last start now earlier given unused pumped.TooMuch new same gave by =
-    let ran = by.pump.1 in
-    TooLong ran.bytes ran.over (brought start now ran.bytes ran.over new same ran.taken) by.pump.2 by.pump.3
-pumps_why answers first last start now earlier given unused pumped.Enough new same gave by =
-    let ran = by.pump.0 in
-    let counted = rw (fresh_open by.feed by.fresh) at ran.passed.counted in
-    spends earlier now ran.bytes ran.over given (brought start now ran.bytes ran.over new same ran.taken) (omega (arith, counted, by.pump.1)) gave
-pumps_why answers first last start now earlier given unused pumped.ReadFault new same gave by = ReadFailed (rw new.reads at by.cause)
-pumps_why answers first last start now earlier given unused pumped.WriteFault new same gave by = PutFailed (rw new.puts at by.cause)
 
 none_starved : (answers : Caller → List ℕ → List ℕ → Caller → Type 0) (earlier : ℕ) (now : Standing) (given unused : ℕ) (end : Option Pumped)
     → starved_by end ≡ 0 → ((given ≡ EACH_RECORDS) ⊎ ((given ≤ EACH_RECORDS) × (earlier + given ≡ ALL_RECORDS)))
     → ServedIs answers given unused end now → WhyHung earlier now
 none_starved answers earlier now given unused (Some end) none gave by =
-    pumps_why answers (newcomer by.conn) by.last by.start now earlier given unused end by.new by.same gave by.went
+    pumps_why answers (newcomer by.conn) by.last by.start now earlier given unused end
+    (unread by.start by.new) by.new.puts by.same gave by.went
 none_starved answers earlier now given unused None none gave by = absurd (omega arith)
 
 hung_why : (answers : Caller → List ℕ → List ℕ → Caller → Type 0) (earlier : Sums) (link : Standing) (one : HungIs answers earlier link)

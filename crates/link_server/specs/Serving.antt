@@ -1,9 +1,10 @@
 -- How one connection was served: what it got for its records, and why that ended. Own definitions, over those of serving a
 -- stream of records (RFC 5531 section 11).
-use Rattle.std.specs.Prelude.{◌≡◌, ℕ, ◌<◌, ◌≤◌, List, ◌⊎◌, Option, Some, None}
+use Rattle.std.specs.Prelude.{◌≡◌, ℕ, ◌<◌, ◌≤◌, List, ◌⊎◌, Option, Some, None, IfSome}
 use Rattle.rpc_msg.specs.declared.pump.Pumped.{Pumped}
 use Rattle.rpc_msg.specs.Serving.{PumpIs, PumpHasCause, RanShort, state_of}
 use Rattle.rpc_msg.specs.Underway.{Feed, IsFresh}
+use Rattle.streams.specs.Stream.{Giving}
 use Rattle.net_links.specs.Links.{Standing, IsNew}
 use Rattle.link_server.specs.Answering.{Caller}
 use Rattle.link_server.specs.declared.tally.TheConstants.{EACH_RECORDS}
@@ -15,6 +16,11 @@ bytes_limit = 18446744073709551615
 -- A connection that made no call yet.
 abbrev pub newcomer : ℕ → Caller
 newcomer conn = record { conn = conn; calls = 0 }
+
+-- Nothing was taken from a connection, and no take failed.
+pub record IsUnread (brings : Giving) : Type 0 where
+  pub all : IfSome brings.whole (λ all. brings.left ≡ Some all)
+  pub faults : brings.faults ≡ 0
 
 -- Its records were served until this end. Of those given to it so many were left.
 pub record Pumps (answers : Caller → List ℕ → List ℕ → Caller → Type 0) (first last : Caller) (start now : Standing)

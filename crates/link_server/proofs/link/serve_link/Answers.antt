@@ -1,4 +1,4 @@
-use Rattle.link_server.proofs.Causes.{went_few}
+use Rattle.link_server.specs.HangingLaws.{went_few}
 use Rattle.link_server.proofs.link.serve_link.Goals as goal
 
 pub returns-clause-served : goal.returns-clause-served
