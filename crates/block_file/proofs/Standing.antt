@@ -5,11 +5,11 @@ use Rattle.disk_model.specs.declared.disk.Io.{Io}
 use Rattle.disk_model.specs.declared.fuse.Fuse.{Fuse}
 use Rattle.disk_model.specs.Disk.{Image, DiskState, MayLeave, IsSettled, Writes}
 use Rattle.disk_model.specs.Elapsed.{Timeline, present, contents, Elapses}
-use Rattle.disk_model.specs.Passes.{Passes, passes_one, passes_only}
+use Rattle.disk_model.specs.Passes.{Passes, passes_none, passes_one, passes_on, passes_only}
 use Rattle.block_file.specs.declared.shape.Shape.{Shape}
 use Rattle.block_file.specs.Cell.{gate_of, cell_of, IsCell, IsBefore, IsAfter, OldOrNew, Keeps}
 use Rattle.block_file.specs.Layout.{cell_at, home_in, table_of}
-use Rattle.block_file.specs.Blocks.{Safe, place_of, next_place, InShape, HasContent, Stands, Holds, with_table}
+use Rattle.block_file.specs.Blocks.{Safe, place_of, next_place, InShape, HasContent, Stands, Holds, KeepsSafe, with_table}
 use Rattle.block_file.proofs.Places.{in_force_apart, data_apart, data_outside, home_outside, cell_outside}
 
 -- a choice by a number
@@ -96,6 +96,34 @@ wrote_passes shape safe content table block j b result f g old new at is w time 
     (stands_holds shape safe content (present new)
     (stands_wrote shape safe table block j b result (present old) (present new) at is w stands)
     (content_wrote shape safe.tables content table block j b result (present old) (present new) at is w has))
+
+pub safe_wrote : (shape : Shape) (table block : List ℕ) (j b : ℕ) (result : Io) (f g : Fuse) (old new : Timeline) → InShape shape j b
+    → Writes (next_place shape table j b) block result (present old) (present new) → Elapses f g old new
+    → new.latest ≤ old.latest + 1 → KeepsSafe shape table j f g old new
+safe_wrote shape table block j b result f g old new at w time soon = record {
+  stands = λ safe is stands. stands_wrote shape safe table block j b result (present old) (present new) at is w stands;
+  content = λ tables content is has. content_wrote shape tables content table block j b result (present old) (present new) at is w has;
+  any_moment = λ safe content is stands has. wrote_passes shape safe content table block j b result f g old new at is w time soon stands has;
+}
+
+-- what no call, and calls in two parts, leave
+pub safe_none : (shape : Shape) (table : List ℕ) (j : ℕ) (f : Fuse) (t : Timeline) → KeepsSafe shape table j f f t t
+safe_none shape table j f t = record {
+  stands = λ safe is stands. stands;
+  content = λ tables content is has. has;
+  any_moment = λ safe content is stands has.
+      passes_none (Holds shape safe content) f t (stands_holds shape safe content (present t) stands has);
+}
+
+pub safe_on : (shape : Shape) (table : List ℕ) (j : ℕ) (f g h : Fuse) (old middle new : Timeline)
+    → KeepsSafe shape table j f g old middle → KeepsSafe shape table j g h middle new → KeepsSafe shape table j f h old new
+safe_on shape table j f g h old middle new before after = record {
+  stands = λ safe is stands. after.stands safe is (before.stands safe is stands);
+  content = λ tables content is has. after.content tables content is (before.content tables content is has);
+  any_moment = λ safe content is stands has.
+      passes_on (Holds shape safe content) f g h old middle new (before.any_moment safe content is stands has)
+      (after.any_moment safe content is (before.stands safe is stands) (before.content safe.tables content is has));
+}
 
 -- an image before the gate of a cell is turned
 pub before_holds : (shape : Shape) (safe : Safe) (content : ℕ → ℕ → List ℕ) (s : DiskState) (j : ℕ) → j ≤ shape.files

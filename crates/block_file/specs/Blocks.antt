@@ -2,6 +2,9 @@
 -- and a put of a table makes all of a file's blocks safe at once. Own definitions.
 use Rattle.std.specs.Prelude.{◌≡◌, ℕ, ◌+◌, ◌-◌, ◌*◌, ◌<◌, ◌≤◌, false, List, take, drop, ◌==◌, if◌then◌else◌}
 use Rattle.disk_model.specs.Disk.{Image, DiskState}
+use Rattle.disk_model.specs.declared.fuse.Fuse.{Fuse}
+use Rattle.disk_model.specs.Elapsed.{Timeline, present, contents}
+use Rattle.disk_model.specs.Passes.{Passes}
 use Rattle.block_file.specs.declared.shape.Shape.{Shape}
 use Rattle.block_file.specs.Cell.{IsCell, gate_of}
 use Rattle.block_file.specs.Layout.{cell_at, data_at, home_in, table_of}
@@ -44,6 +47,18 @@ pub record Holds (shape : Shape) (safe : Safe) (content : ℕ → ℕ → List �
   pub gates : (j : ℕ) → j ≤ shape.files → gate_of (image (cell_at j)) ≡ safe.homes j
   pub tables : (j : ℕ) → j ≤ shape.files → table_of image j ≡ safe.tables j
   pub blocks : HasContent shape safe.tables content image
+
+-- Calls of the disk that write only beside the safe table of a file, in homes that it doesn't name.
+pub record KeepsSafe (shape : Shape) (table : List ℕ) (file : ℕ) (old_fuse new_fuse : Fuse) (old new : Timeline) : Type 0 where
+  -- what was safe before them still is
+  pub stands : (safe : Safe) → safe.tables file ≡ table → Stands shape safe (present old) → Stands shape safe (present new)
+  -- the blocks in the places that the tables name read as before
+  pub content : (tables : ℕ → List ℕ) (content : ℕ → ℕ → List ℕ) → tables file ≡ table
+      → HasContent shape tables content (contents old) → HasContent shape tables content (contents new)
+  -- a crash at any moment of them leaves what was safe
+  pub any_moment : (safe : Safe) (content : ℕ → ℕ → List ℕ) → safe.tables file ≡ table
+      → Stands shape safe (present old) → HasContent shape safe.tables content (contents old)
+      → Passes old_fuse new_fuse old new (Holds shape safe content)
 
 -- with one table put in place of another
 abbrev pub with_table : Safe → ℕ → List ℕ → Safe

@@ -5,7 +5,7 @@ ghost use Rattle.disk_model.specs.Disk.{IsSettled};
 ghost use Rattle.disk_model.specs.Elapsed.{present, contents};
 ghost use Rattle.disk_model.specs.Passes.{Passes};
 ghost use Rattle.block_file.specs.Layout.{cell_at, data_at, blocks_of, home_in};
-ghost use Rattle.block_file.specs.Blocks.{Safe, next_place, InShape, HasContent, Stands, Holds, with_table};
+ghost use Rattle.block_file.specs.Blocks.{Safe, next_place, InShape, HasContent, Stands, Holds, KeepsSafe, with_table};
 
 use crate::cell::GatedCell;
 use crate::shape::Shape;
@@ -44,13 +44,7 @@ pub fn write_block<D: Disk>(
 ) -> Io
     requires within { InShape shape file number }
     requires room { blocks_of shape.files shape.blocks ≤ D.size disk.old }
-    ensures stands { D.Told → (safe : Safe) → safe.tables file ≡ table.now
-        → Stands shape safe (present (D.timeline disk.old)) → Stands shape safe (present (D.timeline disk.new)) }
-    ensures content { D.Told → (tables : ℕ → List ℕ) (content : ℕ → ℕ → List ℕ) → tables file ≡ table.now
-        → HasContent shape tables content (contents (D.timeline disk.old)) → HasContent shape tables content (contents (D.timeline disk.new)) }
-    ensures any_moment { D.Told → (safe : Safe) (content : ℕ → ℕ → List ℕ) → safe.tables file ≡ table.now
-        → Stands shape safe (present (D.timeline disk.old)) → HasContent shape safe.tables content (contents (D.timeline disk.old))
-        → Passes (D.fuse disk.old) (D.fuse disk.new) (D.timeline disk.old) (D.timeline disk.new) (Holds shape safe content) }
+    ensures safe { D.Told → KeepsSafe shape table.now file (D.fuse disk.old) (D.fuse disk.new) (D.timeline disk.old) (D.timeline disk.new) }
     ensures written { D.Told → result ≡ Io.Done → contents (D.timeline disk.new) (next_place shape table.now file number) ≡ block.now }
     ensures elsewhere { D.Told → (b : ℕ) → b ≢ next_place shape table.now file number
         → contents (D.timeline disk.new) b ≡ contents (D.timeline disk.old) b }

@@ -1,12 +1,11 @@
-ghost use Rattle.std.specs.Prelude.{◌≡◌, ◌≢◌, ℕ, ◌+◌, ◌-◌, ◌*◌, ◌<◌, ◌≤◌, List, length, drop, replicate, max};
+ghost use Rattle.std.specs.Prelude.{◌≡◌, ◌≢◌, ℕ, ◌+◌, ◌-◌, ◌*◌, ◌<◌, ◌≤◌, length, drop, replicate, max};
 ghost use Rattle.outcome.specs.Causes.{Rose};
 ghost use Rattle.copy_model.specs.Volume.{bytes_at, with_bytes_at};
 ghost use Rattle.disk_model.specs.declared.fuse.Fuse.TheVariants.{Unset};
-ghost use Rattle.disk_model.specs.Elapsed.{present, contents};
-ghost use Rattle.disk_model.specs.Passes.{Passes};
+ghost use Rattle.disk_model.specs.Elapsed.{contents};
 ghost use Rattle.block_file.specs.Layout.{data_at, blocks_of, size_in};
 ghost use Rattle.block_file.specs.Stored.{blocks_by};
-ghost use Rattle.block_file.specs.Blocks.{Safe, InShape, HasContent, Stands, Holds};
+ghost use Rattle.block_file.specs.Blocks.{InShape, KeepsSafe};
 ghost use Rattle.block_file.specs.Held.{held_by};
 
 use crate::runs::{read_run, write_run};
@@ -66,13 +65,7 @@ pub fn write_file<D: Disk>(
     requires clean { D.Told → drop (size_in newest.old) (blocks_by shape.files shape.blocks newest.old (contents (D.timeline disk.old)) file)
         ≡ replicate (shape.blocks * 4096 - size_in newest.old) 0 }
     requires room { blocks_of shape.files shape.blocks ≤ D.size disk.old }
-    ensures stands { D.Told → (safe : Safe) → safe.tables file ≡ table.now
-        → Stands shape safe (present (D.timeline disk.old)) → Stands shape safe (present (D.timeline disk.new)) }
-    ensures content { D.Told → (tables : ℕ → List ℕ) (content : ℕ → ℕ → List ℕ) → tables file ≡ table.now
-        → HasContent shape tables content (contents (D.timeline disk.old)) → HasContent shape tables content (contents (D.timeline disk.new)) }
-    ensures any_moment { D.Told → (safe : Safe) (content : ℕ → ℕ → List ℕ) → safe.tables file ≡ table.now
-        → Stands shape safe (present (D.timeline disk.old)) → HasContent shape safe.tables content (contents (D.timeline disk.old))
-        → Passes (D.fuse disk.old) (D.fuse disk.new) (D.timeline disk.old) (D.timeline disk.new) (Holds shape safe content) }
+    ensures safe { D.Told → KeepsSafe shape table.now file (D.fuse disk.old) (D.fuse disk.new) (D.timeline disk.old) (D.timeline disk.new) }
     ensures written { D.Told → result ≡ Io.Done → held_by shape newest.new (contents (D.timeline disk.new)) file
         ≡ record { now = with_bytes_at (held_by shape newest.old (contents (D.timeline disk.old)) file).now off bytes.now; change = change } }
     ensures clean { D.Told → result ≡ Io.Done → drop (size_in newest.new) (blocks_by shape.files shape.blocks newest.new (contents (D.timeline disk.new)) file)

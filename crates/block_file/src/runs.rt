@@ -1,12 +1,11 @@
-ghost use Rattle.std.specs.Prelude.{◌≡◌, ◌≢◌, ℕ, ◌+◌, ◌-◌, ◌*◌, ◌<◌, ◌≤◌, List, length, take, drop, IfSome, None};
+ghost use Rattle.std.specs.Prelude.{◌≡◌, ◌≢◌, ℕ, ◌+◌, ◌-◌, ◌*◌, ◌<◌, ◌≤◌, length, take, drop, IfSome, None};
 ghost use Rattle.outcome.specs.Causes.{Rose};
 ghost use Rattle.disk_model.specs.declared.fuse.Fuse.TheVariants.{Unset};
-ghost use Rattle.disk_model.specs.Elapsed.{present, contents};
-ghost use Rattle.disk_model.specs.Passes.{Passes};
+ghost use Rattle.disk_model.specs.Elapsed.{contents};
 ghost use Rattle.block_file.specs.Layout.{data_at, blocks_of, home_in};
 ghost use Rattle.block_file.specs.Lists.{put_in};
 ghost use Rattle.block_file.specs.Stored.{blocks_by};
-ghost use Rattle.block_file.specs.Blocks.{Safe, place_of, next_place, InShape, HasContent, Stands, Holds};
+ghost use Rattle.block_file.specs.Blocks.{place_of, next_place, InShape, KeepsSafe};
 
 use crate::blocks::{data_at, home_in, write_block};
 use crate::shape::Shape;
@@ -126,13 +125,7 @@ pub fn write_run<D: Disk>(
     requires there { file ≤ shape.files }
     requires fits { off + length bytes.now ≤ shape.blocks * 4096 }
     requires room { blocks_of shape.files shape.blocks ≤ D.size disk.old }
-    ensures stands { D.Told → (safe : Safe) → safe.tables file ≡ table.now
-        → Stands shape safe (present (D.timeline disk.old)) → Stands shape safe (present (D.timeline disk.new)) }
-    ensures content { D.Told → (tables : ℕ → List ℕ) (content : ℕ → ℕ → List ℕ) → tables file ≡ table.now
-        → HasContent shape tables content (contents (D.timeline disk.old)) → HasContent shape tables content (contents (D.timeline disk.new)) }
-    ensures any_moment { D.Told → (safe : Safe) (content : ℕ → ℕ → List ℕ) → safe.tables file ≡ table.now
-        → Stands shape safe (present (D.timeline disk.old)) → HasContent shape safe.tables content (contents (D.timeline disk.old))
-        → Passes (D.fuse disk.old) (D.fuse disk.new) (D.timeline disk.old) (D.timeline disk.new) (Holds shape safe content) }
+    ensures safe { D.Told → KeepsSafe shape table.now file (D.fuse disk.old) (D.fuse disk.new) (D.timeline disk.old) (D.timeline disk.new) }
     ensures written { D.Told → result ≡ Io.Done
         → blocks_by shape.files shape.blocks newest.new (contents (D.timeline disk.new)) file
         ≡ put_in off bytes.now (blocks_by shape.files shape.blocks newest.old (contents (D.timeline disk.old)) file) }
@@ -176,13 +169,7 @@ fn write_part<D: Disk>(
     requires within { InShape shape file number }
     requires fits { from + length part.now ≤ 4096 }
     requires room { blocks_of shape.files shape.blocks ≤ D.size disk.old }
-    ensures stands { D.Told → (safe : Safe) → safe.tables file ≡ table.now
-        → Stands shape safe (present (D.timeline disk.old)) → Stands shape safe (present (D.timeline disk.new)) }
-    ensures content { D.Told → (tables : ℕ → List ℕ) (content : ℕ → ℕ → List ℕ) → tables file ≡ table.now
-        → HasContent shape tables content (contents (D.timeline disk.old)) → HasContent shape tables content (contents (D.timeline disk.new)) }
-    ensures any_moment { D.Told → (safe : Safe) (content : ℕ → ℕ → List ℕ) → safe.tables file ≡ table.now
-        → Stands shape safe (present (D.timeline disk.old)) → HasContent shape safe.tables content (contents (D.timeline disk.old))
-        → Passes (D.fuse disk.old) (D.fuse disk.new) (D.timeline disk.old) (D.timeline disk.new) (Holds shape safe content) }
+    ensures safe { D.Told → KeepsSafe shape table.now file (D.fuse disk.old) (D.fuse disk.new) (D.timeline disk.old) (D.timeline disk.new) }
     ensures written { D.Told → result ≡ Io.Done → contents (D.timeline disk.new) (place_of shape newest.new file number)
         ≡ put_in from part.now (contents (D.timeline disk.old) (place_of shape newest.old file number)) }
     ensures others { D.Told → (j b h : ℕ) → InShape shape j b → h ≤ 1 → (j ≡ file → b ≡ number → ⊥)
@@ -217,13 +204,7 @@ fn write_next<D: Disk>(
     requires within { InShape shape file number }
     requires fits { from + length part.now ≤ 4096 }
     requires room { blocks_of shape.files shape.blocks ≤ D.size disk.old }
-    ensures stands { D.Told → (safe : Safe) → safe.tables file ≡ table.now
-        → Stands shape safe (present (D.timeline disk.old)) → Stands shape safe (present (D.timeline disk.new)) }
-    ensures content { D.Told → (tables : ℕ → List ℕ) (content : ℕ → ℕ → List ℕ) → tables file ≡ table.now
-        → HasContent shape tables content (contents (D.timeline disk.old)) → HasContent shape tables content (contents (D.timeline disk.new)) }
-    ensures any_moment { D.Told → (safe : Safe) (content : ℕ → ℕ → List ℕ) → safe.tables file ≡ table.now
-        → Stands shape safe (present (D.timeline disk.old)) → HasContent shape safe.tables content (contents (D.timeline disk.old))
-        → Passes (D.fuse disk.old) (D.fuse disk.new) (D.timeline disk.old) (D.timeline disk.new) (Holds shape safe content) }
+    ensures safe { D.Told → KeepsSafe shape table.now file (D.fuse disk.old) (D.fuse disk.new) (D.timeline disk.old) (D.timeline disk.new) }
     ensures written { D.Told → result ≡ Io.Done → contents (D.timeline disk.new) (next_place shape table.now file number)
         ≡ put_in from part.now (contents (D.timeline disk.old) (place_of shape newest.now file number)) }
     ensures elsewhere { D.Told → (b : ℕ) → b ≢ next_place shape table.now file number

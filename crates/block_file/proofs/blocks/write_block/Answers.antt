@@ -3,7 +3,7 @@ use Rattle.disk_model.specs.Disk.{Writes}
 use Rattle.disk_model.specs.Elapsed.{present}
 use Rattle.block_file.specs.Layout.{data_at}
 use Rattle.block_file.specs.Blocks.{next_place}
-use Rattle.block_file.proofs.Standing.{stands_wrote, content_wrote, wrote_passes}
+use Rattle.block_file.proofs.Standing.{safe_wrote}
 use Rattle.block_file.proofs.blocks.write_block.Given.{Over}
 use Rattle.block_file.proofs.blocks.write_block.Goals as goal
 
@@ -19,15 +19,7 @@ wrote g c told =
     subst (λ (p : ℕ). Writes p c.args.block.now c.write.result (present (g.D.Disk.timeline c.args.disk.now)) (present (g.D.Disk.timeline c.write.new.self)))
     (place g c) (c.write.ensures.written told)
 
-pub returns-clause-stands : goal.returns-clause-stands
-returns-clause-stands g c = λ told safe is stands.
-    stands_wrote c.args.shape safe c.args.table.now c.args.block.now c.args.file c.args.number _ _ _ c.requires.within is (wrote g c told) stands
-
-pub returns-clause-content : goal.returns-clause-content
-returns-clause-content g c = λ told tables content is has.
-    content_wrote c.args.shape tables content c.args.table.now c.args.block.now c.args.file c.args.number _ _ _ c.requires.within is (wrote g c told) has
-
-pub returns-clause-any_moment : goal.returns-clause-any_moment
-returns-clause-any_moment g c = λ told safe content is stands has.
-    wrote_passes c.args.shape safe content c.args.table.now c.args.block.now c.args.file c.args.number _ _ _ _ _ c.requires.within is
-    (wrote g c told) (c.write.ensures.time told) (c.write.ensures.soon told) stands has
+pub returns-clause-safe : goal.returns-clause-safe
+returns-clause-safe g c = λ told.
+    safe_wrote c.args.shape c.args.table.now c.args.block.now c.args.file c.args.number _ _ _ _ _ c.requires.within
+    (wrote g c told) (c.write.ensures.time told) (c.write.ensures.soon told)

@@ -1,12 +1,12 @@
 use Rattle.std.proofs.Common.{◌≡◌, ℕ, ◌+◌, ◌-◌, ◌*◌, ◌/◌, ◌%◌, ◌<◌, ◌≤◌, List, length, take, drop, refl, ◌∙◌, ap, arith, length-drop}
 use Rattle.std.proofs.lemmas.List.{length-take-le}
 use Rattle.disk_model.specs.Elapsed.{contents}
-use Rattle.disk_model.specs.Passes.{passes_on}
 use Rattle.block_file.specs.Layout.{home_in, data_at}
 use Rattle.block_file.specs.Lists.{joined, put_in}
 use Rattle.block_file.specs.Stored.{blocks_by}
-use Rattle.block_file.specs.Blocks.{place_of, InShape, Holds}
+use Rattle.block_file.specs.Blocks.{place_of, InShape}
 use Rattle.block_file.proofs.Places.{home_in-lt}
+use Rattle.block_file.proofs.Standing.{safe_on}
 use Rattle.block_file.proofs.Spans.{joined_len, joined_put, put_more}
 use Rattle.block_file.proofs.runs.write_run.Goals as goal
 
@@ -29,11 +29,7 @@ loop-done-preserved g c =
     let there : number < shape.blocks = omega (arith, below, c.requires.fits) in
     record {
       within = most;
-      stands = λ told safe is stands. call.stands told safe is (kept.stands told safe is stands);
-      content = λ told tables content is has. call.content told tables content is (kept.content told tables content is has);
-      moments = λ told safe content is stands has.
-          passes_on (Holds shape safe content) _ _ _ _ _ _ (kept.moments told safe content is stands has)
-          (call.any_moment told safe content is (kept.stands told safe is stands) (kept.content told safe.tables content is has));
+      safe = λ told. safe_on shape c.args.table.now file _ _ _ _ _ _ (kept.safe told) (call.safe told);
       written = λ told.
           let f : ℕ → List ℕ = λ b. contents (g.D.Disk.timeline c.loop-done.disk) (place_of shape c.loop-done.newest file b) in
           let h : ℕ → List ℕ = λ b. contents (g.D.Disk.timeline c.write_part.new.disk) (place_of shape c.write_part.new.newest file b) in
@@ -66,12 +62,6 @@ loop-done-preserved g c =
       faults = omega (arith, kept.faults, call.faults);
     }
 
-pub returns-in-Failed-clause-content : goal.returns-in-Failed-clause-content
-returns-in-Failed-clause-content g c = λ told tables content is has.
-    c.write_part.ensures.content told tables content is (c.loop-done.invariant.content told tables content is has)
-
-pub returns-in-Failed-clause-any_moment : goal.returns-in-Failed-clause-any_moment
-returns-in-Failed-clause-any_moment g c = λ told safe content is stands has.
-    let kept = c.loop-done.invariant in
-    passes_on (Holds c.args.shape safe content) _ _ _ _ _ _ (kept.moments told safe content is stands has)
-    (c.write_part.ensures.any_moment told safe content is (kept.stands told safe is stands) (kept.content told safe.tables content is has))
+pub returns-in-Failed-clause-safe : goal.returns-in-Failed-clause-safe
+returns-in-Failed-clause-safe g c = λ told.
+    safe_on c.args.shape c.args.table.now c.args.file _ _ _ _ _ _ (c.loop-done.invariant.safe told) (c.write_part.ensures.safe told)

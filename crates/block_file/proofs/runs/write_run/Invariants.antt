@@ -1,23 +1,17 @@
-use Rattle.std.proofs.Common.{◌≡◌, ◌≢◌, ℕ, List, ◌≤◌, length, take, ◌-◌}
+use Rattle.std.proofs.Common.{◌≡◌, ◌≢◌, ℕ, ◌≤◌, length, take, ◌-◌}
 use Rattle.disk_model.specs.declared.fuse.Fuse.TheVariants.{Unset}
-use Rattle.disk_model.specs.Elapsed.{present, contents}
-use Rattle.disk_model.specs.Passes.{Passes}
+use Rattle.disk_model.specs.Elapsed.{contents}
 use Rattle.block_file.specs.Layout.{data_at}
 use Rattle.block_file.specs.Lists.{put_in}
 use Rattle.block_file.specs.Stored.{blocks_by}
-use Rattle.block_file.specs.Blocks.{Safe, InShape, HasContent, Stands, Holds}
+use Rattle.block_file.specs.Blocks.{InShape, KeepsSafe}
 use Rattle.block_file.proofs.runs.write_run.Given as goal
 
 abbrev pub invariant-loop-done : goal.invariant-loop-done
 invariant-loop-done g l = record {
   within : l.done ≤ length l.bytes;
-  stands : g.D.Disk.Told → (safe : Safe) → safe.tables l.file ≡ l.table
-      → Stands l.shape safe (present (g.D.Disk.timeline l.initial.disk)) → Stands l.shape safe (present (g.D.Disk.timeline l.disk));
-  content : g.D.Disk.Told → (tables : ℕ → List ℕ) (content : ℕ → ℕ → List ℕ) → tables l.file ≡ l.table
-      → HasContent l.shape tables content (contents (g.D.Disk.timeline l.initial.disk)) → HasContent l.shape tables content (contents (g.D.Disk.timeline l.disk));
-  moments : g.D.Disk.Told → (safe : Safe) (content : ℕ → ℕ → List ℕ) → safe.tables l.file ≡ l.table
-      → Stands l.shape safe (present (g.D.Disk.timeline l.initial.disk)) → HasContent l.shape safe.tables content (contents (g.D.Disk.timeline l.initial.disk))
-      → Passes (g.D.Disk.fuse l.initial.disk) (g.D.Disk.fuse l.disk) (g.D.Disk.timeline l.initial.disk) (g.D.Disk.timeline l.disk) (Holds l.shape safe content);
+  safe : g.D.Disk.Told → KeepsSafe l.shape l.table l.file
+      (g.D.Disk.fuse l.initial.disk) (g.D.Disk.fuse l.disk) (g.D.Disk.timeline l.initial.disk) (g.D.Disk.timeline l.disk);
   written : g.D.Disk.Told → blocks_by l.shape.files l.shape.blocks l.newest (contents (g.D.Disk.timeline l.disk)) l.file
       ≡ put_in l.off (take l.done l.bytes) (blocks_by l.shape.files l.shape.blocks l.initial.newest (contents (g.D.Disk.timeline l.initial.disk)) l.file);
   others : g.D.Disk.Told → (j b h : ℕ) → InShape l.shape j b → h ≤ 1 → j ≢ l.file

@@ -88,7 +88,7 @@ module _ (g : Over) (c : After-write_file g) where
 
   -- a crash during it leaves what was safe
   passes : told → Passes (g.D.Disk.fuse c.self.inside.disk) (g.D.Disk.fuse c.write_file.new.disk) first later (Holds c.self.inside.shape safe before)
-  passes o = c.write_file.ensures.any_moment o safe before table_is (stood o) (λ j b at. refl)
+  passes o = (c.write_file.ensures.safe o).any_moment safe before table_is (stood o) (λ j b at. refl)
 
   past : told → (k : ℕ) → k ≤ first.latest → later.state k ≡ first.state k
   past o = (passes o).time.past
@@ -119,7 +119,7 @@ module _ (g : Over) (c : After-write_file g) where
   other j low high ne = get_or-set_other c.self.inside.newest.items c.args.file j c.write_file.new.newest [] ne
 
   has : told → HasContent c.self.inside.shape tables before (contents later)
-  has o = c.write_file.ensures.content o tables before table_is (λ j b at. refl)
+  has o = (c.write_file.ensures.safe o).content tables before table_is (λ j b at. refl)
 
   -- where it is done, at this moment
   written : c.write_file.result ≡ Done → (moment : ℕ) → (told → moment ≡ later.latest) → let v = c.self.inside in
@@ -133,7 +133,7 @@ module _ (g : Over) (c : After-write_file g) where
       (subst (λ (l : List ℕ). size_in l ≤ v.shape.blocks * 4096) (sym next_is) (c.write_file.ensures.sized done))
       (λ o. subst (λ (l : List ℕ). drop (size_in l) (blocks_by v.shape.files v.shape.blocks l (contents later) file) ≡ replicate (v.shape.blocks * 4096 - size_in l) 0) (sym next_is)
       (c.write_file.ensures.clean o done))
-      (λ o. c.write_file.ensures.stands o safe table_is (stood o)))
+      (λ o. (c.write_file.ensures.safe o).stands safe table_is (stood o)))
 
 pub returns-in-Some-clause-tested : goal.returns-in-Some-clause-tested
 returns-in-Some-clause-tested g c = λ fault is.
