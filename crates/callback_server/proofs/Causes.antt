@@ -1,92 +1,31 @@
--- Why a connection was hung up: what serving tells of it.
-use Rattle.std.proofs.Common.{◌≡◌, ℕ, ◌+◌, ◌-◌, ◌≤◌, List, [], ◌∷◌, ◌++◌, ◌⊎◌, length, Option, Some, None, IfSome, refl, ap, ◌∙◌, arith, inl, inr}
-use Rattle.std.specs.Io.KnownBytes.{Consumes}
+-- Why the connections were hung up that a server served beside workers, one after another.
+use Rattle.std.proofs.Common.{◌≡◌, ℕ, ◌+◌, ◌-◌, ◌≤◌, List, [], ◌∷◌, ◌⊎◌, Option, Some, None, refl, ap, arith}
 use Rattle.rpc_msg.specs.declared.pump.Pumped.{Pumped}
-use Rattle.rpc_msg.specs.declared.pump.Pumped.TheVariants as pumped
-use Rattle.rpc_msg.specs.Serving.{state_of}
-use Rattle.rpc_msg.specs.Underway.{Feed, IsFresh, Open, fresh, flow}
-use Rattle.net_links.specs.Links.{Standing, IsNew}
-use Rattle.streams.specs.Stream.{Giving}
+use Rattle.net_links.specs.Links.{Standing}
 use Rattle.link_server.specs.Answering.{Caller}
-use Rattle.link_server.specs.Serving.{Pumps, PumpsShort, Untouched, Went, newcomer}
-use Rattle.link_server.specs.Hanging.{AllForCause, WhyHung, Ended, ReadFailed, PutFailed, TooLarge, Many, AllTaken, TooLong, Brought, Sums, starved_by, sums_after}
+use Rattle.link_server.specs.Serving.{newcomer}
+use Rattle.link_server.specs.Hanging.{AllForCause, WhyHung, Ended, ReadFailed, PutFailed, TooLarge, Many, AllTaken, TooLong, Sums, starved_by, sums_after}
+use Rattle.link_server.specs.HangingLaws.{pumps_why}
 use Rattle.link_server.specs.declared.tally.TheConstants.{ALL_RECORDS, EACH_RECORDS}
 use Rattle.callback_server.specs.Hanging.{AllHung, HungIs}
-use Rattle.callback_server.specs.Serving.{heard, AttendedIs, IsUnread}
+use Rattle.callback_server.specs.Serving.{heard, AttendedIs}
 
--- ---- no more records are left than were given
-
-pumps_few : (answers : Caller → List ℕ → List ℕ → Caller → Type 0) (first last : Caller) (start now : Standing) (given unused : ℕ) (end : Pumped)
-    → Pumps answers first last start now given unused end → unused ≤ given
-pumps_few answers first last start now given unused (pumped.End rest) by = omega (arith, by.pump.0.passed.counted)
-pumps_few answers first last start now given unused (pumped.TooLarge sum) by = omega (arith, by.pump.0.passed.counted)
-pumps_few answers first last start now given unused pumped.TooMuch by = omega (arith, by.pump.1.passed.counted)
-pumps_few answers first last start now given unused pumped.Enough by = omega (arith, by.pump.0.passed.counted)
-pumps_few answers first last start now given unused pumped.ReadFault by = omega (arith, by.pump.1.passed.counted)
-pumps_few answers first last start now given unused pumped.WriteFault by = omega (arith, by.pump.passed.counted)
-
-short_few : (answers : Caller → List ℕ → List ℕ → Caller → Type 0) (first last : Caller) (start now : Standing) (given unused : ℕ)
-    → (PumpsShort answers first last start now given unused ⊎ Untouched first last start now given unused) → unused ≤ given
-short_few answers first last start now given unused (inl by) = omega (arith, by.short.stopped.counted)
-short_few answers first last start now given unused (inr by) = omega (arith, by.records)
-
-pub went_few : (answers : Caller → List ℕ → List ℕ → Caller → Type 0) (first last : Caller) (start now : Standing) (given unused : ℕ) (end : Option Pumped)
-    → Went answers first last start now given unused end → unused ≤ given
-went_few answers first last start now given unused (Some end) by = pumps_few answers first last start now given unused end by
-went_few answers first last start now given unused None by = short_few answers first last start now given unused by
-
--- ---- why it was hung up
-
-fresh_open : (feed : Feed) → IsFresh feed → state_of 0 feed ≡ Open 0 fresh
-fresh_open feed new = rw (new.1, new.0) refl
-
--- A new link has all left that it brings, where it tells that.
-brings_all : (whole left now : Option (List ℕ)) (bytes : List ℕ) → IfSome whole (λ all. left ≡ Some all) → Consumes left now bytes → Consumes whole now bytes
-brings_all None left now bytes told took = tt
-brings_all (Some all) left now bytes told took = rw told at took
-
-brought : (start : Giving) (now : Standing) (bytes over : List ℕ) → IsUnread start → now.brings.whole ≡ start.whole
-    → Consumes start.left now.brings.left (bytes ++ over) → Brought now bytes over
-brought start now bytes over new same took = rw same (brings_all start.whole start.left now.brings.left (bytes ++ over) new.all took)
-
--- nothing was taken from a new link
-all_left : (whole left taken : Option (List ℕ)) → IfSome whole (λ all. (left ≡ Some all) × (taken ≡ Some [])) → IfSome whole (λ all. left ≡ Some all)
-all_left None left taken told = tt
-all_left (Some all) left taken told = told.0
-
-pub unread : (link : Standing) → IsNew link → IsUnread link.brings
-unread link new = record { all = all_left link.brings.whole link.brings.left link.takes.taken new.told; faults = new.reads }
-
--- All records that it was given were taken.
-spends : (earlier : ℕ) (now : Standing) (bytes over : List ℕ) (given : ℕ) → Brought now bytes over
-    → length (flow (Open 0 fresh) bytes).records ≡ given
-    → ((given ≡ EACH_RECORDS) ⊎ ((given ≤ EACH_RECORDS) × (earlier + given ≡ ALL_RECORDS))) → WhyHung earlier now
-spends earlier now bytes over given brings count (inl each) = Many bytes over brings (count ∙ each)
-spends earlier now bytes over given brings count (inr rest) = AllTaken bytes over brings (omega (arith, count, rest.1))
-
-pumps_why : (answers : Caller → List ℕ → List ℕ → Caller → Type 0) (first last : Caller) (start : Giving) (failed : ℕ) (now : Standing)
-    (earlier given unused : ℕ) (end : Pumped) → IsUnread start → now.brings.whole ≡ start.whole → failed ≤ now.takes.faults
-    → ((given ≡ EACH_RECORDS) ⊎ ((given ≤ EACH_RECORDS) × (earlier + given ≡ ALL_RECORDS)))
-    → Pumps answers first last (heard start 0) (heard now.brings failed) given unused end → WhyHung earlier now
-pumps_why answers first last start failed now earlier given unused (pumped.End rest) new same counted gave by = Ended by.pump.2
-pumps_why answers first last start failed now earlier given unused (pumped.TooLarge sum) new same counted gave by =
-    let ran = by.pump.0 in
-    TooLarge ran.bytes ran.over sum (brought start now ran.bytes ran.over new same ran.taken) (rw (fresh_open by.feed by.fresh) at ran.passed.state)
-pumps_why answers first last start failed now earlier given unused pumped.TooMuch new same counted gave by =
-    let ran = by.pump.1 in
-    TooLong ran.bytes ran.over (brought start now ran.bytes ran.over new same ran.taken) by.pump.2 by.pump.3
-pumps_why answers first last start failed now earlier given unused pumped.Enough new same counted gave by =
-    let ran = by.pump.0 in
-    let records = rw (fresh_open by.feed by.fresh) at ran.passed.counted in
-    spends earlier now ran.bytes ran.over given (brought start now ran.bytes ran.over new same ran.taken) (omega (arith, records, by.pump.1)) gave
-pumps_why answers first last start failed now earlier given unused pumped.ReadFault new same counted gave by = ReadFailed (rw new.faults at by.cause)
-pumps_why answers first last start failed now earlier given unused pumped.WriteFault new same counted gave by = PutFailed (omega (arith, by.cause, counted))
+-- what is so of a connection as its own handle tells it is so of it, also where others' puts failed on its way
+heard_why : (earlier failed : ℕ) (now : Standing) → failed ≤ now.takes.faults → WhyHung earlier (heard now.brings failed) → WhyHung earlier now
+heard_why earlier failed now counted (Ended at) = Ended at
+heard_why earlier failed now counted (ReadFailed rose) = ReadFailed rose
+heard_why earlier failed now counted (PutFailed rose) = PutFailed (omega (arith, rose, counted))
+heard_why earlier failed now counted (TooLarge bytes over sum brings state) = TooLarge bytes over sum brings state
+heard_why earlier failed now counted (Many bytes over brings count) = Many bytes over brings count
+heard_why earlier failed now counted (AllTaken bytes over brings count) = AllTaken bytes over brings count
+heard_why earlier failed now counted (TooLong bytes over brings long more) = TooLong bytes over brings long more
 
 one_why : (answers : Caller → List ℕ → List ℕ → Caller → Type 0) (earlier : ℕ) (now : Standing) (given unused : ℕ) (end : Option Pumped)
     → starved_by end ≡ 0 → ((given ≡ EACH_RECORDS) ⊎ ((given ≤ EACH_RECORDS) × (earlier + given ≡ ALL_RECORDS)))
     → AttendedIs answers given unused end now → WhyHung earlier now
 one_why answers earlier now given unused (Some end) none gave by =
-    pumps_why answers (newcomer by.conn) by.last by.start by.failed now earlier given unused end by.new by.same by.counted gave by.went
+    heard_why earlier by.failed now by.counted (pumps_why answers (newcomer by.conn) by.last (heard by.start 0) (heard now.brings by.failed)
+    earlier given unused end by.new refl by.same gave by.went)
 one_why answers earlier now given unused None none gave by = absurd (omega arith)
 
 hung_why : (answers : Caller → List ℕ → List ℕ → Caller → Type 0) (earlier : Sums) (link : Standing) (one : HungIs answers earlier link)

@@ -1,4 +1,4 @@
-use Rattle.callback_server.proofs.Causes.{unread, went_few}
+use Rattle.link_server.specs.HangingLaws.{unread, went_few}
 use Rattle.callback_server.proofs.connection.serve_link.Goals as goal
 
 pub returns-clause-served : goal.returns-clause-served
