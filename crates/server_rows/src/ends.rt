@@ -71,7 +71,7 @@ impl Ends {
             self.act(alloc, words, round)?;
         }
         self.put_out(alloc, text, word(words, 1))?;
-        self.out = None;
+        drop(self.out.take());
         Ok(())
     }
 

@@ -25,7 +25,7 @@ use mounts::Mounts;
 use outcome::Mem;
 use row_text::{Rows, compare, number, word, words};
 use std::alloc::Global;
-use std::io;
+use std::{io, mem};
 
 /// Who calls a server, once a line has begun them.
 #[derive(Drop)]
@@ -77,11 +77,12 @@ impl ServerRows {
 
     /// `server ..` and `new ..` begin those who call, each before a server that nobody has called yet.
     fn begin(&mut self, alloc: Global, words: &[&str]) -> Mem<()> {
-        match word(words, 0) {
-            "server" => *self = ServerRows::Hands(Ends::boxed(alloc, words)?),
-            "new" => *self = ServerRows::Mount(Mounts::boxed(alloc, number(words, 1))?),
-            _ => {}
-        }
+        let begun = match word(words, 0) {
+            "server" => Ends::boxed(alloc, words).map(ServerRows::Hands)?,
+            "new" => Mounts::boxed(alloc, number(words, 1)).map(ServerRows::Mount)?,
+            _ => return Ok(()),
+        };
+        drop(mem::replace(self, begun));
         Ok(())
     }
 }

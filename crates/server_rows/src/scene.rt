@@ -12,6 +12,7 @@ use outcome::Mem;
 use session_calls::SlotCall;
 use session_client::Setup;
 use std::alloc::Global;
+use std::mem;
 use streams::CountDraws;
 use two_ends::{Wrong, drawn};
 
@@ -205,19 +206,22 @@ impl Scene {
 
     /// A server in its boot of this number stands in the place of the one that was there. Nobody has called it yet.
     pub fn boot(&mut self, alloc: Global, boot: u32) -> Mem<()> {
-        self.server = sound_server(alloc, boot)?;
+        let server = sound_server(alloc, boot)?;
+        drop(mem::replace(&mut self.server, server));
         Ok(())
     }
 
     /// A copy of the mount is kept.
     pub fn keep(&mut self, alloc: Global) -> Mem<()> {
-        self.kept = self.mount.copy(alloc)?;
+        let kept = self.mount.copy(alloc)?;
+        drop(mem::replace(&mut self.kept, kept));
         Ok(())
     }
 
     /// The copy is the mount from here on.
     pub fn go_back(&mut self, alloc: Global) -> Mem<()> {
-        self.mount = self.kept.copy(alloc)?;
+        let mount = self.kept.copy(alloc)?;
+        drop(mem::replace(&mut self.mount, mount));
         Ok(())
     }
 }

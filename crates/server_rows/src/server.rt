@@ -25,6 +25,7 @@ use sess_slots::Sessions;
 use session_server::{Host, MOST_STEPS};
 use state_ids::Opens;
 use std::alloc::Global;
+use std::mem;
 use streams::MemDraws;
 use two_ends::realm;
 use wire_xdr::Octets;
@@ -41,12 +42,12 @@ impl ToyServer {
     /// A server in its boot of this number over a new volume of so many files of so many blocks, whose disk fails from its
     /// call of this number on. Nobody has called yet.
     pub fn new(alloc: Global, boot: u32, files: u32, blocks: u32, fails: u64) -> Mem<ToyServer> {
+        let draws = draws(alloc, 0)?;
+        let tables = Tables::new(alloc, boot)?;
         let disk = RoomDisk::new(alloc, fails)?;
         let volume = volume(alloc, disk, files.clamp(1, 64), blocks.clamp(1, 256))?;
-        Ok(ToyServer {
-            draws: draws(alloc, 0)?,
-            host: host(alloc, boot, volume)?,
-        })
+        let host = tables.host(volume);
+        Ok(ToyServer { draws, host })
     }
 
     /// A record comes on connection 5: one step. None where the server makes no more steps.
@@ -69,7 +70,8 @@ impl ToyServer {
 
     /// The next draw fails.
     pub fn fail_draw(&mut self, alloc: Global) -> Mem<()> {
-        self.draws = draws(alloc, 1)?;
+        let draws = draws(alloc, 1)?;
+        drop(mem::replace(&mut self.draws, draws));
         Ok(())
     }
 
@@ -129,31 +131,61 @@ impl ToyServer {
     }
 }
 
-/// A server over a volume, of which nothing is open.
-fn host(alloc: Global, boot: u32, volume: Volume<RoomDisk>) -> Mem<Host<RoomDisk, Toy, u32>>
-    ensures { IfOk result (λ host. IsCounted given host) }
-{
-    Ok(Host {
-        server: server(alloc, boot, volume)?,
-        contexts: Contexts::new(alloc, End::Source, boot)?,
-        second: 0,
-        steps: 0,
-    })
+/// What a server has but its volume.
+#[derive(Drop)]
+struct Tables {
+    opens: Opens,
+    sessions: Sessions,
+    contexts: Contexts<u32>,
+    toy: Toy,
 }
 
-fn server(alloc: Global, boot: u32, volume: Volume<RoomDisk>) -> Mem<Server<RoomDisk, Toy>>
-    ensures given { IfOk result (λ server. given server.files.extra ≡ 0) }
-    ensures opens { IfOk result (λ server. server.files.opens.made ≡ 0) }
-    ensures clients { IfOk result (λ server. numbers_made server.sessions ≡ 0) }
-{
-    Ok(Server {
-        files: Files {
+impl Tables {
+    /// Nothing is open, and nobody has called yet.
+    fn new(alloc: Global, boot: u32) -> Mem<Tables>
+        ensures given { IfOk result (λ tables. given tables.toy ≡ 0) }
+        ensures opens { IfOk result (λ tables. tables.opens.made ≡ 0) }
+        ensures contexts { IfOk result (λ tables. tables.contexts.made ≡ 0) }
+        ensures clients { IfOk result (λ tables. numbers_made tables.sessions ≡ 0) }
+    {
+        let opens = Opens::new(alloc, boot)?;
+        let sessions = Sessions::new(alloc, boot)?;
+        let contexts = Contexts::new(alloc, End::Source, boot)?;
+        let toy = Toy::new(realm(alloc)?);
+        Ok(Tables {
+            opens,
+            sessions,
+            contexts,
+            toy,
+        })
+    }
+
+    /// The server over a volume.
+    fn host(self, volume: Volume<RoomDisk>) -> Host<RoomDisk, Toy, u32>
+        requires given { given self.toy ≡ 0 }
+        requires opens { self.opens.made ≡ 0 }
+        requires contexts { self.contexts.made ≡ 0 }
+        requires clients { numbers_made self.sessions ≡ 0 }
+        ensures { IsCounted given result }
+    {
+        let Tables {
+            opens,
+            sessions,
+            contexts,
+            toy,
+        } = self;
+        let files = Files {
             volume,
-            opens: Opens::new(alloc, boot)?,
-            extra: Toy::new(realm(alloc)?),
-        },
-        sessions: Sessions::new(alloc, boot)?,
-    })
+            opens,
+            extra: toy,
+        };
+        Host {
+            server: Server { files, sessions },
+            contexts,
+            second: 0,
+            steps: 0,
+        }
+    }
 }
 
 /// A new volume, opened. The disk has room for those of the rows, and fails later.
