@@ -6,12 +6,12 @@ ghost use Rattle.outbox.specs.Counting.{records_to};
 
 use core_desk::{Core, MOST_CALLS};
 use nfs_base::JobName;
-use outbox::{CallLabel, CallList, Label, Note, NoteList, Outbox, Outgoing, To};
+use outbox::{CallLabel, Label, Note, Outbox, Outgoing, To};
 use outcome::Mem;
 use std::alloc::Global;
 use std::marker::Model;
 use streams::{Clock, CountDraws};
-use wire_xdr::{Items, Octets};
+use wire_xdr::Octets;
 
 /// No more than this lands at once.
 const CHUNK: usize = 65_536;
@@ -57,39 +57,20 @@ impl Toy {
     }
 }
 
-fn nothing(alloc: Global) -> Mem<Outbox>
-    ensures sent { IfOk result (λ out. out.sent ≡ []) }
-    ensures notes { IfOk result (λ out. out.notes ≡ []) }
-{
-    gives(alloc, Items::new(alloc))
-}
-
-fn gives(alloc: Global, sent: Items<Outgoing>) -> Mem<Outbox>
-    ensures sent { IfOk result (λ out. out.sent ≡ sent) }
-    ensures notes { IfOk result (λ out. out.notes ≡ []) }
-{
-    Ok(Outbox {
-        sent,
-        notes: NoteList::new(alloc)?,
-        accepted: None,
-        used: CallList::new(alloc)?,
-        undrawn: false,
-    })
-}
-
 /// A record that asks the source for one.
-fn ask(alloc: Global, worker: u8) -> Mem<Items<Outgoing>>
-    ensures one { IfOk result (λ sent. records_to worker sent ≤ 1) }
-    ensures small { IfOk result (All IsSmall) }
+fn ask(alloc: Global, worker: u8) -> Mem<Outbox>
+    ensures one { IfOk result (λ out. records_to worker out.sent ≤ 1) }
+    ensures small { IfOk result (λ out. All IsSmall out.sent) }
+    ensures notes { IfOk result (λ out. out.notes ≡ []) }
 {
-    let mut sent = Items::new(alloc);
-    sent.push(Outgoing {
+    let mut out = Outbox::new(alloc)?;
+    out.sent.push(Outgoing {
         to: To::Source(worker),
         bytes: Octets::from_slice(alloc, b"record")?,
         seal: None,
         label: Label::Call(CallLabel::Null),
     })?;
-    Ok(sent)
+    Ok(out)
 }
 
 impl Toy {
@@ -102,7 +83,7 @@ impl Toy {
         ensures counted { OnOk result (self.new.steps ≡ self.old.steps + 1) }
         ensures err { OnErr result (self.new ≡ self.old) }
     {
-        let out = nothing(alloc)?;
+        let out = Outbox::new(alloc)?;
         self.steps += 1;
         Ok(out)
     }
@@ -156,7 +137,7 @@ impl Core<CountDraws> for Toy {
         if self.left == 0 {
             return self.rest(alloc);
         }
-        let out = gives(alloc, ask(alloc, worker)?)?;
+        let out = ask(alloc, worker)?;
         self.left -= 1;
         self.steps += 1;
         Ok(out)
@@ -172,7 +153,7 @@ impl Core<CountDraws> for Toy {
         if record_.len() > CHUNK {
             return self.rest(alloc);
         }
-        let mut out = nothing(alloc)?;
+        let mut out = Outbox::new(alloc)?;
         out.notes.push(Note::Landed {
             job: JobName { boot: 1, number: 1 },
             off: 0,
