@@ -8,7 +8,7 @@ ghost use Rattle.nfs_base.specs.declared.limits.TheConstants.{DATA_LIMIT};
 use crate::client_lines::{copy_number, copy_spec, is_step, side_of, tell_awaits, tell_report};
 use crate::lines::{bytes_of, long};
 use crate::outbox_lines::tell_step;
-use crate::player::Player;
+use crate::player::{Core, Player};
 use crate::setting::{dest_place, realm, source_place};
 use client_core::{Client, MOST_STEPS};
 use gss_mech::{Mechanism, Realm};
@@ -29,7 +29,7 @@ pub struct Calling<M> {
 }
 
 impl Player for Calling<Realm> {
-    fn begin(alloc: Global, _words: &[&str]) -> Mem<Option<Calling<Realm>>> {
+    fn begin(alloc: Global, _core: Core, _words: &[&str]) -> Mem<Option<Calling<Realm>>> {
         new_calling(alloc, realm(alloc)?).map(Some)
     }
 

@@ -1,41 +1,21 @@
 //! The cores whose cases can be replayed.
 
-use crate::player::{Player, begin, event, held};
+use crate::player::{Core, Player, begin, event, held};
 use outcome::Mem;
 use std::alloc::Global;
 
-/// Which core the cases are for.
-#[derive(Clone, Copy)]
-pub enum Core {
-    Source,
-    Dest,
-    Client,
-}
-
-impl Core {
-    /// The core that a word names.
-    pub fn named(word: &str) -> Option<Core> {
-        match word {
-            "source" => Some(Core::Source),
-            "dest" => Some(Core::Dest),
-            "client" => Some(Core::Client),
-            _ => None,
-        }
-    }
-}
-
 /// The source, the destination and the client of the last case of each, and which of them the lines drive now.
 #[derive(Drop)]
-pub struct Cores<S, D, C> {
+pub struct Cores<S, C> {
     now: Core,
     source: Option<S>,
-    dest: Option<D>,
+    dest: Option<S>,
     client: Option<C>,
 }
 
-impl<S: Player, D: Player, C: Player> Cores<S, D, C> {
+impl<S: Player, C: Player> Cores<S, C> {
     /// No case was begun yet, and the first are for this core.
-    pub fn new(now: Core) -> Cores<S, D, C> {
+    pub fn new(now: Core) -> Cores<S, C> {
         Cores {
             now,
             source: None,
@@ -52,9 +32,9 @@ impl<S: Player, D: Player, C: Player> Cores<S, D, C> {
     /// Begins a case with a new core, by the words of its first line.
     pub fn begin(&mut self, alloc: Global, words: &[&str]) -> Mem<()> {
         match self.now {
-            Core::Source => begin(&mut self.source, alloc, words),
-            Core::Dest => begin(&mut self.dest, alloc, words),
-            Core::Client => begin(&mut self.client, alloc, words),
+            Core::Source => begin(&mut self.source, alloc, self.now, words),
+            Core::Dest => begin(&mut self.dest, alloc, self.now, words),
+            Core::Client => begin(&mut self.client, alloc, self.now, words),
         }
     }
 

@@ -1,109 +1,45 @@
-//! Cases of a destination.
+//! The destination of a case, and what its workers do.
 
-ghost use Rattle.std.specs.Prelude.{◌≤◌, IsTrue};
+ghost use Rattle.std.specs.Prelude.{◌<◌, ◌≤◌, IsTrue};
 ghost use Rattle.block_file.specs.Opened.{CanBeOpened};
 ghost use Rattle.dest_tasks.specs.declared.workers.TheConstants.{WORKERS};
 ghost use Rattle.disk_model.specs.Disk.{Image, MayLeave};
 ghost use Rattle.disk_model.specs.Elapsed.{present};
+ghost use Rattle.session_server.specs.declared.host.TheConstants.{MOST_STEPS};
 
 use crate::draws::CaseDraws;
-use crate::driver::{Driver, Opened};
-use crate::setting::{dest_name, dest_place, dest_source, realm};
-use crate::volume::{formatted, new_disk};
-use block_file::FileInfo;
+use crate::event::Event;
+use crate::setting::{dest_name, dest_place, dest_source};
 use copy_privs::Peer;
 use dest_core::DestCore;
 use dest_tasks::WORKERS;
-use disk_model::{Disk, MemoryDisk};
-use gss_mech::{Mechanism, Realm};
+use disk_model::Disk;
+use gss_mech::Mechanism;
 use nfs_base::NetLoc;
 use outbox::Outbox;
 use outcome::Mem;
-use session_server::MOST_STEPS;
 use std::alloc::Global;
-use wire_lines::Speaker;
 
-impl Opened for DestCore<MemoryDisk, Realm> {
-    fn begin(alloc: Global, words: &[&str]) -> Mem<Option<DestCore<MemoryDisk, Realm>>> {
-        new_dest(alloc, new_disk(alloc), realm(alloc)?, words)
-    }
-}
-
-impl<D: Disk + Drop, M: Mechanism> Driver for DestCore<D, M> {
-    fn speaker(&self) -> Speaker {
-        Speaker::Dest
-    }
-
-    fn take(
-        &mut self,
-        alloc: Global,
-        conn: u32,
-        record_: &[u8],
-        now: u64,
-        draws: &mut CaseDraws,
-    ) -> Mem<Option<Outbox>> {
-        if self.calls() >= MOST_STEPS {
-            return Ok(None);
+/// Makes the step of a worker's event. None where it is no worker's, or there is no such worker.
+pub fn worker_step<D: Disk + Drop, M: Mechanism>(
+    core: &mut DestCore<D, M>,
+    alloc: Global,
+    event: &Event,
+    draws: &mut CaseDraws,
+) -> Mem<Option<Outbox>>
+    requires { core.old.steps < MOST_STEPS }
+{
+    match event {
+        Event::Work { worker, now } if is_worker(*worker) => {
+            core.work(alloc, *worker, *now, draws).map(Some)
         }
-        self.on_record(alloc, conn, record_, now, draws).map(Some)
-    }
-
-    fn wait(&mut self, alloc: Global, now: u64) -> Mem<Option<Outbox>> {
-        if self.calls() >= MOST_STEPS {
-            return Ok(None);
+        Event::Reply { worker, bytes, now } if is_worker(*worker) => core
+            .on_source_reply(alloc, *worker, bytes.as_slice(), *now)
+            .map(Some),
+        Event::Failed { worker } if is_worker(*worker) => {
+            core.link_failed(alloc, *worker).map(Some)
         }
-        self.tick(alloc, now).map(Some)
-    }
-
-    fn work(
-        &mut self,
-        alloc: Global,
-        worker: u8,
-        now: u64,
-        draws: &mut CaseDraws,
-    ) -> Mem<Option<Outbox>> {
-        if self.calls() >= MOST_STEPS || !is_worker(worker) {
-            return Ok(None);
-        }
-        DestCore::work(self, alloc, worker, now, draws).map(Some)
-    }
-
-    fn reply(
-        &mut self,
-        alloc: Global,
-        worker: u8,
-        record_: &[u8],
-        now: u64,
-    ) -> Mem<Option<Outbox>> {
-        if self.calls() >= MOST_STEPS || !is_worker(worker) {
-            return Ok(None);
-        }
-        self.on_source_reply(alloc, worker, record_, now).map(Some)
-    }
-
-    fn fail(&mut self, alloc: Global, worker: u8) -> Mem<Option<Outbox>> {
-        if self.calls() >= MOST_STEPS || !is_worker(worker) {
-            return Ok(None);
-        }
-        self.link_failed(alloc, worker).map(Some)
-    }
-
-    fn info(&self, file: u32) -> Option<FileInfo> {
-        if file == 0 || file > self.files() {
-            return None;
-        }
-        Some(self.file(file))
-    }
-
-    fn bytes(&mut self, file: u32, off: u64) -> Option<[u8; 32]> {
-        if file == 0 || file > self.files() {
-            return None;
-        }
-        let mut room = [0u8; 32];
-        match self.peek(file, off, &mut room) {
-            Ok(()) => Some(room),
-            Err(_) => None,
-        }
+        _ => Ok(None),
     }
 }
 
@@ -115,21 +51,8 @@ fn is_worker(worker: u8) -> bool
     1 <= worker && u32::from(worker) <= WORKERS
 }
 
-/// The destination of a case, over a disk that is formatted for it.
-fn new_dest<D: Disk + Drop, M: Mechanism + Drop>(
-    alloc: Global,
-    disk: D,
-    mech: M,
-    words: &[&str],
-) -> Mem<Option<DestCore<D, M>>> {
-    match formatted(disk, words)? {
-        Some(disk) => open(alloc, disk, mech),
-        None => Ok(None),
-    }
-}
-
 /// Opens the destination of a case.
-fn open<D: Disk + Drop, M: Mechanism + Drop>(
+pub fn open_dest<D: Disk + Drop, M: Mechanism + Drop>(
     alloc: Global,
     disk: D,
     mech: M,

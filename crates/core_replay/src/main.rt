@@ -16,25 +16,25 @@ mod client_lines;
 mod cores;
 mod dest;
 mod draws;
-mod driver;
 mod due;
+mod event;
 mod lines;
 mod outbox_lines;
 mod player;
 mod replay;
+mod server;
 mod serving;
 mod setting;
 mod source;
 mod volume;
 
 use crate::client::Calling;
-use crate::cores::{Core, Cores};
+use crate::cores::Cores;
+use crate::player::Core;
 use crate::replay::replay_cases;
 use crate::serving::Serving;
-use dest_core::DestCore;
 use disk_model::MemoryDisk;
 use gss_mech::Realm;
-use source_core::SourceCore;
 use std::env::{self, Env};
 use std::io;
 
@@ -46,12 +46,8 @@ fn first_core(rt: &(impl Env + AllocGlobal)) -> io::Result<Option<Core>> {
     Ok(Core::named(word.as_str()))
 }
 
-/// A source, a destination and a client, over disks in memory.
-type MemoryCores = Cores<
-    Serving<SourceCore<MemoryDisk, Realm>>,
-    Serving<DestCore<MemoryDisk, Realm>>,
-    Calling<Realm>,
->;
+/// Servers over disks in memory, and a client.
+type MemoryCores = Cores<Serving<MemoryDisk, Realm>, Calling<Realm>>;
 
 /// Replays cases of all cores, those of this one first.
 fn replay_from(rt: &HostRuntime, now: Core) -> io::Result<()> {

@@ -3,10 +3,30 @@
 use outcome::Mem;
 use std::alloc::Global;
 
+/// Which core a case is for.
+#[derive(Clone, Copy)]
+pub enum Core {
+    Source,
+    Dest,
+    Client,
+}
+
+impl Core {
+    /// The core that a word names.
+    pub fn named(word: &str) -> Option<Core> {
+        match word {
+            "source" => Some(Core::Source),
+            "dest" => Some(Core::Dest),
+            "client" => Some(Core::Client),
+            _ => None,
+        }
+    }
+}
+
 /// A core as the lines of cases drive it.
 pub trait Player: Drop {
-    /// The core of a new case, by the words of its first line. None where there can't be one.
-    fn begin(alloc: Global, words: &[&str]) -> Mem<Option<Self>>;
+    /// This core of a new case, by the words of its first line. None where there can't be one.
+    fn begin(alloc: Global, core: Core, words: &[&str]) -> Mem<Option<Self>>;
 
     /// Makes the step that an event's words say, adds the lines of its outcome, and tells whether the core makes such a step.
     fn event(&mut self, alloc: Global, words: &[&str], text: &mut String) -> Mem<bool>;
@@ -16,8 +36,13 @@ pub trait Player: Drop {
 }
 
 /// Puts the core of a new case in the place of the last one's.
-pub fn begin<P: Player>(player: &mut Option<P>, alloc: Global, words: &[&str]) -> Mem<()> {
-    *player = P::begin(alloc, words)?;
+pub fn begin<P: Player>(
+    player: &mut Option<P>,
+    alloc: Global,
+    core: Core,
+    words: &[&str],
+) -> Mem<()> {
+    *player = P::begin(alloc, core, words)?;
     Ok(())
 }
 

@@ -11,10 +11,7 @@ use std::alloc::Global;
 use std::io;
 
 /// Replays the cases of standard input, and prints what is to be told of them.
-pub fn replay_cases<S: Player, D: Player, C: Player>(
-    rt: &HostRuntime,
-    cores: Cores<S, D, C>,
-) -> io::Result<()> {
+pub fn replay_cases<S: Player, C: Player>(rt: &HostRuntime, cores: Cores<S, C>) -> io::Result<()> {
     let mut replay = Replay {
         cores,
         cases: Cases::new(rt.alloc()),
@@ -27,8 +24,8 @@ pub fn replay_cases<S: Player, D: Player, C: Player>(
 
 /// What is replayed, and how it goes.
 #[derive(Drop)]
-struct Replay<S, D, C> {
-    cores: Cores<S, D, C>,
+struct Replay<S, C> {
+    cores: Cores<S, C>,
     cases: Cases,
 
     /// The lines that the last event gave.
@@ -38,7 +35,7 @@ struct Replay<S, D, C> {
     told: String,
 }
 
-impl<S: Player, D: Player, C: Player> Replay<S, D, C> {
+impl<S: Player, C: Player> Replay<S, C> {
     fn print_counts(&self, rt: &HostRuntime) -> io::Result<()> {
         println!(rt; "{} cases, {} differ", self.cases.begun, self.cases.differ)
     }

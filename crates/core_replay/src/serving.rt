@@ -1,100 +1,76 @@
 //! A server's core in a case.
 
 use crate::draws::CaseDraws;
-use crate::driver::{Driver, Opened};
-use crate::lines::{bytes_of, long};
+use crate::event::Event;
+use crate::lines::long;
 use crate::outbox_lines::{tell_hex, tell_step};
-use crate::player::Player;
+use crate::player::{Core, Player};
+use crate::server::{Server, new_server};
+use crate::setting::realm;
+use crate::volume::new_disk;
 use block_file::FileInfo;
-use outbox::Outbox;
+use disk_model::{Disk, MemoryDisk};
+use gss_mech::{Mechanism, Realm};
 use outcome::Mem;
 use row_text::{number, word};
 use std::alloc::Global;
 use std::fmt::Write;
-use wire_lines::Speaker;
 
-/// The core of a case, and what it draws from.
+/// The server of a case, and what it draws from.
 #[derive(Drop)]
-pub struct Serving<D> {
-    core: D,
+pub struct Serving<D: Disk, M> {
+    server: Server<D, M>,
     draws: CaseDraws,
 }
 
-impl<D: Opened + Driver> Player for Serving<D> {
-    fn begin(alloc: Global, words: &[&str]) -> Mem<Option<Serving<D>>> {
-        let draws = CaseDraws::of_case(word(words, 1));
-        match D::begin(alloc, words)? {
-            Some(core) => Ok(Some(Serving { core, draws })),
-            None => Ok(None),
-        }
+impl Player for Serving<MemoryDisk, Realm> {
+    fn begin(alloc: Global, core: Core, words: &[&str]) -> Mem<Option<Serving<MemoryDisk, Realm>>> {
+        new_serving(alloc, core, new_disk(alloc), realm(alloc)?, words)
     }
 
     fn event(&mut self, alloc: Global, words: &[&str], text: &mut String) -> Mem<bool> {
-        let given = step(alloc, &mut self.core, &mut self.draws, words)?;
-        tell_step(text, speaker(&self.core, words), given)
+        self.take(alloc, words, text)
     }
 
     fn held(&mut self, words: &[&str], text: &mut String) -> Mem<()> {
+        self.tell_held(words, text)
+    }
+}
+
+impl<D: Disk + Drop, M: Mechanism> Serving<D, M> {
+    /// Makes the step of an event and adds the lines of its outcome, and tells whether there is such a step.
+    fn take(&mut self, alloc: Global, words: &[&str], text: &mut String) -> Mem<bool> {
+        let Some(event) = Event::from_words(alloc, words) else {
+            return Ok(false);
+        };
+        let given = self.server.step(alloc, &event, &mut self.draws)?;
+        tell_step(text, self.server.speaker(&event), given)
+    }
+
+    /// Adds what the server tells of a file, or what stands in it.
+    fn tell_held(&mut self, words: &[&str], text: &mut String) -> Mem<()> {
         let file = number(words, 1);
         if word(words, 0) == "file" {
-            return tell_file(text, file, self.core.info(file));
+            return tell_file(text, file, self.server.info(file));
         }
         let off = long(words, 2);
-        tell_bytes(text, file, off, self.core.bytes(file, off))
+        tell_bytes(text, file, off, self.server.bytes(file, off))
     }
 }
 
-/// Makes the step that an event's words say.
-fn step<D: Driver>(
+/// The server of a case over a disk, and the draws of the case.
+fn new_serving<D: Disk + Drop, M: Mechanism + Drop>(
     alloc: Global,
-    core: &mut D,
-    draws: &mut CaseDraws,
+    core: Core,
+    disk: D,
+    mech: M,
     words: &[&str],
-) -> Mem<Option<Outbox>> {
-    match word(words, 0) {
-        "record" => comes(alloc, core, draws, words),
-        "tick" => core.wait(alloc, long(words, 1)),
-        "work" => core.work(alloc, worker_of(words), long(words, 2), draws),
-        "reply" => replies(alloc, core, words),
-        "failed" => core.fail(alloc, worker_of(words)),
-        _ => Ok(None),
+) -> Mem<Option<Serving<D, M>>> {
+    let draws = CaseDraws::of_case(word(words, 1));
+    match new_server(alloc, core, disk, mech, words)? {
+        Some(server) => Ok(Some(Serving { server, draws })),
+        None => Ok(None),
     }
-}
-
-/// Who tells the notes of an event: of an answer the worker to which it came.
-fn speaker<D: Driver>(core: &D, words: &[&str]) -> Speaker {
-    if word(words, 0) == "reply" {
-        return Speaker::Worker;
-    }
-    core.speaker()
-}
-
-/// A record comes on a connection.
-fn comes<D: Driver>(
-    alloc: Global,
-    core: &mut D,
-    draws: &mut CaseDraws,
-    words: &[&str],
-) -> Mem<Option<Outbox>> {
-    let given = bytes_of(alloc, word(words, 3));
-    core.take(
-        alloc,
-        number(words, 1),
-        given.as_slice(),
-        long(words, 2),
-        draws,
-    )
-}
-
-/// A record comes to a worker from the source.
-fn replies<D: Driver>(alloc: Global, core: &mut D, words: &[&str]) -> Mem<Option<Outbox>> {
-    let given = bytes_of(alloc, word(words, 3));
-    core.reply(alloc, worker_of(words), given.as_slice(), long(words, 2))
-}
-
-/// The number of a worker, 0 where there is none.
-fn worker_of(words: &[&str]) -> u8 {
-    word(words, 1).parse::<u8>().unwrap_or(0)
 }
 
 fn tell_file(text: &mut String, file: u32, info: Option<FileInfo>) -> Mem<()> {

@@ -1,13 +1,13 @@
 //! The volumes of cases.
 
-ghost use Rattle.std.specs.Prelude.{◌≤◌, ◌*◌, IfOk, IfSome, IsTrue};
+ghost use Rattle.std.specs.Prelude.{◌≤◌, ◌<◌, ◌*◌, length, IfOk, IfSome, IsTrue};
 ghost use Rattle.block_file.specs.Opened.{CanBeOpened};
 ghost use Rattle.disk_model.specs.Disk.{Image, MayLeave};
 ghost use Rattle.disk_model.specs.Elapsed.{present};
 ghost use Rattle.nfs_base.specs.declared.limits.TheConstants.{MOST_BLOCKS, MOST_FILES};
 
 use crate::lines::long;
-use block_file::Volume;
+use block_file::{FileInfo, Volume};
 use disk_model::{Disk, MemoryDisk};
 use nfs_base::{MOST_BLOCKS, MOST_FILES};
 use outcome::Mem;
@@ -46,4 +46,20 @@ fn is_volume(files: u32, blocks: u32) -> bool
         && 1 <= blocks
         && blocks <= MOST_BLOCKS
         && files.saturating_mul(blocks) <= MOST_BLOCKS
+}
+
+/// Whether a volume has a file of this number.
+pub fn has_file<D: Disk>(volume: &Volume<D>, file: u32) -> bool
+    ensures no_root { IsTrue result → 1 ≤ file }
+    ensures there { IsTrue result → file < length volume.now.volume.files }
+{
+    1 <= file && file <= volume.files()
+}
+
+/// What is told of a file, where it is there.
+pub fn info<D: Disk>(volume: &Volume<D>, file: u32) -> Option<FileInfo> {
+    if !has_file(volume, file) {
+        return None;
+    }
+    Some(volume.file(file))
 }
