@@ -140,20 +140,16 @@ fn ended<
         dest: Some(dest),
     };
     disks_suffice::<BlindDisk>();
-    let status = top_call(
-        rt, alloc, words, input, put, &mut disks, mech, StillClock, draws, net,
-    );
+    let status = top_call(rt, alloc, words, input, put, &mut disks, mech, draws, net);
     (status, disks)
 }
 
-/// The top call. It is proved once for all types, and what it promises is left out: what calls it isn't proved through that.
+/// The top call. It is proved once for all disks, mechanisms, draws and nets, and what it promises is left out: what calls it isn't
+/// proved through that.
 fn top_call<
     R: Threads + Wait + Sync,
-    S: Source,
-    K: Sink,
     D: CrashDisk + Drop + Send,
     M: Mechanism + Sync,
-    C: Clock + Drop + Send,
     W: Draws + Drop + Send,
     F: Source + Send + Drop,
     T: Sink + Send + Drop,
@@ -162,18 +158,17 @@ fn top_call<
     rt: &R,
     alloc: Global,
     words: &[String],
-    input: &mut S,
-    output: &mut K,
+    input: &mut MemSource,
+    put: &mut MemSink,
     disks: &mut Disks<D>,
     mech: &M,
-    clock: C,
     draws: W,
     net: &mut N,
 ) -> u8
     requires { HasDisks (disk_words D.Told D.faults D.size D.timeline) (command_of (map string_bytes words.now)) disks.old.source disks.old.dest }
 {
     nfscopy(
-        rt, alloc, words, input, output, disks, mech, clock, draws, net,
+        rt, alloc, words, input, put, disks, mech, StillClock, draws, net,
     )
 }
 

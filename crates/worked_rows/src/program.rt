@@ -19,7 +19,7 @@ use std::collections::VecDeque;
 use std::marker::{Send, Sync};
 use std::sync::Wait;
 use std::thread::Threads;
-use streams::{Clock, CountDraws, Draws, MemSink, MemSource, Sink, Source};
+use streams::{Clock, CountDraws, MemSink, MemSource, Sink, Source};
 use two_ends::realm;
 use wire_run::Disks;
 
@@ -36,22 +36,23 @@ impl Clock for StillClock {
     }
 }
 
-/// What a call reads and writes, and a net to which nobody comes.
+/// What a call reads and writes, its net, and what its records are sealed by.
 #[derive(Drop)]
-struct Outside {
+struct Outside<M, N> {
     source: MemSource,
     sink: MemSink,
-    net: MemNet,
-    realm: Realm,
+    net: N,
+    mech: M,
 }
 
-impl Outside {
-    fn new(alloc: Global, text: &[u8], plan: Plan) -> Mem<Outside> {
+impl Outside<Realm, MemNet> {
+    /// Nobody comes to the net.
+    fn new(alloc: Global, text: &[u8], plan: Plan) -> Mem<Outside<Realm, MemNet>> {
         Ok(Outside {
             source: source(alloc, text, plan.take)?,
             sink: MemSink::new(alloc, vec![in alloc; plan.put]?),
             net: lonely(alloc)?,
-            realm: realm(alloc)?,
+            mech: realm(alloc)?,
         })
     }
 }
@@ -130,36 +131,12 @@ pub fn call_with<R: Threads + Wait + Sync>(
     })
 }
 
-/// Calls the program over disks that fit its words.
-fn over<R: Threads + Wait + Sync, D: CrashDisk + Drop + Send>(
-    rt: &R,
-    alloc: Global,
-    words: &[String],
-    outside: &mut Outside,
-    disks: &mut Disks<D>,
-) -> u8
-    requires { HasDisks (disk_words D.Told D.faults D.size D.timeline) (command_of (map string_bytes words.now)) disks.old.source disks.old.dest }
-{
-    called(
-        rt,
-        alloc,
-        words,
-        &mut outside.source,
-        &mut outside.sink,
-        disks,
-        &outside.realm,
-        StillClock,
-        CountDraws::new(),
-        &mut outside.net,
-    )
-}
-
 /// Calls the program over two disks.
 fn status<R: Threads + Wait + Sync, D: CrashDisk + Drop + Send>(
     rt: &R,
     alloc: Global,
     words: &[String],
-    outside: &mut Outside,
+    outside: &mut Outside<Realm, MemNet>,
     disks: &mut Disks<D>,
 ) -> Mem<u8>
     requires source { is_some disks.old.source ≡ true }
@@ -167,7 +144,7 @@ fn status<R: Threads + Wait + Sync, D: CrashDisk + Drop + Send>(
 {
     if asked_service(words).is_none() {
         disks_suffice::<D>();
-        Ok(over(rt, alloc, words, outside, disks))
+        Ok(called(rt, alloc, words, outside, disks))
     } else {
         serve(rt, alloc, words, outside, disks)
     }
@@ -178,7 +155,7 @@ fn serve<R: Threads + Wait + Sync, D: CrashDisk + Drop + Send>(
     rt: &R,
     alloc: Global,
     words: &[String],
-    outside: &mut Outside,
+    outside: &mut Outside<Realm, MemNet>,
     disks: &mut Disks<D>,
 ) -> Mem<u8> {
     let source = made(disks.source.take())?;
@@ -191,7 +168,7 @@ fn serve<R: Threads + Wait + Sync, D: CrashDisk + Drop + Send>(
         dest: Some(dest),
     };
     disks_suffice::<D>();
-    Ok(over(rt, alloc, words, outside, disks))
+    Ok(called(rt, alloc, words, outside, disks))
 }
 
 /// The disk with an empty volume on it.
@@ -204,33 +181,28 @@ fn made<D: Disk + Drop>(disk: Option<D>) -> Mem<Option<D>>
     Ok(Volume::format(disk, 1, 1, 7)?.ok())
 }
 
-/// The call itself. Nothing is asked here of what it promises, so that isn't looked at for the types of its callers.
+/// The call itself. Nothing is asked here of what it promises, so that isn't looked at for the disks, the mechanism and the net of
+/// its callers.
 fn called<
     R: Threads + Wait + Sync,
-    S: Source,
-    K: Sink,
     D: CrashDisk + Drop + Send,
     M: Mechanism + Sync,
-    C: Clock + Drop + Send,
-    W: Draws + Drop + Send,
     F: Source + Send + Drop,
     T: Sink + Send + Drop,
     N: Net<From = F, To = T>,
->(
-    rt: &R,
-    alloc: Global,
-    words: &[String],
-    input: &mut S,
-    output: &mut K,
-    disks: &mut Disks<D>,
-    mech: &M,
-    clock: C,
-    draws: W,
-    net: &mut N,
-) -> u8
+>(rt: &R, alloc: Global, words: &[String], outside: &mut Outside<M, N>, disks: &mut Disks<D>) -> u8
     requires { HasDisks (disk_words D.Told D.faults D.size D.timeline) (command_of (map string_bytes words.now)) disks.old.source disks.old.dest }
 {
     nfscopy::nfscopy(
-        rt, alloc, words, input, output, disks, mech, clock, draws, net,
+        rt,
+        alloc,
+        words,
+        &mut outside.source,
+        &mut outside.sink,
+        disks,
+        &outside.mech,
+        StillClock,
+        CountDraws::new(),
+        &mut outside.net,
     )
 }
