@@ -242,15 +242,19 @@ def ran(crates, folder, lock):
 
 def prove():
     """Proves and builds the program, and gives the status to end with."""
-    crates, begun = Crates(), time.time()
-    sources = crates.sources()
-    if is_current(sources):
+    begun = time.time()
+    if is_current(Crates().sources()):
         os.utime(PROGRAM, (begun, begun))
         return 0
     if not has_rt():
         return FAILED
     folder, lock = room()
     try:
+        # Another build may have ended meanwhile, and the sources may have changed.
+        begun, crates = time.time(), Crates()
+        sources = crates.sources()
+        if is_current(sources):
+            return 0
         crates.copy_to(f"{folder}/repository")
         tell(f"proves the {len(crates.names)} crates of the program, {sum(crates.lengths.values())} lines: about "
              f"{in_minutes(crates.minutes())} on {processors()} processors where nothing is kept; what the prover says is in {folder}/log")
