@@ -22,7 +22,7 @@ try)
   exit 2 ;;
 ci)
   echo "rt: low is kept: an earlier run on this machine proved the same files"
-  until [ -e "$NOTES/go" ]; do sleep 0.05; done
+  while [ -d "$NOTES" ] && ! [ -e "$NOTES/go" ]; do sleep 0.05; done
   [ -e "$NOTES/fail" ] && { echo "rt: nfscopy_main NOT PROVED"; exit 1; }
   mkdir -p crates/nfscopy_main/out
   cat crates/nfscopy_main/src/main.rt >crates/nfscopy_main/out/nfscopy_main
@@ -30,6 +30,13 @@ ci)
   echo "rt: nfscopy_main proved" ;;
 esac
 """
+
+
+def end(child):
+    """Ends a command that goes on, and what it started but for `rt`, which ends with the folder of its notes."""
+    if child.poll() is None:
+        os.killpg(child.pid, signal.SIGKILL)
+    child.communicate()
 
 
 class Build(unittest.TestCase):
@@ -52,6 +59,7 @@ class Build(unittest.TestCase):
             text.write(RT)
         os.chmod(f"{self.folder}/bin/rt", 0o755)
         self.note("go")
+        self.heard = 0
 
     def write(self, file, text):
         with open(f"{self.top}/{file}", "w", encoding="utf-8") as it:
@@ -71,14 +79,16 @@ class Build(unittest.TestCase):
             return []
         with open(f"{self.folder}/asked", encoding="utf-8") as text:
             asked = text.read().split()
-        os.remove(f"{self.folder}/asked")
+        self.heard, asked = len(asked), asked[self.heard :]
         return [it for it in asked if it != "help"]
 
     def start(self, *words, rt=True):
         path = [f"{self.folder}/bin"] * rt + [it for it in os.environ["PATH"].split(":") if not os.path.exists(f"{it}/rt")]
         given = {**os.environ, "PATH": ":".join(path), "TMPDIR": self.folder, "NOTES": self.folder}
         how = {"stdin": subprocess.PIPE, "stdout": subprocess.PIPE, "stderr": subprocess.PIPE, "text": True}
-        return subprocess.Popen([f"{self.top}/nfscopy", *words], env=given, start_new_session=True, **how)
+        child = subprocess.Popen([f"{self.top}/nfscopy", *words], env=given, start_new_session=True, **how)
+        self.addCleanup(end, child)
+        return child
 
     def run_to_end(self, *words, text="", rt=True):
         child = self.start(*words, rt=rt)
