@@ -35,3 +35,13 @@ def rows_of(file):
             line = line.rstrip("\n")
             if line and not line.startswith("#"):
                 yield f"{file}:{number}", line
+
+
+def bytes_of(words):
+    """The bytes of some words one after the other: each is hex, or hex, a `*` and how often it stands there; `-` is none."""
+    joined = b""
+    for word in words:
+        if word != "-":
+            content, _, times = word.partition("*")
+            joined += bytes.fromhex(content) * int(times or 1)
+    return joined
