@@ -1,10 +1,9 @@
 -- Forms of sample types: the file of RFC 4506 section 7, and a few more.
-use Rattle.std.specs.Prelude.{◌≡◌, ℕ, List, [], ◌∷◌, refl, ◌%◌, ◌==◌, Bool}
+use Rattle.std.specs.Prelude.{◌≡◌, ℕ, List, [], ◌∷◌, refl}
 use Rattle.std.proofs.Common.{lit<}
 use Rattle.xdr_rows.specs.declared.xdr.sample.FileKind.{FileKind}
 use Rattle.xdr_rows.specs.declared.xdr.sample.FileKind.TheVariants.{Text, Data, Exec}
 use Rattle.xdr_rows.specs.declared.xdr.sample.File.{File}
-use Rattle.xdr_rows.specs.declared.xdr.sample.Label.{Label}
 use Rattle.xdr_rows.specs.declared.xdr.sample.Folder.{Folder}
 use Rattle.xdr_rows.specs.declared.xdr.sample.Outcome.{Outcome}
 use Rattle.xdr_rows.specs.declared.xdr.sample.Outcome.TheVariants.{Done, Refused}
@@ -12,7 +11,7 @@ use Rattle.xdr_rows.specs.declared.xdr.sample.Request.{Request}
 use Rattle.xdr_rows.specs.declared.xdr.sample.Request.TheVariants as requests
 use Rattle.wire_xdr.specs.Form.{Form}
 use Rattle.wire_xdr.specs.Arms.{Case, ArmOf, IsListed, IsPicked, arm, holds, defaults, number_of, other_arm}
-use Rattle.wire_xdr.specs.Forms.{word, hyper, fixed, opaque, opaque_between, void, both, seen_as, such_that, list, option, chosen, union, union_or}
+use Rattle.wire_xdr.specs.Forms.{word, hyper, fixed, opaque, void, both, seen_as, list, option, chosen, union, union_or}
 
 -- ---- what a file is: 0, 1 and a creator, or 2 and an interpreter
 
@@ -41,14 +40,6 @@ to_file v = record { name = v.0; kind = v.1.0; owner = v.1.1.0; content = v.1.1.
 
 unfoldable pub file : Form File
 file = seen_as to_file (λ v. (v.name, (v.kind, (v.owner, v.content)))) (λ v. refl) (λ v. refl) (both name (both file_kind (both (opaque 32 (lit< tt)) (opaque 65535 (lit< tt)))))
-
--- ---- a label of 1 to 16 bytes, and an even number
-
-abbrev pub is_even : ℕ → Bool
-is_even n = n % 2 == 0
-
-unfoldable pub label : Form Label
-label = seen_as (λ v. record { text = v.0; weight = v.1 }) (λ v. (v.text, v.weight)) (λ v. refl) (λ v. refl) (both (opaque_between 1 16 (lit< tt)) (such_that is_even word))
 
 -- ---- a folder
 

@@ -1,7 +1,7 @@
 //! The example of RFC 4506 section 7, and a few types more: how types are read and written by the forms
 //! that `specs/Samples.antt` gives them.
 
-ghost use Rattle.xdr_rows.specs.Samples.{file_kind, file, label, folder, outcome, request, request_number, request_own};
+ghost use Rattle.xdr_rows.specs.Samples.{file_kind, file, folder, outcome, request, request_number, request_own};
 
 use outcome::Mem;
 use std::alloc::Global;
@@ -76,34 +76,6 @@ impl Xdr for File {
         self.kind.put(writer)?;
         self.owner.put(writer)?;
         self.content.put(writer)
-    }
-}
-
-/// A label of 1 to 16 bytes, and its weight, which is even.
-#[derive(Drop)]
-pub struct Label {
-    pub text: Octets,
-    pub weight: u32,
-}
-
-impl Xdr for Label {
-    ghost form = { label };
-
-    #[tactic(auto, unfolding(crate::specs::Samples::label))]
-    fn parse(alloc: Global, reader: &mut Reader) -> Result<Label, ReadError> {
-        let text = Octets::parse_between(alloc, reader, 1, 16)?;
-        let start = reader.at();
-        let weight = u32::parse(alloc, reader)?;
-        if weight % 2 != 0 {
-            return Err(ReadError::at(start));
-        }
-        Ok(Label { text, weight })
-    }
-
-    #[tactic(auto, unfolding(crate::specs::Samples::label))]
-    fn put(&self, writer: &mut Writer) -> Mem<()> {
-        self.text.put(writer)?;
-        self.weight.put(writer)
     }
 }
 
@@ -184,10 +156,10 @@ impl XdrBy for Request {
     fn parse_by(alloc: Global, number: u32, reader: &mut Reader) -> Result<Request, ReadError> {
         match number {
             7 => Ok(Request::Store(File::parse(alloc, reader)?)),
-            9 => Ok(Request::List {
-                id: u64::parse(alloc, reader)?,
-                at_most: u32::parse(alloc, reader)?,
-            }),
+            9 => {
+                let (id, at_most) = <(u64, u32)>::parse(alloc, reader)?;
+                Ok(Request::List { id, at_most })
+            }
             _ => Err(ReadError::at(reader.at())),
         }
     }
@@ -196,10 +168,7 @@ impl XdrBy for Request {
     fn put_by(&self, writer: &mut Writer) -> Mem<()> {
         match self {
             Request::Store(file) => file.put(writer),
-            Request::List { id, at_most } => {
-                id.put(writer)?;
-                at_most.put(writer)
-            }
+            Request::List { id, at_most } => (*id, *at_most).put(writer),
         }
     }
 
