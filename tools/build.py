@@ -3,6 +3,7 @@
 
     tools/build.py prove           proves the crates that the program is made of, and builds it
     tools/build.py try WORD..      runs the program unproved, over standard input; a trial is compiled anew each time
+    tools/build.py jobs            prints how many crates `rt ci` is to prove side by side here
 
 `rt ci` does the proofs, in a copy of the crates that the program is made of: it keeps each crate as it is proved, on this machine, for
 later builds and for the gate. So a build that was interrupted goes on where it was, and what the gate proved isn't proved again.
@@ -32,6 +33,9 @@ FAILED, INTERRUPTED = 70, 130
 # What a proof of 1,000 lines of code takes, in processor minutes, by docs/gate.md.
 MINUTES = 3.7 / 1000
 
+# What a proof takes of memory, in GiB, and what all that isn't one may have: the largest crate's takes 4.
+EACH, OTHERS = 4, 4
+
 # How long a trial may run, in seconds: less than an operator waits for nothing.
 TRIAL_SECONDS = 120
 
@@ -50,6 +54,13 @@ def in_minutes(minutes):
 
 def processors():
     return len(os.sched_getaffinity(0))
+
+
+def jobs():
+    """How many crates to prove side by side: one a processor, where there is memory. Where it isn't told, `rt ci` reckons three times what
+    the largest crate takes, so that this one waits until nothing else is left to prove, and most processors idle behind it."""
+    memory = os.sysconf("SC_PAGE_SIZE") * os.sysconf("SC_PHYS_PAGES") / 2**30
+    return max(1, min(processors(), int((memory - OTHERS) / EACH)))
 
 
 class Crates:
@@ -218,8 +229,9 @@ def keeps():
 def ran(crates, folder, lock):
     """Whether `rt ci` proved and built all in a copy of the crates. It holds the lock for as long as it runs, even where this is killed."""
     log = f"{folder}/log"
-    words = {"cwd": f"{folder}/repository", "stdin": subprocess.DEVNULL, "stdout": subprocess.PIPE, "stderr": subprocess.STDOUT}
-    run = subprocess.Popen(["rt", "ci"], start_new_session=True, pass_fds=(lock.fileno(),), text=True, errors="replace", **words)
+    how = {"cwd": f"{folder}/repository", "stdin": subprocess.DEVNULL, "stdout": subprocess.PIPE, "stderr": subprocess.STDOUT}
+    how.update(start_new_session=True, pass_fds=(lock.fileno(),), env={"RT_JOBS": str(jobs()), **os.environ})
+    run = subprocess.Popen(["rt", "ci"], text=True, errors="replace", **how)
     progress = Progress(crates, run)
     try:
         with open(log, "w", encoding="utf-8") as text:
@@ -297,6 +309,9 @@ def main():
             return prove()
         if words[:1] == ["try"]:
             return trial(words[1:])
+        if words == ["jobs"]:
+            print(jobs())
+            return 0
         sys.exit(__doc__)
     except KeyboardInterrupt:
         tell("interrupted; what is proved stays so")
