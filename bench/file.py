@@ -1,5 +1,5 @@
 #!/usr/bin/env python3
-"""Writes a file at a server on a port of this machine, or reads one, by a client that shares no code with it (caller.py).
+"""Writes a file at a server on a port of this machine, or reads one, by a client that shares no code with it (tests/support/caller.py).
 
     bench/file.py put PORT < BYTES      writes standard input to file 1, from its first byte on, and commits it
     bench/file.py get PORT COUNT        puts so many bytes of file 1 to standard output
@@ -9,9 +9,7 @@ The client is `user` of the file realm.txt in the folder that it is called in.
 
 import sys
 
-from caller import Caller
-
-PIECE = 65_536
+from servers import PIECE, Caller
 
 
 def key_of(name):
@@ -32,17 +30,16 @@ def get(caller, opened, count):
 
 
 def main():
-    match sys.argv[1:]:
-        case ["put", port]:
-            work = lambda caller, opened: put(caller, opened, sys.stdin.buffer.read())
-        case ["get", port, count]:
-            work = lambda caller, opened: get(caller, opened, int(count))
-        case _:
-            sys.exit(__doc__)
-    caller = Caller(int(port), "user", key_of("user"))
+    words = sys.argv[1:]
+    if (words[:1], len(words)) not in ((["put"], 2), (["get"], 3)):
+        sys.exit(__doc__)
+    caller = Caller(int(words[1]), "user", key_of("user"))
     caller.join(b"bench/file.py")
     opened = caller.open(1)
-    work(caller, opened)
+    if words[0] == "put":
+        put(caller, opened, sys.stdin.buffer.read())
+    else:
+        get(caller, opened, int(words[2]))
     caller.close(opened)
     caller.leave()
 

@@ -9,7 +9,9 @@ import time
 from typing import NamedTuple
 
 TOP = os.path.dirname(os.path.dirname(os.path.abspath(__file__)))
-NFSCOPY = os.path.join(TOP, "nfscopy")
+
+# Another program is timed where NFSCOPY_PROGRAM names one.
+NFSCOPY = os.environ.get("NFSCOPY_PROGRAM") or os.path.join(TOP, "nfscopy")
 
 # The most bytes that the program reads as its input.
 INPUT_LIMIT = 16 * 1024 * 1024

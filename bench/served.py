@@ -1,5 +1,6 @@
 #!/usr/bin/env python3
-"""Serves a volume on a real file with `serve-source`, on a port of this machine, and calls it with a client of its own (caller.py).
+"""Serves a volume on a real file with `serve-source`, on a port of this machine, and calls it with a client that shares no code with it
+(tests/support/caller.py).
 
 In turn: a file of 16 MiB is written, committed and read back, and the ratio of each to hashing as many bytes is printed; fifteen
 connections bring random bytes for some seconds beside one that reads; sixteen do alone, until the server has had all the connections
@@ -15,8 +16,7 @@ import tempfile
 import threading
 import time
 
-from caller import Ended
-from servers import PIECE, check, ended, format_volume, joined, kill, server, write_realm
+from servers import PIECE, Ended, check, ended, format_volume, joined, kill, server, write_realm
 
 PORT = 24_049
 MEBIBYTES = 16

@@ -7,10 +7,14 @@ import subprocess
 import sys
 import time
 
-from caller import Caller
-from programs import NFSCOPY
+from programs import NFSCOPY, TOP
 
-KEY = bytes([1] * 32)
+# The client that shares no code with the program is that of the tests.
+sys.path.insert(0, os.path.join(TOP, "tests"))
+
+from support.caller import Caller, Ended  # noqa: E402, F401 (the folder is on the path only now; the scripts have both from here)
+from support.servers import KEYS, listens, write_realm  # noqa: E402, F401
+
 PIECE = 65_536
 
 
@@ -18,12 +22,6 @@ def check(holds, what):
     """What isn't as it should be ends the script."""
     if not holds:
         sys.exit(what)
-
-
-def write_realm(folder):
-    """The principals of the folder's servers and callers."""
-    with open(os.path.join(folder, "realm.txt"), "w", encoding="utf-8") as realm:
-        realm.write(f"user {KEY.hex()}\ndest {bytes([2] * 32).hex()}\n")
 
 
 def run(folder, *words):
@@ -48,13 +46,6 @@ def server(folder, *words):
     return child
 
 
-def listens(port):
-    """Whether something listens on a port of this machine, by the system's table of sockets: a connection would be counted."""
-    with open("/proc/net/tcp", encoding="ascii") as table:
-        rows = [line.split() for line in table][1:]
-    return any(row[1].endswith(f":{port:04X}") and row[3] == "0A" for row in rows)
-
-
 def ended(child):
     """The server ends by itself with status 0, and printed nothing."""
     printed, errors = child.communicate(timeout=60)
@@ -71,6 +62,6 @@ def kill(child):
 
 def joined(port, owner):
     """A caller of a server that listens, which has set itself up."""
-    caller = Caller(port, "user", KEY)
+    caller = Caller(port, "user", KEYS["user"])
     caller.join(owner)
     return caller

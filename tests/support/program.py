@@ -25,3 +25,11 @@ def run(*words, text=b"", folder=None, **how):
     """Runs the program with these words over this text as its standard input, to its end."""
     done = subprocess.run([PROGRAM, *map(str, words)], input=text, cwd=folder, capture_output=True, timeout=PATIENCE, check=False, **how)
     return Ended(done.returncode, done.stdout, done.stderr)
+
+
+def run_into(output, *words, folder=None):
+    """Runs the program with its standard output in this file, or closed where that is `&-`."""
+    shell = ["sh", "-c", f'exec "$@" >{output}', "sh"]
+    done = subprocess.run([*shell, PROGRAM, *map(str, words)], stdin=subprocess.DEVNULL, cwd=folder, capture_output=True, timeout=PATIENCE,
+                          check=False)
+    return Ended(done.returncode, done.stdout, done.stderr)

@@ -8,9 +8,10 @@ import socket
 import struct
 
 MOST_RECORD = 73_728
+LAST = 0x8000_0000
 INITIATOR, ACCEPTOR = b"\0", b"\1"
 NULL, COMPOUND = 0, 1
-DATA, INIT = 0, 1
+DATA, INIT, DESTROY = 0, 1, 3
 CLOSE, COMMIT, GETATTR, GETFH, OPEN, PUTFH, PUTROOTFH, READ, WRITE = 4, 5, 9, 10, 18, 22, 24, 25, 38
 EXCHANGE_ID, CREATE_SESSION, DESTROY_SESSION, SEQUENCE, DESTROY_CLIENTID, RECLAIM_COMPLETE = 42, 43, 44, 53, 57, 58
 
@@ -33,6 +34,11 @@ def long(number):
 
 def opaque(data):
     return word(len(data)) + data + bytes(-len(data) % 4)
+
+
+def compound_of(operations):
+    """The arguments of a COMPOUND of these operations, in minor version 2 and without a tag."""
+    return opaque(b"") + word(2) + word(len(operations)) + b"".join(operations)
 
 
 class Reader:
@@ -60,6 +66,9 @@ class Reader:
         self.take(-count % 4)
         return part
 
+    def rest(self):
+        return self.take(len(self.data) - self.at)
+
 
 class Caller:
     """A connection to a server, with a context of RPCSEC_GSS, a session and files that are open."""
@@ -73,7 +82,7 @@ class Caller:
     # ---- records and calls
 
     def send(self, record):
-        self.socket.sendall(word(0x8000_0000 | len(record)) + record)
+        self.socket.sendall(word(LAST | len(record)) + record)
 
     def receive(self, count):
         data = b""
@@ -88,13 +97,12 @@ class Caller:
         data, last = b"", False
         while not last:
             (mark,) = struct.unpack(">I", self.receive(4))
-            last = mark >= 0x8000_0000
-            data += self.receive(mark & 0x7FFF_FFFF)
+            last = mark >= LAST
+            data += self.receive(mark & ~LAST)
         return data
 
     def header(self, kind, procedure, step, number):
-        self_handle = self.handle if step == DATA else b""
-        cred = word(3) + word(step) + word(number) + word(2) + opaque(self_handle)
+        cred = word(3) + word(step) + word(number) + word(2) + opaque(b"" if step == INIT else self.handle)
         return word(self.xid) + word(kind) + word(2) + word(100_003) + word(4) + word(procedure) + word(6) + opaque(cred)
 
     def mic(self, side, data):
@@ -109,7 +117,8 @@ class Caller:
             raise Refused("denied", reader.word(), reader.word())
         reader.word()
         verifier = reader.opaque()
-        if stat := reader.word():
+        stat = reader.word()
+        if stat:
             raise Refused("failed", stat)
         return verifier, reader
 
@@ -122,7 +131,8 @@ class Caller:
         self.send(self.header(0, NULL, INIT, 0) + word(0) + word(0) + opaque(token))
         verifier, reader = self.body(self.xid)
         self.handle = reader.opaque()
-        if major := reader.word():
+        major = reader.word()
+        if major:
             raise Refused("INIT", major)
         reader.word()
         window = reader.word()
@@ -132,21 +142,34 @@ class Caller:
             raise ValueError("a code of INIT")
         self.number = 0
 
-    def compound(self, *operations):
-        """The results of a COMPOUND, each as its operation and a reader; the seal of the reply is checked."""
+    def call(self, procedure, step, args):
+        """The record of the next call with these arguments, under its seal."""
         self.xid += 1
         self.number += 1
-        head = self.header(0, COMPOUND, DATA, self.number)
-        args = word(self.number) + opaque(b"") + word(2) + word(len(operations)) + b"".join(operations)
-        self.send(head + word(6) + opaque(self.mic(INITIATOR, head)) + opaque(args) + opaque(self.mic(INITIATOR, args)))
+        head = self.header(0, procedure, step, self.number)
+        sealed = word(self.number) + args
+        return head + word(6) + opaque(self.mic(INITIATOR, head)) + opaque(sealed) + opaque(self.mic(INITIATOR, sealed))
+
+    def answer(self, procedure, step):
+        """The results in the reply to the last call, whose seal is checked."""
         verifier, reader = self.body(self.xid)
-        if verifier != self.mic(ACCEPTOR, self.header(1, COMPOUND, DATA, self.number)):
+        if verifier != self.mic(ACCEPTOR, self.header(1, procedure, step, self.number)):
             raise ValueError("the verifier of a reply")
         sealed, code = reader.opaque(), reader.opaque()
-        if code != self.mic(ACCEPTOR, sealed) or sealed[:4] != word(self.number):
+        if code != self.mic(ACCEPTOR, sealed) or sealed[:4] != word(self.number) or reader.rest():
             raise ValueError("the seal of a reply")
-        result = Reader(sealed[4:])
-        if status := result.word():
+        return sealed[4:]
+
+    def results(self, *operations):
+        """What a COMPOUND is answered: its status, its tag and all its results."""
+        self.send(self.call(COMPOUND, DATA, compound_of(operations)))
+        return self.answer(COMPOUND, DATA)
+
+    def compound(self, *operations):
+        """The results of a COMPOUND that is answered with status 0."""
+        result = Reader(self.results(*operations))
+        status = result.word()
+        if status:
             raise Refused("COMPOUND", status)
         result.opaque()
         result.word()
@@ -165,9 +188,8 @@ class Caller:
         self.expect(result, EXCHANGE_ID)
         self.client, sequence = result.long(), result.word()
         attributes = word(0) + word(MOST_RECORD) + word(MOST_RECORD) + word(8_192) + word(8) + word(16) + word(0)
-        result = self.compound(
-            word(CREATE_SESSION) + long(self.client) + word(sequence) + word(0) + attributes + attributes + word(0x4000_0000) + word(1) + word(0)
-        )
+        result = self.compound(word(CREATE_SESSION) + long(self.client) + word(sequence) + word(0) + attributes + attributes
+                               + word(0x4000_0000) + word(1) + word(0))
         self.session = self.expect(result, CREATE_SESSION).take(16)
         self.slot = 0
         self.in_session(word(RECLAIM_COMPLETE) + word(0))
@@ -212,7 +234,10 @@ class Caller:
         self.in_session(word(PUTFH) + opaque(handle), word(CLOSE) + word(0) + stateid)
 
     def leave(self):
-        """The session and the client end, and the connection."""
+        """The session, the client and the context end, and the connection."""
         self.expect(self.compound(word(DESTROY_SESSION) + self.session), DESTROY_SESSION)
         self.expect(self.compound(word(DESTROY_CLIENTID) + long(self.client)), DESTROY_CLIENTID)
+        self.send(self.call(NULL, DESTROY, b""))
+        if self.answer(NULL, DESTROY):
+            raise ValueError("a result of DESTROY")
         self.socket.close()
