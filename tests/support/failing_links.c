@@ -14,6 +14,7 @@
 #include <errno.h>
 #include <fcntl.h>
 #include <netinet/in.h>
+#include <poll.h>
 #include <pthread.h>
 #include <stdarg.h>
 #include <stdatomic.h>
@@ -150,8 +151,14 @@ ssize_t send(int fd, const void *buffer, size_t length, int flags)
 
 int accept4(int fd, struct sockaddr *address, socklen_t *length, int flags)
 {
-    if (fails("accept", 0, ECONNABORTED))
+    if (fails("accept", 0, ECONNABORTED)) {
+        /* A connection that is there can't be had, and waits. */
+        struct pollfd comes = {.fd = fd, .events = POLLIN};
+        while (poll(&comes, 1, -1) < 0 && errno == EINTR)
+            ;
+        errno = ECONNABORTED;
         return -1;
+    }
     int made = REAL(accept4)(fd, address, length, flags);
     forget(made);
     return made;

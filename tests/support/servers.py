@@ -187,8 +187,8 @@ def get(caller, count, file=1, offset=0):
 class Server:
     """A server, once it listens. It ends by itself where it has served what it was asked for, or is killed."""
 
-    def __init__(self, folder, command, volume, conns=1, *more, port=None, failing=None):
-        self.folder, self.failing = folder, failing
+    def __init__(self, folder, command, volume, conns=1, *more, port=None, failing=None, closed=False):
+        self.folder, self.failing, self.closed = folder, failing, closed
         for _ in range(1 if port else MOST_PORTS):
             self.port = port or free_port()
             self.begin(command, volume, self.port, conns, *more)
@@ -200,7 +200,9 @@ class Server:
         raise AssertionError(f"{command} doesn't listen: it ended with {self.child.returncode}, {printed!r} {errors!r}")
 
     def begin(self, *words):
-        self.child = subprocess.Popen([PROGRAM, *map(str, words)], cwd=self.folder, env=self.failing and self.failing.env,
+        """Starts it; with its standard streams closed, where that was asked for."""
+        shell = ["sh", "-c", 'exec "$@" <&- >&- 2>&-', "sh"] if self.closed else []
+        self.child = subprocess.Popen([*shell, PROGRAM, *map(str, words)], cwd=self.folder, env=self.failing and self.failing.env,
                                       stdin=subprocess.DEVNULL, stdout=subprocess.PIPE, stderr=subprocess.PIPE, start_new_session=True)
 
     def comes_to_listen(self):
@@ -239,6 +241,16 @@ class Server:
     def dial(self):
         """A connection that brings nothing yet."""
         return socket.create_connection(("127.0.0.1", self.port), PATIENCE)
+
+
+def refused_server(folder, command, volume, conns=1, *more, **how):
+    """What a server came to that ends by itself before anybody is served."""
+    for _ in range(MOST_PORTS):
+        port = free_port()
+        ended = run(command, volume, port, conns, *more, folder=folder, **how)
+        if ended.status != NET_FAULT or not listens(port):
+            return ended
+    return ended
 
 
 def source(folder, conns, name="source", **how):
