@@ -3,10 +3,10 @@
 `copy`.
 
 A file is written at the source by a client that shares no code with it (tests/support/caller.py), and copied with 1, 2 and 4 workers:
-the seconds, the bytes a second and the ratio to hashing the bytes twice with SHA-256 are printed, since each byte is hashed by the source
-and by the destination; beside that `rsync` over loopback, where it is installed. The bytes are read back and compared. Then the destination is
-killed in the middle of copies, again and again, and opened anew: where a copy had been reported as stable, its bytes are there, and
-else each byte is the old one or the new one. What isn't as it should be ends the script.
+the seconds, the bytes a second and the ratio to hashing the bytes twice with SHA-256 are printed, since each byte is hashed by the
+source and by the destination; beside that `rsync` over loopback, where it is installed. The bytes are read back and compared. Then the
+destination is killed in the middle of copies, again and again, and opened anew: where a copy had been reported as stable, its bytes are
+there, and else each byte is the old one or the new one. What isn't as it should be ends the script.
 
     bench/copy.py [MEBIBYTES [KILLS]]
 """

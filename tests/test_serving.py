@@ -204,16 +204,22 @@ class Serving(unittest.TestCase):
     def test_more_than_at_once(self):
         """Sixteen are served at once: a seventeenth waits until one of them has ended."""
         server = self.serve(MOST_AT_ONCE + 1)
-        links = [self.dial(server) for _ in range(MOST_AT_ONCE)]
+        links = [self.dial(server) for _ in range(MOST_AT_ONCE - 1)]
+        talk = Talk(self, server.port)
         awaited("sixteen are accepted", lambda: server.waiting() == 0)
         last = self.dial(server)
         awaited("the seventeenth waits", lambda: server.waiting() == 1)
+        for part in (talk.join, talk.open, talk.write, talk.commit):
+            part()
+        self.assertEqual(server.waiting(), 1)
         # One that has brought nothing gives all its records back.
         links[0].close()
         awaited("the seventeenth is accepted", lambda: server.waiting() == 0)
         for link in (last, *links):
             link.close()
+        talk.hang_up()
         server.end()
+        self.is_written()
 
     def test_twenty(self):
         """More than are served at once, of which the last one talks."""
@@ -357,7 +363,7 @@ class Serving(unittest.TestCase):
 
     def test_first_accept_fails(self):
         server = self.serve(1, failing=Failing(self.folder, "accept 1"))
-        link = self.dial(server, RUBBISH)
+        link = self.dial(server)
         server.end(NET_FAULT)
         self.assertEqual(has_ended(link), b"")
         self.is_empty()
@@ -699,11 +705,13 @@ def load_tests(loader, suite, _):
                                      for command, _ in servers for call in more]))
     suite.addTests(each(is_no_command, [(words, words) for words in (
         "serve-source v 2049 0", "serve-source v 2049 1000001", "serve-source v 0 1", "serve-source v 65536 1", "serve-source v 02049 1",
-        "serve-source v 2049 +1", "serve-source -v 2049 1", "serve-source v 2049", "serve-source v 2049 1 1", "serve-source", "Serve-source v 2049 1",
+        "serve-source v 2049 +1", "serve-source -v 2049 1", "serve-source v 2049", "serve-source v 2049 1 1", "serve-source",
+        "Serve-source v 2049 1",
         "serve-dest v 2049 1 0 2050", "serve-dest v 2049 1 9 2050", "serve-dest v 2049 1 1 0", "serve-dest v 2049 1 1 65536",
-        "serve-dest v 2049 1 1", "serve-dest -v 2049 1 1 2050", "serve-dest v 2049 0 1 2050", "copy 0 2 1 0 1 0 10 c", "copy 1 2 0 0 1 0 10 c",
-        "copy 1 2 1 0 1 0 10 x", "copy 1 2 1 0 0 0 10 c", "copy 1 65536 1 0 1 0 10 c", "copy 1 2 4294967296 0 1 0 10 c",
-        "copy 1 2 1 18446744073709551616 1 0 10 c", "copy 1 2 1 0 1 0 10", "copy 1 2 1 0 1 0 10 c c", "copy 1 2 1 00 1 0 10 c",
+        "serve-dest v 2049 1 1", "serve-dest -v 2049 1 1 2050", "serve-dest v 2049 0 1 2050",
+        "copy 0 2 1 0 1 0 10 c", "copy 1 2 0 0 1 0 10 c", "copy 1 2 1 0 1 0 10 x", "copy 1 2 1 0 0 0 10 c", "copy 1 65536 1 0 1 0 10 c",
+        "copy 1 2 4294967296 0 1 0 10 c", "copy 1 2 1 18446744073709551616 1 0 10 c", "copy 1 2 1 0 1 0 10", "copy 1 2 1 0 1 0 10 c c",
+        "copy 1 2 1 00 1 0 10 c",
         "format -v 1 1 7", "format new 0 1 7", "format new 65 1 7", "format new 64 257 7", "format new 1 01 7", "format new 1 16385 7",
         "format new 1 1", "format new 1 1 18446744073709551616",
     )]))

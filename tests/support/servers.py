@@ -8,6 +8,7 @@ import signal
 import socket
 import subprocess
 import tempfile
+import threading
 import time
 
 from support.caller import Caller
@@ -189,6 +190,7 @@ class Server:
 
     def __init__(self, folder, command, volume, conns=1, *more, port=None, failing=None, closed=False):
         self.folder, self.failing, self.closed = folder, failing, closed
+        self.lock = threading.Lock()
         for _ in range(1 if port else MOST_PORTS):
             self.port = port or free_port()
             self.begin(command, volume, self.port, conns, *more)
@@ -218,10 +220,11 @@ class Server:
 
     def kill(self, by=signal.SIGKILL):
         """Kills it where it goes on still, and gives its status."""
-        if self.child.poll() is None:
-            os.killpg(self.child.pid, by)
-        self.child.communicate(timeout=PATIENCE)
-        return self.child.returncode
+        with self.lock:
+            if self.child.poll() is None:
+                os.killpg(self.child.pid, by)
+            self.child.communicate(timeout=PATIENCE)
+            return self.child.returncode
 
     def end(self, status=WORKED, printed=b""):
         """It ends by itself with this status, and has printed this."""
