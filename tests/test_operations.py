@@ -2,8 +2,15 @@
 
 Each row of rows/operations.txt becomes a record, or some: a call whose arguments are those bytes, as one operation of a COMPOUND or
 CB_COMPOUND. Behind arguments that are to be read stands another operation, which is read only where they end there.
+
+The numbers of the statuses, of which `show` prints none, are looked up where the program names them.
 """
 
+import os
+import re
+import unittest
+
+from support.program import TOP
 from support.shows import Shows
 from support.tables import bytes_of, each, rows_of
 from support.xdr import (
@@ -35,6 +42,18 @@ CALLED_BACK = ("status", "response", "offload", "cb_seq")
 TAILS = ("unreadable", "unsupported", "illegal")
 
 WORDS = (0, 1, 2, 3, 2**32 - 1)
+
+# RFC 8881 section 15.1, and from PARTNER_NOTSUPP on RFC 7862 section 11.1.
+STATUSES = """
+    OK 0 NOENT 2 IO 5 ACCESS 13 EXIST 17 ISDIR 21 INVAL 22 FBIG 27 NOSPC 28 STALE 70
+    BADHANDLE 10001 NOTSUPP 10004 SERVERFAULT 10006 DELAY 10008 EXPIRED 10011
+    NOFILEHANDLE 10020 MINOR_VERS_MISMATCH 10021 STALE_CLIENTID 10022 OLD_STATEID 10024 BAD_STATEID 10025
+    BADXDR 10036 OPENMODE 10038 OP_ILLEGAL 10044 BADSESSION 10052 BADSLOT 10053 COMPLETE_ALREADY 10054
+    SEQ_MISORDERED 10063 SEQUENCE_POS 10064 REP_TOO_BIG 10066 TOO_MANY_OPS 10070 OP_NOT_IN_SESSION 10071
+    CLIENTID_BUSY 10074 SEQ_FALSE_RETRY 10076 NOT_ONLY_OP 10081
+    PARTNER_NOTSUPP 10088 PARTNER_NO_AUTH 10089 UNION_NOTSUPP 10090 OFFLOAD_DENIED 10091 WRONG_LFS 10092
+    OFFLOAD_NO_REQS 10094
+"""
 
 
 class Case:
@@ -121,6 +140,13 @@ def case(shows, row):
 
 def is_met(test, made):
     made.met(test)
+
+
+class Statuses(unittest.TestCase):
+    def test_each_name_has_its_number(self):
+        with open(os.path.join(TOP, "crates", "nfs_base", "src", "status.rt"), encoding="utf-8") as source:
+            named = re.findall(r"pub const ([A-Z_]+): Status = Status \{ number: ([0-9_]+) \};", source.read())
+        self.assertEqual([f"{name} {number.replace('_', '')}" for name, number in named], re.findall(r"[A-Z_]+ [0-9]+", STATUSES))
 
 
 def load_tests(loader, suite, _):
