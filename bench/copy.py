@@ -2,16 +2,15 @@
 """Copies between two servers on ports of this machine, `serve-source` and `serve-dest`, over volumes on real files, with the command
 `copy`.
 
-A file is written at the source by a client that shares no code with it (tests/support/caller.py), and copied with 1, 2 and 4 workers:
-the seconds, the bytes a second and the ratio to hashing the bytes twice with SHA-256 are printed, since each byte is hashed by the
-source and by the destination; beside that `rsync` over loopback, where it is installed. The bytes are read back and compared. Then the
-destination is killed in the middle of copies, again and again, and opened anew: where a copy had been reported as stable, its bytes are
-there, and else each byte is the old one or the new one. What isn't as it should be ends the script.
+A file is written at the source by a client that shares no code with it (tests/support/caller.py), and copied with 1, 2, 4 and 8
+workers: the seconds, the bytes a second and the ratio to hashing the bytes twice with SHA-256 are printed, since each byte is hashed by
+the source and by the destination; beside that `rsync` over loopback, where it is installed. The bytes are read back and compared. Then
+the destination is killed in the middle of copies, again and again, and opened anew: where a copy had been reported as stable, its bytes
+are there, and else each byte is the old one or the new one. What isn't as it should be ends the script.
 
     bench/copy.py [MEBIBYTES [KILLS]]
 """
 
-import hashlib
 import os
 import random
 import shutil
@@ -21,6 +20,7 @@ import tempfile
 import threading
 import time
 
+from programs import seconds_of_hashing
 from servers import PIECE, check, ended, format_volume, joined, kill, listens, run, server, write_realm
 
 SOURCE_PORT, DEST_PORT, RSYNC_PORT = 24_051, 24_052, 24_053
@@ -91,17 +91,14 @@ def tell(name, seconds, size, hashing):
 
 def timed_copies(folder, data):
     size = len(data)
-    begun = time.monotonic()
-    for _ in range(2):
-        hashlib.sha256(data).digest()
-    hashing = time.monotonic() - begun
+    hashing = seconds_of_hashing(size, 2)
     tell("hashing", hashing, size, hashing)
     seconds = seconds_by_rsync(folder, data)
     if seconds is None:
         print("     rsync isn't installed")
     else:
         tell("rsync", seconds, size, hashing)
-    for workers in (1, 2, 4):
+    for workers in (1, 2, 4, 8):
         format_volume(folder, "dest", MEBIBYTES, 9)
         source = server(folder, "serve-source", "source", SOURCE_PORT, workers + 1)
         dest = server(folder, "serve-dest", "dest", DEST_PORT, 1, workers, SOURCE_PORT)

@@ -1,10 +1,10 @@
 #!/usr/bin/env python3
-"""Lands a copy of 64 MiB in chunks of 64 KiB, and prints what a chunk takes beside bare SHA-256 over its bytes.
+"""Lands a copy of 64 MiB in chunks of 64 KiB, and prints what a chunk takes beside hashing its bytes twice with SHA-256 in this
+script, since the source seals its answer to a READ and the destination checks that.
 
 The whole of a chunk is a READ that the source answers, and its answer that the destination takes and lands on a volume in
-memory: the difference of two runs of `nfscopy`, of which one makes no copy. What the source's sealing takes is timed apart
-(`layer_bench seal`), and the rest is the destination's: it checks the answer's code, writes the chunk and enters it, with what the
-runner keeps of a record. All runs alternate, and the fastest of each counts.
+memory, with what the runner keeps of a record: the difference of two runs of the program, of which one makes no copy. All runs
+alternate, and the fastest of each counts.
 
 Where a whole copy's time goes, by a sampling profiler (`perf record` of the run that copies): about half is
 SHA-256, the source's code and the destination's check of it, and about a third the kernel's, which gives pages that are touched for
@@ -15,10 +15,11 @@ volume and the runner. So of what the destination takes beside its hash, the mos
 keep, and no call of the destination's own.
 """
 
-from programs import layer_bench, nfscopy, timed, timed_over
+from programs import nfscopy, seconds_of_hashing, timed_over
 
 CHUNK = 65_536
 CHUNKS = 1024
+HASHINGS = 2
 ROUNDS = 5
 
 # A file of 64 MiB at the source, of which one byte is written.
@@ -27,24 +28,19 @@ COPY = FILE + b"copy 1 1 0 1 0 0 c\nrounds 2112\npeek d 1 67108863 1\n"
 
 
 def main():
-    program, seal = nfscopy("run"), layer_bench("seal")
-    runs = {
-        "none": lambda: timed_over(program, FILE),
-        "copy": lambda: timed_over(program, COPY),
-        "hash": lambda: timed([*seal, str(CHUNKS), "hash"]),
-        "serve": lambda: timed([*seal, str(CHUNKS), "serve"]),
-        "start": lambda: timed([*seal, "1", "hash"]),
+    program = nfscopy("run")
+    works = {
+        "none": lambda: timed_over(program, FILE).seconds,
+        "copy": lambda: timed_over(program, COPY).seconds,
+        "hashing": lambda: seconds_of_hashing(CHUNKS * CHUNK, HASHINGS),
     }
-    best = dict.fromkeys(runs, float("inf"))
+    best = dict.fromkeys(works, float("inf"))
     for _ in range(ROUNDS):
-        for name, run in runs.items():
-            best[name] = min(best[name], run().seconds)
-    whole = best["copy"] - best["none"]
-    bare = best["hash"] - best["start"]
-    serve = best["serve"] - best["start"]
-    print(f"{'':>10} {'us a chunk':>11} {'B/s':>15} {'ratio':>7}")
-    for name, seconds in (("hash", bare), ("copy", whole), ("serve", serve), ("land", whole - serve)):
-        print(f"{name:>10} {1e6 * seconds / CHUNKS:11.1f} {CHUNKS * CHUNK / seconds:15,.0f} {bare / seconds:7.3f}")
+        for name, work in works.items():
+            best[name] = min(best[name], work())
+    print(f"{'':>8} {'us a chunk':>11} {'B/s':>15} {'ratio':>7}")
+    for name, seconds in (("hashing", best["hashing"]), ("copy", best["copy"] - best["none"])):
+        print(f"{name:>8} {1e6 * seconds / CHUNKS:11.1f} {CHUNKS * CHUNK / seconds:15,.0f} {seconds / best['hashing']:7.2f}")
 
 
 if __name__ == "__main__":

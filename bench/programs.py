@@ -1,6 +1,7 @@
-"""What the benchmarks share: the programs that they time, and how a run is timed. Nothing in them is a test: no
-time is compared with a bound."""
+"""What the benchmarks share: the program that they time, how a run is timed, and the hashing that it stands beside. Nothing in them is a
+test: no time is compared with a bound."""
 
+import hashlib
 import os
 import subprocess
 import sys
@@ -25,31 +26,6 @@ class Run(NamedTuple):
     printed: bytes
 
 
-def stored_words(folder):
-    """The arguments of a program's stored run, if it has some."""
-    stored = os.path.join(folder, "args")
-    if not os.path.exists(stored):
-        return []
-    with open(stored, encoding="utf-8") as words:
-        return words.read().split()
-
-
-def built(name):
-    """Proves and builds a program under crates/, and gives its path. Its own stored run is what `rt run` runs."""
-    folder = os.path.join(TOP, "crates", name)
-    program = os.path.join(folder, "out", name)
-    done = subprocess.run(["rt", "run", "--", *stored_words(folder)], cwd=folder, stdin=subprocess.DEVNULL,
-                          stdout=subprocess.DEVNULL, stderr=subprocess.DEVNULL, check=False)
-    if done.returncode != 0 or not os.path.exists(program):
-        sys.exit(f"the build of {name} failed")
-    return program
-
-
-def layer_bench(name):
-    """The words of a bench of `layer_bench`, which is built first."""
-    return [built("layer_bench"), name]
-
-
 def nfscopy(command):
     """The words of a command of the program, which is built by a first run of it over no input."""
     words = [NFSCOPY, command]
@@ -64,7 +40,7 @@ def timed(words, source=subprocess.DEVNULL):
         child = subprocess.Popen(words, stdin=source, stdout=sink, stderr=subprocess.DEVNULL)
         _, status, usage = os.wait4(child.pid, 0)
         seconds = time.monotonic() - begun
-        child.returncode = os.waitstatus_to_exitcode(status)
+        child.returncode = os.WEXITSTATUS(status) if os.WIFEXITED(status) else -os.WTERMSIG(status)
         if child.returncode != 0:
             sys.exit(f"{words[0]} ended with {child.returncode}")
         sink.seek(0)
@@ -78,3 +54,16 @@ def timed_over(words, text):
         file.flush()
         with open(file.name, "rb") as source:
             return timed(words, source)
+
+
+def seconds_of(work):
+    """Seconds that a call of this script's own takes."""
+    begun = time.monotonic()
+    work()
+    return time.monotonic() - begun
+
+
+def seconds_of_hashing(size, times=1):
+    """Seconds of hashing so many bytes so often with SHA-256 in this script."""
+    data = bytes(size)
+    return seconds_of(lambda: [hashlib.sha256(data).digest() for _ in range(times)])

@@ -2,13 +2,14 @@
 """Serves a volume on a real file with `serve-source`, on a port of this machine, and calls it with a client that shares no code with it
 (tests/support/caller.py).
 
-In turn: a file of 16 MiB is written, committed and read back, and the ratio of each to hashing as many bytes is printed; fifteen
+In turn: a file of 16 MiB is written, committed and read back, and of each are printed the ratio to hashing as many bytes and that to
+writing and syncing as many in a file, or reading them there, all in this script; fifteen
 connections bring random bytes for some seconds beside one that reads; sixteen do alone, until the server has had all the connections
 that it was asked for, and ends; and the server is killed in the middle of writes, again and again, opened anew, and
 what it had answered as committed is read back. What isn't as it should be ends the script.
 """
 
-import hashlib
+import os
 import random
 import socket
 import sys
@@ -16,10 +17,12 @@ import tempfile
 import threading
 import time
 
+from programs import seconds_of, seconds_of_hashing
 from servers import PIECE, Ended, check, ended, format_volume, joined, kill, server, write_realm
 
 PORT = 24_049
 MEBIBYTES = 16
+BLOCK = 4_096
 NOISE_SECONDS = float(sys.argv[1]) if len(sys.argv) > 1 else 5
 KILLS = int(sys.argv[2]) if len(sys.argv) > 2 else 10
 CROWD = 5_000
@@ -34,10 +37,17 @@ def called(owner):
     return joined(PORT, owner)
 
 
-def timed(work):
-    begun = time.monotonic()
-    work()
-    return time.monotonic() - begun
+def written_bare(file, data):
+    """Writes bytes to a file in blocks, each to every second place, since a volume has two homes for each, and syncs it."""
+    for at in range(0, len(data), BLOCK):
+        os.pwrite(file.fileno(), data[at : at + BLOCK], 2 * at)
+    os.fsync(file.fileno())
+
+
+def read_bare(file, size):
+    """Reads so many bytes of such a file."""
+    for at in range(0, size, BLOCK):
+        os.pread(file.fileno(), BLOCK, 2 * at)
 
 
 def written_and_read(folder):
@@ -56,10 +66,13 @@ def written_and_read(folder):
         for at in range(0, len(data), PIECE):
             check(caller.read(opened, at, PIECE) == data[at : at + PIECE], f"other bytes at {at}")
 
-    hashing = timed(lambda: hashlib.sha256(data).digest())
-    for name, work in (("written and committed", write), ("read back", read)):
-        seconds = timed(work)
-        print(f"{MEBIBYTES} MiB {name}: {seconds:.2f} s, {seconds / hashing:.1f} times hashing them once in this script")
+    hashing = seconds_of_hashing(len(data))
+    with tempfile.TemporaryFile(buffering=0) as bare:
+        written = seconds_of(lambda: written_bare(bare, data))
+        found = seconds_of(lambda: read_bare(bare, len(data)))
+    for name, work, base in (("written and committed", write, written), ("read back", read, found)):
+        seconds = seconds_of(work)
+        print(f"{MEBIBYTES} MiB {name}: {seconds:.2f} s, {seconds / hashing:.1f} times hashing them, {seconds / base:.1f} times a bare file")
     caller.close(opened)
     caller.leave()
     ended(child)
