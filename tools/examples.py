@@ -1,10 +1,11 @@
 #!/usr/bin/env python3
-"""Puts each schedule of examples/, with its transcript, among the cases that crates/worked_rows runs, and draws its picture anew.
+"""Draws the pictures of the examples anew, and looks whether the examples are as they should be.
 
     tools/examples.py [--check]
 
-With --check nothing is written: the status is 1 where a case or a picture isn't that of its example. So what the gate runs is what the
-examples say. A picture is drawn of each transcript that has one in docs/pictures. The other cases of crates/worked_rows stay as they are.
+Each schedule of examples/ stands beside its transcript, and says in its first line what it shows. A picture is drawn of each transcript
+that has one in docs/pictures. With --check nothing is written: the status is 1 where a picture isn't that of its transcript. That the
+schedules print their transcripts is tested by tests/test_examples.py.
 """
 
 import os
@@ -14,14 +15,7 @@ import picture
 
 TOP = os.path.dirname(os.path.dirname(os.path.realpath(__file__)))
 EXAMPLES = os.path.join(TOP, "examples")
-CASES = os.path.join(TOP, "crates", "worked_rows", "stdin")
 PICTURES = os.path.join(TOP, "docs", "pictures")
-
-# The line that the cases of the examples stand behind, to the end of the file.
-HEADING = b"# The schedules of examples/, written here by tools/examples.py.\n"
-
-# The exit status that the last line of a transcript says, by its first word.
-STATUSES = {b"end": 0, b"bad": 2, b"mistaken": 10}
 
 
 def content(path):
@@ -41,31 +35,17 @@ def names():
     return sorted(found[".schedule"])
 
 
-def case_of(name):
-    """An example as a case of crates/worked_rows."""
-    schedule, transcript = (content(os.path.join(EXAMPLES, name + kind)) for kind in (".schedule", ".transcript"))
-    if not schedule.startswith(b"# "):
+def check_heading(name):
+    """A schedule says in its first line what it shows."""
+    if not content(os.path.join(EXAMPLES, f"{name}.schedule")).startswith(b"# "):
         sys.exit(f"examples/{name}.schedule doesn't say in its first line what it shows")
-    status = STATUSES.get(transcript.rstrip(b"\n").rpartition(b"\n")[2].split(b" ")[0])
-    if status is None:
-        sys.exit(f"examples/{name}.transcript doesn't end as a run does")
-    return f"case example-{name} {status} {len(schedule)} {len(transcript)}\n".encode() + schedule + transcript + b"\n"
 
 
-def other_cases(text):
-    """What stands before the cases of the examples. A case is passed over as a whole, whatever its lines say."""
-    at = 0
-    while at < len(text) and not text.startswith(HEADING, at):
-        end = text.index(b"\n", at) + 1
-        words = text[at:end].split()
-        at = end + (sum(map(int, words[3:5])) if words[:1] == [b"case"] else 0)
-    return text[:at]
-
-
-def texts():
-    """Each file that is made from the examples, with what it is to hold."""
-    made = {CASES: other_cases(content(CASES)) + HEADING + b"".join(map(case_of, names()))}
+def pictures():
+    """Each picture, with what it is to hold."""
+    made = {}
     for name in names():
+        check_heading(name)
         path = os.path.join(PICTURES, f"{name}.svg")
         if os.path.exists(path):
             made[path] = picture.drawn(os.path.join(EXAMPLES, f"{name}.transcript"), name.replace("-", " ")).encode()
@@ -75,10 +55,10 @@ def texts():
 def main():
     if sys.argv[1:] not in ([], ["--check"]):
         sys.exit(__doc__)
-    stale = {path: text for path, text in texts().items() if content(path) != text}
+    stale = {path: text for path, text in pictures().items() if content(path) != text}
     if sys.argv[1:]:
         for path in stale:
-            print(f"{os.path.relpath(path, TOP)} isn't as the examples say: run tools/examples.py", file=sys.stderr)
+            print(f"{os.path.relpath(path, TOP)} isn't that of its example: run tools/examples.py", file=sys.stderr)
         sys.exit(1 if stale else 0)
     for path, text in stale.items():
         with open(path, "wb") as file:
