@@ -13,10 +13,10 @@ use Rattle.nfscopy.specs.Input.{Input}
 use Rattle.volume_format.specs.DiskWords.{DiskWords}
 use Rattle.nfscopy.specs.Outside.{Outside}
 use Rattle.nfscopy.specs.RunEnds.{Blamed, CarriesOut, Completes, IsUnhindered, PutsRun, RunEndIs, RunWords, small_of}
-use Rattle.nfscopy.specs.declared.ends.GenEnd.{GenEnd}
-use Rattle.nfscopy.specs.declared.ends.GenEnd.TheVariants as gen
-use Rattle.nfscopy.specs.declared.ends.RunEnd.{RunEnd}
-use Rattle.nfscopy.specs.declared.ends.RunEnd.TheVariants as ends
+use Rattle.command_line.specs.declared.ends.GenEnd.{GenEnd}
+use Rattle.command_line.specs.declared.ends.GenEnd.TheVariants as gen
+use Rattle.command_line.specs.declared.ends.RunEnd.{RunEnd}
+use Rattle.command_line.specs.declared.ends.RunEnd.TheVariants as ends
 
 -- a count that didn't rise rose by none
 rose_by_none : (n before now : ℕ) → RoseBy n before now → (Rose before now → ⊥) → n ≡ 0

@@ -24,8 +24,8 @@ use Rattle.wire_run.specs.declared.run.Ran.{Ran}
 use Rattle.wire_run.specs.declared.run.Ran.TheVariants as ran
 use Rattle.run_ends.specs.declared.setting.TheConstants.{SOURCE_TAG, DEST_TAG}
 use Rattle.wire_schedule.specs.ScheduleText.{schedule_of}
-use Rattle.nfscopy.specs.declared.ends.RunEnd.{RunEnd}
-use Rattle.nfscopy.specs.declared.ends.RunEnd.TheVariants as ends
+use Rattle.command_line.specs.declared.ends.RunEnd.{RunEnd}
+use Rattle.command_line.specs.declared.ends.RunEnd.TheVariants as ends
 use Rattle.nfscopy.specs.Input.{Input, most_bytes, parsed, asked}
 use Rattle.volume_format.specs.Lines.{not_volume_text, small_text}
 use Rattle.nfscopy.specs.Notice.{bad_line_text, mistaken_text, too_much_text}

@@ -3,13 +3,15 @@ use Rattle.std.proofs.Common.{◌≡◌, ℕ, ◌≤◌, refl, subst, arith}
 use Rattle.std.specs.Prelude.{Option, Some}
 use Rattle.volume_format.specs.DiskWords.{DiskWords}
 use Rattle.volume_format.specs.Shapes.{Numbers}
-use Rattle.nfscopy.specs.declared.command.Command.{Command}
-use Rattle.nfscopy.specs.declared.command.Command.TheVariants.{Copy, Format, ServeSource, ServeDest}
-use Rattle.nfscopy.specs.declared.command.DestOrder.{DestOrder}
-use Rattle.nfscopy.specs.declared.command.Service.{Service}
+use Rattle.command_line.specs.declared.command.Command.{Command}
+use Rattle.command_line.specs.declared.command.Command.TheVariants.{Copy, Format, ServeSource, ServeDest}
+use Rattle.command_line.specs.declared.command.DestOrder.{DestOrder}
+use Rattle.command_line.specs.declared.command.Service.{Service}
 use Rattle.linked_copy.specs.declared.copying.CopyOrder.{CopyOrder}
-use Rattle.nfscopy.specs.Ends.{CopyWords, Ends, EndsAs, FormatEnds, LinkedEnds, ServedDestEnds, ServiceWords, SourceEnds}
-use Rattle.nfscopy.specs.ExitStatus.{copy_status, format_status, serve_status}
+use Rattle.nfscopy.specs.Ends.{Ends, FormatEnds, LinkedEnds, ServedDestEnds, SourceEnds}
+use Rattle.port_commands.specs.Copying.{CopyWords}
+use Rattle.port_commands.specs.Serving.{ServiceWords}
+use Rattle.command_line.specs.ExitStatus.{EndsAs, copy_status, format_status, serve_status}
 use Rattle.nfscopy.specs.Outside.{Outside}
 use Rattle.nfscopy.specs.RunEnds.{RunWords}
 

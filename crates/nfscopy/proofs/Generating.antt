@@ -10,16 +10,18 @@ use Rattle.large_copy.specs.Large.{blocks_of, is_crash, large_events, large_sche
 use Rattle.nfs_base.specs.declared.side.Side.{Side}
 use Rattle.nfs_base.specs.declared.side.Side.TheVariants.{Source, Dest}
 use Rattle.nfscopy.proofs.Ending.{held, moved, no_did, small_at}
-use Rattle.nfscopy.specs.Ends.{CopyWords, Ends, EndsAs, ServiceWords}
-use Rattle.nfscopy.specs.ExitStatus.{gen_status}
+use Rattle.nfscopy.specs.Ends.{Ends}
+use Rattle.port_commands.specs.Copying.{CopyWords}
+use Rattle.port_commands.specs.Serving.{ServiceWords}
+use Rattle.command_line.specs.ExitStatus.{EndsAs, gen_status}
 use Rattle.nfscopy.specs.GenEnds.{Counts, GenCarriesOut, GenEndIs, GenEnds, IsUnread, MayDiffer, Owes, gen_events}
 use Rattle.nfscopy.specs.Outside.{DiskRose, Outside, disk_at}
 use Rattle.nfscopy.specs.RunEnds.{Blamed, RunWords, RunsKeep}
 use Rattle.nfscopy.specs.Summing.{IsSummary, IsSummed, Owing, OwedPut, Sums, owing_for}
-use Rattle.nfscopy.specs.declared.command.Command.{Command}
-use Rattle.nfscopy.specs.declared.command.Command.TheVariants.{Gen}
-use Rattle.nfscopy.specs.declared.ends.GenEnd.{GenEnd}
-use Rattle.nfscopy.specs.declared.ends.GenEnd.TheVariants as ends
+use Rattle.command_line.specs.declared.command.Command.{Command}
+use Rattle.command_line.specs.declared.command.Command.TheVariants.{Gen}
+use Rattle.command_line.specs.declared.ends.GenEnd.{GenEnd}
+use Rattle.command_line.specs.declared.ends.GenEnd.TheVariants as ends
 use Rattle.nfscopy.specs.declared.generate.Summed.{Summed}
 use Rattle.nfscopy.specs.declared.generate.Summed.TheVariants as summed
 use Rattle.nfscopy.specs.declared.summary.Summary.{Summary}

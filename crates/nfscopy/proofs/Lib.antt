@@ -2,5 +2,4 @@ pub mod Completing
 pub mod Ending
 pub mod Formatted
 pub mod Generating
-pub mod Having
 pub mod Keeping

@@ -23,8 +23,8 @@ use Rattle.volume_format.specs.DiskWords.{DiskWords}
 use Rattle.nfscopy.specs.Outside.{DiskRose, Outside, disk_at}
 use Rattle.nfscopy.specs.RunEnds.{Blamed, IsUnhindered, RunWords, small_of}
 use Rattle.nfscopy.specs.Summary.{summary_text}
-use Rattle.nfscopy.specs.declared.ends.GenEnd.{GenEnd}
-use Rattle.nfscopy.specs.declared.ends.GenEnd.TheVariants as ends
+use Rattle.command_line.specs.declared.ends.GenEnd.{GenEnd}
+use Rattle.command_line.specs.declared.ends.GenEnd.TheVariants as ends
 use Rattle.nfscopy.specs.declared.summary.Summary.{Summary}
 
 -- the events of the schedule of a large copy, as those of one line

@@ -1,5 +1,3 @@
-pub mod Command
-pub mod ExitStatus
 pub mod Notice
 pub mod Input
 pub mod Outside

@@ -5,8 +5,8 @@ use Rattle.wire_run.specs.declared.fresh.Unmade.TheVariants as unmade
 use Rattle.wire_run.specs.declared.run.Ran.{Ran}
 use Rattle.wire_run.specs.declared.run.Ran.TheVariants as ran
 use Rattle.volume_format.specs.Puts.{AllPut, FrontPut, NonePut}
-use Rattle.nfscopy.specs.declared.ends.RunEnd.{RunEnd}
-use Rattle.nfscopy.specs.declared.ends.RunEnd.TheVariants as ends
+use Rattle.command_line.specs.declared.ends.RunEnd.{RunEnd}
+use Rattle.command_line.specs.declared.ends.RunEnd.TheVariants as ends
 use Rattle.volume_format.specs.Lines.{not_volume_text, small_text}
 use Rattle.nfscopy.specs.Notice.{bad_line_text, mistaken_text}
 

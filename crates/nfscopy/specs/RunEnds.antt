@@ -19,8 +19,8 @@ use Rattle.wire_run.specs.Run.{Did, IsBefore, RunsFront, ScheduleRuns, Volumes, 
 use Rattle.wire_run.specs.System.{DiskHolds}
 use Rattle.run_ends.specs.declared.setting.TheConstants.{SOURCE_TAG, DEST_TAG}
 use Rattle.wire_run.specs.Running.{Later, failed_steps, size_in}
-use Rattle.nfscopy.specs.declared.ends.RunEnd.{RunEnd}
-use Rattle.nfscopy.specs.declared.ends.RunEnd.TheVariants as ends
+use Rattle.command_line.specs.declared.ends.RunEnd.{RunEnd}
+use Rattle.command_line.specs.declared.ends.RunEnd.TheVariants as ends
 use Rattle.nfscopy.specs.Input.{Input, asked, IfSchedule, IfRefused}
 use Rattle.volume_format.specs.Lines.{not_volume_text, small_text}
 use Rattle.volume_format.specs.DiskWords.{DiskWords}

@@ -5,8 +5,8 @@ use Rattle.outcome.specs.Causes.{Rose}
 use Rattle.streams.specs.Sink.{AppendsFront}
 use Rattle.wire_show.specs.Text.{lines_text}
 use Rattle.wire_show.specs.Shown.{shown, refused}
-use Rattle.nfscopy.specs.declared.ends.ShowEnd.{ShowEnd}
-use Rattle.nfscopy.specs.declared.ends.ShowEnd.TheVariants.{Done, Refused, ReadFault, WriteFault, NoMemory}
+use Rattle.command_line.specs.declared.ends.ShowEnd.{ShowEnd}
+use Rattle.command_line.specs.declared.ends.ShowEnd.TheVariants.{Done, Refused, ReadFault, WriteFault, NoMemory}
 use Rattle.nfscopy.specs.Outside.{Outside}
 
 -- a front was put of the lines of the stream, where the source tells it

@@ -3,8 +3,8 @@ use Rattle.std.specs.Prelude.{◌≡◌, ◌⊎◌, ℕ, true, false, Option, No
 use Rattle.std.specs.String.{string_bytes}
 use Rattle.nfscopy.specs.Notice.{mistaken_text, too_much_text}
 use Rattle.nfscopy.specs.Summary.{summary_text}
-use Rattle.nfscopy.specs.declared.ends.GenEnd.{GenEnd}
-use Rattle.nfscopy.specs.declared.ends.GenEnd.TheVariants as ends
+use Rattle.command_line.specs.declared.ends.GenEnd.{GenEnd}
+use Rattle.command_line.specs.declared.ends.GenEnd.TheVariants as ends
 use Rattle.nfscopy.specs.declared.generate.Owed.{Owed}
 use Rattle.nfscopy.specs.declared.generate.Summed.{Summed}
 use Rattle.nfscopy.specs.declared.generate.Summed.TheVariants as summed

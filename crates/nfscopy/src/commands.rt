@@ -1,8 +1,8 @@
 //! The commands that wait for nobody: each returns, whatever it is given, and answers its exit status.
 
 ghost use Rattle.std.specs.Prelude.{◌≡◌, ◌≤◌, ℕ, List, Option, option_map, true, is_some};
-ghost use Rattle.nfscopy.specs.Ends.{EndsAs, FormatEnds};
-ghost use Rattle.nfscopy.specs.ExitStatus.{format_status, gen_status, run_status, show_status};
+ghost use Rattle.nfscopy.specs.Ends.{FormatEnds};
+ghost use Rattle.command_line.specs.ExitStatus.{EndsAs, format_status, gen_status, run_status, show_status};
 ghost use Rattle.nfscopy.specs.GenEnds.{gen_events, GenEnds};
 ghost use Rattle.nfscopy.specs.Input.{asked};
 ghost use Rattle.nfscopy.specs.Outside.{outside, without_disks};
@@ -10,10 +10,10 @@ ghost use Rattle.nfscopy.specs.RunEnds.{run_words, KeepsIf, RunEnds, RunsKeep};
 ghost use Rattle.nfscopy.specs.ShowEnds.{ShowEnds};
 ghost use Rattle.volume_format.specs.DiskWords.{disk_words};
 
-use crate::ends::format_code;
 use crate::generate::generate;
 use crate::run::run;
 use crate::show::show;
+use command_line::format_code;
 use disk_model::{CrashDisk, Disk};
 use gss_mech::Mechanism;
 use large_copy::LargeCopy;

@@ -8,9 +8,9 @@ ghost use Rattle.volume_format.specs.DiskWords.{disk_words};
 ghost use Rattle.wire_log.specs.Keeping.{reading};
 ghost use Rattle.wire_run.specs.Running.{at_rest, mech_of, HasDisks};
 
-use crate::ends::GenEnd;
 use crate::notice::{mistaken_line, too_much};
 use crate::summary::Summary;
+use command_line::GenEnd;
 use disk_model::CrashDisk;
 use gss_mech::Mechanism;
 use large_copy::{

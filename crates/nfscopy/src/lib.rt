@@ -9,24 +9,14 @@
 //! `single_copy`).
 #![tactic(auto)]
 
-mod command;
 mod commands;
-mod copying;
-mod ends;
-mod exit_status;
 mod generate;
-mod laws;
 mod notice;
 mod run;
-mod serving;
 mod show;
 mod summary;
 mod top;
 
-pub use command::{Asked, Command, DestOrder, Service, Workers, asked_service, is_copy, is_format};
 pub use commands::{do_format, do_gen, do_run, do_show};
-pub use ends::{GenEnd, RunEnd, ShowEnd, UsageEnd};
-pub use exit_status::ExitStatus;
-pub use laws::disks_suffice;
 pub use summary::Summary;
 pub use top::nfscopy;

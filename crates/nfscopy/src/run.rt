@@ -10,8 +10,8 @@ ghost use Rattle.volume_format.specs.DiskWords.{disk_words};
 ghost use Rattle.wire_machine.specs.Runs.{events_in};
 ghost use Rattle.wire_schedule.specs.ScheduleText.{schedule_of};
 
-use crate::ends::{RunEnd, UsageEnd};
 use crate::notice::{bad_line, mistaken_line, too_much_line, usage_line};
+use command_line::{RunEnd, UsageEnd};
 use disk_model::CrashDisk;
 use gss_mech::Mechanism;
 use nfs_base::INPUT_LIMIT;

@@ -2,7 +2,7 @@ ghost use Rattle.std.specs.Prelude.{◌≤◌};
 ghost use Rattle.nfscopy.specs.Outside.{without_disks};
 ghost use Rattle.nfscopy.specs.ShowEnds.{ShowEnds};
 
-use crate::ends::ShowEnd;
+use command_line::ShowEnd;
 use outcome::NoMemory;
 use std::alloc::Global;
 use streams::{Sink, Source};

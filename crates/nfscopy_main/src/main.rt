@@ -4,15 +4,16 @@
 ghost use Rattle.std.specs.Prelude.{◌≡◌, true, is_some, map, Some};
 ghost use Rattle.nfs_base.specs.declared.side.Side.TheVariants.{Source, Dest};
 ghost use Rattle.std.specs.String.{string_bytes};
-ghost use Rattle.nfscopy.specs.Command.{command_of, is_copy, is_format, service_in};
-ghost use Rattle.nfscopy.specs.Ends.{HasDisks};
+ghost use Rattle.command_line.specs.Command.{command_of, is_copy, is_format, service_in};
+ghost use Rattle.command_line.specs.Disks.{HasDisks};
 ghost use Rattle.volume_format.specs.DiskWords.{disk_words};
 
+use command_line::{Asked, ExitStatus, asked_service, disks_suffice, is_copy, is_format};
 use disk_model::{CrashDisk, FileDisk, MemoryDisk};
 use gss_mech::Realm;
 use net_links::TcpNet;
 use nfs_base::Side;
-use nfscopy::{Asked, ExitStatus, asked_service, disks_suffice, is_copy, is_format, nfscopy};
+use nfscopy::nfscopy;
 use outcome::Mem;
 use realm_file::read_realm;
 use std::alloc::Global;

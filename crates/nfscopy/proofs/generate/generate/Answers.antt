@@ -5,7 +5,7 @@ use Rattle.wire_run.specs.Running.{HasDisks, mech_of}
 use Rattle.nfscopy.proofs.Completing.{gen_completes}
 use Rattle.nfscopy.proofs.Generating.{asks_by, quiet_by, starved, summed_ends}
 use Rattle.nfscopy.proofs.Keeping.{large_keeps}
-use Rattle.nfscopy.specs.declared.ends.GenEnd.TheVariants.{NoMemory}
+use Rattle.command_line.specs.declared.ends.GenEnd.TheVariants.{NoMemory}
 use Rattle.nfscopy.proofs.generate.generate.Goals as goal
 
 pub returns-in_default-clause-ends : goal.returns-in_default-clause-ends

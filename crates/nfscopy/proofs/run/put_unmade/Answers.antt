@@ -1,6 +1,6 @@
 use Rattle.std.proofs.Common.{inl, ℕ, List, sym, ◌∙◌, subst}
 use Rattle.wire_run.specs.declared.fresh.Unmade.{Unmade}
-use Rattle.nfscopy.specs.declared.ends.RunEnd.TheVariants.{NoVolume}
+use Rattle.command_line.specs.declared.ends.RunEnd.TheVariants.{NoVolume}
 use Rattle.nfscopy.specs.Puts.{LastPut, UnmadePut}
 use Rattle.nfscopy.proofs.run.put_unmade.Goals as goal
 

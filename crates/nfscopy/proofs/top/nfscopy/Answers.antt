@@ -1,7 +1,7 @@
 use Rattle.std.proofs.Common.{◌≡◌, Some, map, refl, rules}
 use Rattle.std.specs.String.{string_bytes}
-use Rattle.nfscopy.specs.Command.{command_of}
-use Rattle.nfscopy.specs.declared.command.Command.TheVariants.{Copy, Format, Gen, ServeDest, ServeSource}
+use Rattle.command_line.specs.Command.{command_of}
+use Rattle.command_line.specs.declared.command.Command.TheVariants.{Copy, Format, Gen, ServeDest, ServeSource}
 use Rattle.nfscopy.proofs.Formatted.{ends_copy, ends_format, ends_serve, ends_serve_dest}
 use Rattle.nfscopy.proofs.Generating.{ends_gen}
 use Rattle.nfscopy.proofs.top.nfscopy.Goals as goal

@@ -1,9 +1,9 @@
 ghost use Rattle.std.specs.Prelude.{◌≡◌, true, None, Some, Option, IfSome, is_some};
-ghost use Rattle.nfscopy.specs.Command.{is_copy, is_format, service_in};
-ghost use Rattle.nfscopy.specs.Ends.{HasDisks, MayOpen};
-ghost use Rattle.nfscopy.specs.declared.command.Command.{Command};
+ghost use Rattle.command_line.specs.Command.{is_copy, is_format, service_in};
+ghost use Rattle.command_line.specs.Disks.{HasDisks, MayOpen};
+ghost use Rattle.command_line.specs.declared.command.Command.{Command};
 ghost use Rattle.nfs_base.specs.declared.side.Side.TheVariants.{Source, Dest};
-ghost use Rattle.nfscopy.specs.declared.command.Asked.{Asked};
+ghost use Rattle.command_line.specs.declared.command.Asked.{Asked};
 ghost use Rattle.volume_format.specs.DiskWords.{disk_words};
 
 use disk_model::Disk;

@@ -5,12 +5,12 @@ ghost use Rattle.client_core.specs.Endings.{ways_of};
 ghost use Rattle.client_steps.specs.Setting.{IsFit};
 ghost use Rattle.linked_copy.specs.Ends.{CopyEnds};
 ghost use Rattle.linked_copy.specs.Nets.{books_of, net_words};
-ghost use Rattle.nfscopy.specs.Ends.{EndsAs, setting_by};
-ghost use Rattle.nfscopy.specs.ExitStatus.{copy_status};
+ghost use Rattle.port_commands.specs.Copying.{setting_by};
+ghost use Rattle.command_line.specs.ExitStatus.{EndsAs, copy_status};
 ghost use Rattle.single_copy.specs.Turns.{conduct_of};
 
-use crate::ends::copy_code;
 use client_steps::Setting;
+use command_line::copy_code;
 use gss_mech::Mechanism;
 use linked_copy::{CopyEnd, CopyOrder, copy_over};
 use net_links::Net;
@@ -20,7 +20,7 @@ use std::alloc::Global;
 use streams::{Clock, Draws, Sink, Source};
 
 /// Makes a copy over links that are dialed for it.
-pub(crate) fn copy<
+pub fn copy<
     K: Sink,
     M: Mechanism,
     C: Clock + Drop,

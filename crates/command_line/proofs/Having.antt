@@ -2,12 +2,12 @@
 use Rattle.std.proofs.Common.{◌≡◌, true, Some}
 use Rattle.std.specs.Prelude.{Option, None, IfSome, is_some}
 use Rattle.volume_format.specs.DiskWords.{DiskWords}
-use Rattle.nfscopy.specs.Command.{is_copy, is_format, service_in}
-use Rattle.nfscopy.specs.Ends.{HasDisks, MayOpen}
-use Rattle.nfscopy.specs.declared.command.Command.{Command}
-use Rattle.nfscopy.specs.declared.command.Command.TheVariants.{Run, Show, Gen, Format, ServeSource, ServeDest, Copy}
+use Rattle.command_line.specs.Command.{is_copy, is_format, service_in}
+use Rattle.command_line.specs.Disks.{HasDisks, MayOpen}
+use Rattle.command_line.specs.declared.command.Command.{Command}
+use Rattle.command_line.specs.declared.command.Command.TheVariants.{Run, Show, Gen, Format, ServeSource, ServeDest, Copy}
 use Rattle.nfs_base.specs.declared.side.Side.TheVariants.{Source, Dest}
-use Rattle.nfscopy.specs.declared.command.Asked.{Asked}
+use Rattle.command_line.specs.declared.command.Asked.{Asked}
 
 pub both_suffice : {D : Type 0} (w : DiskWords D) (command : Option Command) (source dest : Option D) → service_in command ≡ None
     → is_some source ≡ true → is_some dest ≡ true → HasDisks w command source dest

@@ -1,5 +1,5 @@
 ghost use Rattle.std.specs.Prelude.{◌≡◌};
-ghost use Rattle.nfscopy.specs.ExitStatus.{code_of};
+ghost use Rattle.command_line.specs.ExitStatus.{code_of};
 
 /// How the program ended. The numbers are its exit statuses.
 #[derive(Clone, Copy, PartialEq, Eq)]

@@ -1,5 +1,5 @@
 ghost use Rattle.std.specs.Prelude.{◌≡◌};
-ghost use Rattle.nfscopy.specs.ExitStatus.{code_of, copy_status, format_status, serve_status, usage_status, run_status, gen_status, show_status};
+ghost use Rattle.command_line.specs.ExitStatus.{code_of, copy_status, format_status, serve_status, usage_status, run_status, gen_status, show_status};
 
 use crate::exit_status::ExitStatus;
 use linked_copy::CopyEnd;
@@ -159,7 +159,7 @@ impl ShowEnd {
 }
 
 /// The exit status that says how a format ended.
-pub(crate) fn format_code(end: FormatEnd) -> u8
+pub fn format_code(end: FormatEnd) -> u8
     ensures { result ≡ code_of (format_status end) }
 {
     let status = match end {
@@ -173,7 +173,7 @@ pub(crate) fn format_code(end: FormatEnd) -> u8
 }
 
 /// The exit status that says how serving ended.
-pub(crate) fn serve_code(end: ServeEnd) -> u8
+pub fn serve_code(end: ServeEnd) -> u8
     ensures { result ≡ code_of (serve_status end) }
 {
     let status = match end {
@@ -188,7 +188,7 @@ pub(crate) fn serve_code(end: ServeEnd) -> u8
 }
 
 /// The exit status that says how a copy over a net ended.
-pub(crate) fn copy_code(end: CopyEnd) -> u8
+pub fn copy_code(end: CopyEnd) -> u8
     ensures { result ≡ code_of (copy_status end) }
 {
     let status = match end {

@@ -3,16 +3,16 @@
 ghost use Rattle.std.specs.Prelude.{◌≡◌, ◌≤◌, true, is_some, IfOk, IfSome};
 ghost use Rattle.link_server.specs.Keeping.{books_of};
 ghost use Rattle.dest_server.specs.Serving.{DestEnds};
-ghost use Rattle.nfscopy.specs.Ends.{EndsAs, MayOpen, dest_by, dest_service_of, source_by};
-ghost use Rattle.nfscopy.specs.ExitStatus.{serve_status};
+ghost use Rattle.command_line.specs.Disks.{MayOpen};
+ghost use Rattle.port_commands.specs.Serving.{dest_by, dest_service_of, source_by};
+ghost use Rattle.command_line.specs.ExitStatus.{EndsAs, serve_status};
 ghost use Rattle.server_volume.specs.Store.{seat_of};
 ghost use Rattle.source_core.specs.Location.{IsShort};
 ghost use Rattle.source_server.specs.Serving.{net_words, ServeEnds};
 ghost use Rattle.volume_format.specs.DiskWords.{disk_words};
 ghost use Rattle.run_ends.specs.Setting.{dest_name, dest_place, dest_source, source_peers, source_place};
 
-use crate::command::{DestOrder, Service};
-use crate::ends::serve_code;
+use command_line::{DestOrder, Service, serve_code};
 use dest_server::{DestService, Partner, serve_dest};
 use disk_model::Disk;
 use gss_mech::Mechanism;
@@ -27,7 +27,7 @@ use std::thread::Threads;
 use streams::{Clock, Draws, Sink, Source};
 
 /// Serves the volume on the disk in the source's place to so many connections.
-pub(crate) fn serve_as_source<
+pub fn serve_as_source<
     R: Threads + Wait + Sync,
     K: Sink,
     D: Disk + Drop + Send,
@@ -73,7 +73,7 @@ pub(crate) fn serve_as_source<
 }
 
 /// Serves the volume on the disk in the destination's place, with workers.
-pub(crate) fn serve_as_dest<
+pub fn serve_as_dest<
     R: Threads + Wait + Sync,
     K: Sink,
     D: Disk + Drop + Send,

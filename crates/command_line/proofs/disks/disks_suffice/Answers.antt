@@ -1,6 +1,6 @@
 use Rattle.volume_format.specs.DiskWords.{disk_words}
-use Rattle.nfscopy.proofs.Having.{any_suffice, both_suffice, dest_suffices, none_suffices, one_suffices, source_suffices}
-use Rattle.nfscopy.proofs.laws.disks_suffice.Goals as goal
+use Rattle.command_line.proofs.Having.{any_suffice, both_suffice, dest_suffices, none_suffices, one_suffices, source_suffices}
+use Rattle.command_line.proofs.disks.disks_suffice.Goals as goal
 
 pub returns-clause-both : goal.returns-clause-both
 returns-clause-both g c = both_suffice (disk_words g.D.Disk.Told g.D.Disk.faults g.D.Disk.size g.D.Disk.timeline)

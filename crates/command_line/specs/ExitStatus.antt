@@ -1,21 +1,21 @@
 -- The program's exit statuses, and the status of each end of a command. Own numbers.
-use Rattle.std.specs.Prelude.{ℕ}
+use Rattle.std.specs.Prelude.{◌≡◌, ℕ}
 use Rattle.linked_copy.specs.declared.ends.CopyEnd.{CopyEnd}
 use Rattle.linked_copy.specs.declared.ends.CopyEnd.TheVariants as copy
 use Rattle.volume_format.specs.declared.formatting.FormatEnd.{FormatEnd}
 use Rattle.source_server.specs.declared.serving.ServeEnd.{ServeEnd}
 use Rattle.source_server.specs.declared.serving.ServeEnd.TheVariants as serve
 use Rattle.volume_format.specs.declared.formatting.FormatEnd.TheVariants as format
-use Rattle.nfscopy.specs.declared.exit_status.ExitStatus.{ExitStatus}
-use Rattle.nfscopy.specs.declared.exit_status.ExitStatus.TheVariants.{Done, Usage, Refused, ReadFault, WriteFault, NoMemory, DiskFault, NoVolume, NetFault, CopyFailed, Mistaken}
-use Rattle.nfscopy.specs.declared.ends.UsageEnd.{UsageEnd}
-use Rattle.nfscopy.specs.declared.ends.UsageEnd.TheVariants as usage
-use Rattle.nfscopy.specs.declared.ends.RunEnd.{RunEnd}
-use Rattle.nfscopy.specs.declared.ends.RunEnd.TheVariants as run
-use Rattle.nfscopy.specs.declared.ends.GenEnd.{GenEnd}
-use Rattle.nfscopy.specs.declared.ends.GenEnd.TheVariants as gen
-use Rattle.nfscopy.specs.declared.ends.ShowEnd.{ShowEnd}
-use Rattle.nfscopy.specs.declared.ends.ShowEnd.TheVariants as show
+use Rattle.command_line.specs.declared.exit_status.ExitStatus.{ExitStatus}
+use Rattle.command_line.specs.declared.exit_status.ExitStatus.TheVariants.{Done, Usage, Refused, ReadFault, WriteFault, NoMemory, DiskFault, NoVolume, NetFault, CopyFailed, Mistaken}
+use Rattle.command_line.specs.declared.ends.UsageEnd.{UsageEnd}
+use Rattle.command_line.specs.declared.ends.UsageEnd.TheVariants as usage
+use Rattle.command_line.specs.declared.ends.RunEnd.{RunEnd}
+use Rattle.command_line.specs.declared.ends.RunEnd.TheVariants as run
+use Rattle.command_line.specs.declared.ends.GenEnd.{GenEnd}
+use Rattle.command_line.specs.declared.ends.GenEnd.TheVariants as gen
+use Rattle.command_line.specs.declared.ends.ShowEnd.{ShowEnd}
+use Rattle.command_line.specs.declared.ends.ShowEnd.TheVariants as show
 
 abbrev pub code_of : ExitStatus → ℕ
 code_of Done = 0
@@ -84,3 +84,9 @@ copy_status copy.DrawFault = NetFault
 copy_status copy.DialFault = NetFault
 copy_status copy.WriteFault = WriteFault
 copy_status copy.NoMemory = NoMemory
+
+-- the exit status is that of an end, of which this is said
+pub record EndsAs {E : Type 0} (status_of : E → ExitStatus) (Says : E → Type 0) (code : ℕ) : Type 0 where
+  pub end : E
+  pub is : code ≡ code_of (status_of end)
+  pub says : Says end

@@ -6,13 +6,13 @@ use Rattle.nfs_base.specs.declared.copy_spec.CopySpec.{CopySpec}
 use Rattle.volume_format.specs.Shapes.{Numbers, new_volume}
 use Rattle.wire_schedule.specs.Grammar.{consecutive_of}
 use Rattle.wire_schedule.specs.Numerals.{◌>>=◌, number_below, number_of}
-use Rattle.nfscopy.specs.declared.command.Command.{Command}
+use Rattle.command_line.specs.declared.command.Command.{Command}
 use Rattle.nfs_base.specs.declared.side.Side.TheVariants.{Source, Dest}
-use Rattle.nfscopy.specs.declared.command.Asked.{Asked}
-use Rattle.nfscopy.specs.declared.command.Command.TheVariants.{Run, Show, Gen, Format, ServeSource, ServeDest, Copy}
-use Rattle.nfscopy.specs.declared.command.DestOrder.{DestOrder}
-use Rattle.nfscopy.specs.declared.command.Service.{Service}
-use Rattle.nfscopy.specs.declared.command.TheConstants.{MOST_CONNS}
+use Rattle.command_line.specs.declared.command.Asked.{Asked}
+use Rattle.command_line.specs.declared.command.Command.TheVariants.{Run, Show, Gen, Format, ServeSource, ServeDest, Copy}
+use Rattle.command_line.specs.declared.command.DestOrder.{DestOrder}
+use Rattle.command_line.specs.declared.command.Service.{Service}
+use Rattle.command_line.specs.declared.command.TheConstants.{MOST_CONNS}
 
 -- a number of 1 to 64
 unfoldable pub mebibytes_of : List ℕ → Option ℕ

@@ -1,6 +1,6 @@
 ghost use Rattle.std.specs.Prelude.{◌≡◌, ◌≤◌, ◌↔◌, map, IsSome, IfSome};
 ghost use Rattle.std.specs.String.{string_bytes};
-ghost use Rattle.nfscopy.specs.Command.{command_of, copy_order_of, copy_spec_of, dest_order_of, file_of, format_of, is_copy, is_format, is_path, mebibytes_of, of_five, of_four, of_nine, of_one, of_six, of_two, port_of, serve_dest_of, serve_source_of, service_in, service_of, volume_of, workers_of};
+ghost use Rattle.command_line.specs.Command.{command_of, copy_order_of, copy_spec_of, dest_order_of, file_of, format_of, is_copy, is_format, is_path, mebibytes_of, of_five, of_four, of_nine, of_one, of_six, of_two, port_of, serve_dest_of, serve_source_of, service_in, service_of, volume_of, workers_of};
 ghost use Rattle.wire_schedule.specs.Grammar.{consecutive_of};
 
 use large_copy::LargeCopy;
