@@ -4,18 +4,14 @@ C library (support/failing.c)."""
 import os
 import socket
 import subprocess
-import sys
 import tempfile
 import time
 
 from support.before import failing
+from support.caller import Caller, Refused
 from support.program import PATIENCE, PROGRAM, TOP, Ended, run
 from support.rows import is_met, make, rows_in
 from support.tables import each
-
-sys.path.insert(0, os.path.join(TOP, "bench"))
-
-from caller import Caller, Refused  # noqa: E402 (its folder is on the path only now)
 
 SCHEDULE = os.path.join(TOP, "examples", "first-copy.schedule")
 TRANSCRIPT = os.path.join(TOP, "examples", "first-copy.transcript")
