@@ -49,5 +49,6 @@ def prints_what_is_due(test, case):
 
 def load_tests(loader, suite, _):
     suite.addTests(each(is_met, rows_in("lines.txt")))
-    suite.addTests(each(prints_what_is_due, ((f"schedules.cases: {case.name}", case) for case in cases_of(content(HERE, "rows", "schedules.cases")))))
+    cases = cases_of(content(HERE, "rows", "schedules.cases"))
+    suite.addTests(each(prints_what_is_due, ((f"schedules.cases: {case.name}", case) for case in cases)))
     return suite

@@ -12,8 +12,8 @@ from typing import FrozenSet, NamedTuple, Tuple
 SIDES = ("s", "d")
 
 
-class Broken(Exception):
-    """What goes against the promise."""
+class Broken(AssertionError):
+    """What goes against the promise: a test of a run that does so fails."""
 
 
 class Piece(NamedTuple):
@@ -267,9 +267,8 @@ class Judge:
     def on_exact(self, words, line):
         copy = self.said("exact", words, ("stable",), line)
         jobs = [job for job in copy.jobs if job.committed]
-        self.dest.keep(
-            [state for state in self.dest.settled() if any(job.stood_still(state) for job in jobs)], f"the source didn't stand still: {line}"
-        )
+        still = [state for state in self.dest.settled() if any(job.stood_still(state) for job in jobs)]
+        self.dest.keep(still, f"the source didn't stand still: {line}")
 
     def on_unsure(self, words, line):
         self.said("unsure", words, ("stable",), line)
