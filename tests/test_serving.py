@@ -17,7 +17,7 @@ from support.program import PATIENCE, run, run_into
 from support.proxy import marked, reset
 from support.servers import (BLOCK, DISK_FAULT, KEYS, NET_FAULT, NO_COMMAND, NO_VOLUME, NOT_OPENED, OUTPUT_FAULT, PIECE, WORKED, Server,
                              awaited, content, destination, file_of, free_port, get, has_ended, joined, make_volume, new_folder,
-                             refused_server, source)
+                             refused_server, source, turned_away)
 from support.tables import each
 
 TAG = 7
@@ -363,9 +363,8 @@ class Serving(unittest.TestCase):
 
     def test_first_accept_fails(self):
         server = self.serve(1, failing=Failing(self.folder, "accept 1"))
-        link = self.dial(server)
+        self.assertEqual(turned_away(server), b"")
         server.end(NET_FAULT)
-        self.assertEqual(has_ended(link), b"")
         self.is_empty()
 
     def test_second_accept_fails(self):
@@ -664,10 +663,8 @@ class Ports(unittest.TestCase):
             make_volume(folder, "source", blocks=1)
             with source(folder, 2) as of:
                 with destination(folder, 1, 2, of.port, failing=Failing(folder, "accept 1")) as server:
-                    link = server.dial()
+                    self.assertEqual(turned_away(server), b"")
                     server.end(NET_FAULT)
-                    self.assertEqual(has_ended(link), b"")
-                    link.close()
                 of.end()
 
 

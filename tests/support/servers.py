@@ -269,6 +269,15 @@ def copy(folder, source_port, dest_port, words, **how):
     return run("copy", source_port, dest_port, *words.split(), folder=folder, **how)
 
 
+def turned_away(server):
+    """What a connection brings that the server doesn't accept, to its end, which may come as soon as it is dialed."""
+    try:
+        with server.dial() as link:
+            return has_ended(link)
+    except ConnectionResetError:
+        return b""
+
+
 def has_ended(connection):
     """Waits until the other end has ended a connection, and gives what it brought before."""
     connection.settimeout(PATIENCE)
