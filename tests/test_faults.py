@@ -2,22 +2,26 @@
 C library (support/failing.c)."""
 
 import os
-import socket
 import subprocess
 import tempfile
-import time
 
-from support.before import failing
+from support.before import Failing, failing
 from support.caller import Caller, Refused
 from support.program import PATIENCE, PROGRAM, TOP, Ended, run
-from support.rows import is_met, make, rows_in
+from support.rows import is_met, rows_in
+from support.servers import (
+    COPY_FAILED, DISK_FAULT, KEYS, OUTPUT_FAULT, WORKED, copy, destination, make_volume, new_folder, refused_server, source,
+)
 from support.tables import each
 
 SCHEDULE = os.path.join(TOP, "examples", "first-copy.schedule")
 TRANSCRIPT = os.path.join(TOP, "examples", "first-copy.transcript")
 
-# The statuses of a fault of the input, of the output and of a disk, and that of a copy that failed.
-READ_FAULT, WRITE_FAULT, DISK_FAULT, COPY_FAILED = 3, 4, 6, 9
+# The status of a fault of the input.
+READ_FAULT = 3
+
+# So many connections have no end within a test.
+MOST_AT_ONCE = 16
 
 # NFS4ERR_IO.
 IO = 5
@@ -32,8 +36,6 @@ FORMATTING, OPENING = 8, 10
 # A write of a part of a block reads the block and writes it; a commit is four calls, and a read of one block is one.
 WRITING, READING, COMMITTING = 2, 1, 4
 
-KEY = {name: bytes([number] * 32) for number, name in enumerate(("user", "dest"), 1)}
-
 
 def content(path):
     with open(path, "rb") as file:
@@ -47,7 +49,7 @@ def reads_fail(test, filling):
     """Each read of a schedule behind a remark of so many bytes fails. Nothing is put then, and no read follows."""
     text = b"#" * filling + b"\n" + content(SCHEDULE)
     for number in range(1, ALL_CALLS):
-        ended = run("run", text=text, env=failing(read=number))
+        ended = run("run", text=text, env=failing(f"input {number}"))
         if ended.status == 0:
             break
         test.assertEqual((number, ended), (number, Ended(READ_FAULT, b"", b"")))
@@ -59,10 +61,10 @@ def writes_fail(test):
     """Each write of a transcript fails. A front of it was put then, each a longer one, and no write follows."""
     due, before = content(TRANSCRIPT), -1
     for number in range(1, ALL_CALLS):
-        ended = run("run", text=content(SCHEDULE), env=failing(write=number))
+        ended = run("run", text=content(SCHEDULE), env=failing(f"output {number}"))
         if ended.status == 0:
             break
-        test.assertEqual((number, ended.status, ended.errors), (number, WRITE_FAULT, b""))
+        test.assertEqual((number, ended.status, ended.errors), (number, OUTPUT_FAULT, b""))
         test.assertEqual(due[: len(ended.printed)], ended.printed)
         test.assertTrue(before < len(ended.printed) < len(due))
         before = len(ended.printed)
@@ -100,68 +102,20 @@ class Folder:
 def formatting_fails(test, number):
     """A call on the disk that is formatted fails, or the one behind the last would."""
     with tempfile.TemporaryDirectory() as folder:
-        ended = run("format", "p", 1, 1, 7, folder=folder, env=failing(path="p", disk=number))
-    test.assertEqual(ended, Ended(DISK_FAULT, b"", b"") if number <= FORMATTING else Ended(0, b"formatted 9\n", b""))
+        ended = run("format", "p", 1, 1, 7, folder=folder, env=failing(f"disk {number}"))
+    test.assertEqual(ended, (DISK_FAULT, b"", b"") if number <= FORMATTING else (WORKED, b"formatted 9\n", b""))
 
 
-def free_port():
-    with socket.socket() as one:
-        one.bind(("127.0.0.1", 0))
-        return one.getsockname()[1]
-
-
-class Servers:
-    """Servers of a folder, with the volumes that they serve. Each is ended where it doesn't end itself."""
-
-    def __init__(self):
-        self.folder, self.begun = tempfile.TemporaryDirectory(), []
-
-    def __enter__(self):
-        for name in ("realm.txt", "source", "dest"):
-            make(self.folder.name, name)
-        return self
-
-    def __exit__(self, *_):
-        for server in self.begun:
-            if server.poll() is None:
-                server.kill()
-            server.communicate()
-        self.folder.cleanup()
-
-    def begin(self, command, path, *words, disk=0):
-        """A server on a port that was free: the port, and the server, which listens or has ended."""
-        port = free_port()
-        server = subprocess.Popen(
-            [PROGRAM, command, path, str(port), *map(str, words)],
-            stdin=subprocess.DEVNULL,
-            stdout=subprocess.PIPE,
-            stderr=subprocess.PIPE,
-            cwd=self.folder.name,
-            env=failing(path=path, disk=disk),
-        )
-        self.begun.append(server)
-        return port, server
-
-    def ended(self, server):
-        printed, errors = server.communicate(timeout=PATIENCE)
-        return Ended(server.returncode, printed, errors)
-
-
-def called(port, server):
-    """A client of a server, once it listens."""
-    await_listening(port, server)
-    return Caller(port, "user", KEY["user"])
-
-
-def statuses(caller):
+def statuses(port):
     """What a client's WRITE, COMMIT and READ are answered by, and the bytes that were read."""
     came, data = [], None
+    caller = Caller(port, "user", KEYS["user"])
     caller.join(b"test")
     opened = caller.open(1)
     for ask in (lambda: caller.write(opened, 0, b"0123456789"), lambda: caller.commit(opened), lambda: caller.read(opened, 0, 10)):
         try:
             data = ask()
-            came.append(0)
+            came.append(WORKED)
         except Refused as why:
             came.append(why.args[1])
     caller.socket.close()
@@ -171,62 +125,46 @@ def statuses(caller):
 def serving_fails(test, number):
     """A call on the disk of a source fails: it isn't served where that is one of those that open the volume; else the client learns of
     it by the call that meets it, and the server serves on to its end."""
-    with Servers() as servers:
-        port, server = servers.begin("serve-source", "source", 1, disk=number)
+    with new_folder() as folder:
+        make_volume(folder, "source", blocks=1)
+        fault = Failing(folder, f"disk {number}")
         if number <= OPENING:
-            test.assertEqual(servers.ended(server), Ended(DISK_FAULT, b"", b""))
+            test.assertEqual(refused_server(folder, "serve-source", "source", env=fault.env), (DISK_FAULT, b"", b""))
             return
-        came, data = statuses(called(port, server))
-        test.assertEqual(servers.ended(server), Ended(0, b"", b""))
+        with source(folder, 1, failing=fault) as server:
+            came, data = statuses(server.port)
+            server.end()
     met = number - OPENING
     if met <= WRITING:
         test.assertEqual(came[0], IO)
     elif met <= WRITING + COMMITTING:
-        test.assertEqual(came[:2], [0, IO])
+        test.assertEqual(came[:2], [WORKED, IO])
     elif met <= WRITING + COMMITTING + READING:
-        test.assertEqual(came, [0, 0, IO])
+        test.assertEqual(came, [WORKED, WORKED, IO])
     else:
-        test.assertEqual((came, data), ([0, 0, 0], b"0123456789"))
+        test.assertEqual((came, data), ([WORKED] * 3, b"0123456789"))
 
 
 def landing_fails(test, number):
     """A call on the disk of a destination fails: it isn't served where that is one of those that open the volume; else the copy fails
     where one is met that lands a chunk or commits it."""
-    with Servers() as servers:
-        source, _ = servers.begin("serve-source", "source", 3)
-        test.assertEqual(statuses(called(source, servers.begun[0])), ([0, 0, 0], b"0123456789"))
-        port, server = servers.begin("serve-dest", "dest", 1, 1, source, disk=number)
-        if number <= OPENING:
-            test.assertEqual(servers.ended(server), Ended(DISK_FAULT, b"", b""))
-            return
-        ended = copied(source, port, server, servers.folder.name)
-        test.assertEqual(servers.ended(server), Ended(0, b"", b""))
-        test.assertEqual(servers.ended(servers.begun[0]), Ended(0, b"", b""))
+    with new_folder() as folder:
+        for name in ("source", "dest"):
+            make_volume(folder, name, blocks=1)
+        fault = Failing(folder, f"disk {number}")
+        with source(folder, MOST_AT_ONCE) as of:
+            test.assertEqual(statuses(of.port), ([WORKED] * 3, b"0123456789"))
+            if number <= OPENING:
+                ended = refused_server(folder, "serve-dest", "dest", 1, 1, of.port, env=fault.env)
+                test.assertEqual(ended, (DISK_FAULT, b"", b""))
+                return
+            with destination(folder, 1, 1, of.port, failing=fault) as to:
+                ended = copy(folder, of.port, to.port, "1 0 1 0 10 c")
+                to.end()
     if number <= OPENING + WRITING + COMMITTING:
-        test.assertEqual(ended, Ended(COPY_FAILED, b"failed %d\n" % IO, b""))
+        test.assertEqual(ended, (COPY_FAILED, b"failed %d\n" % IO, b""))
     else:
-        test.assertEqual(ended, Ended(0, b"stable\nexact\n", b""))
-
-
-def listens(port):
-    """Whether a server listens at a port, by the system's list: a connection would be taken for a client's."""
-    with open("/proc/net/tcp", encoding="ascii") as sockets:
-        return any(f":{port:04X} 00000000:0000 0A" in line for line in sockets)
-
-
-def await_listening(port, server):
-    """Waits until a server listens at its port, or has ended."""
-    until = time.monotonic() + PATIENCE
-    while not listens(port):
-        if server.poll() is not None or time.monotonic() > until:
-            raise RuntimeError("a server doesn't listen")
-        time.sleep(0.005)
-
-
-def copied(source, dest, server, folder):
-    """One copy by the program as a client, once the destination listens."""
-    await_listening(dest, server)
-    return run("copy", source, dest, 1, 0, 1, 0, 10, "c", folder=folder)
+        test.assertEqual(ended, (WORKED, b"stable\nexact\n", b""))
 
 
 def disks():
@@ -248,7 +186,7 @@ def load_tests(loader, suite, _):
                 streams_fail,
                 [
                     (f"{word}: the input is a folder", word, TOP, os.devnull, READ_FAULT, b""),
-                    (f"{word}: the output is full", word, text, full, WRITE_FAULT, b""),
+                    (f"{word}: the output is full", word, text, full, OUTPUT_FAULT, b""),
                 ],
             )
         )

@@ -3,7 +3,7 @@ output fails; and that both servers end with status 0 all the same."""
 
 import unittest
 
-from support.failing_links import Failing
+from support.before import Failing
 from support.program import run_into
 from support.proxy import ANY, OVER, RESET, TO_CLIENT, TO_SERVER, Proxy, Rule, cut, instead, marked, repeated
 from support.servers import (COPY_FAILED, NET_FAULT, OUTPUT_FAULT, WORKED, content, copy, destination, file_of, free_port,

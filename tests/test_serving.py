@@ -12,7 +12,7 @@ import unittest
 
 from support.caller import (CLOSE, COMMIT, CREATE_SESSION, DATA, DESTROY, DESTROY_CLIENTID, DESTROY_SESSION, EXCHANGE_ID, GETFH, NULL,
                             OPEN, PUTFH, PUTROOTFH, RECLAIM_COMPLETE, SEQUENCE, WRITE, Caller, Ended, long, opaque, word)
-from support.failing_links import Failing
+from support.before import Failing
 from support.program import PATIENCE, run, run_into
 from support.proxy import marked, reset
 from support.servers import (BLOCK, DISK_FAULT, KEYS, NET_FAULT, NO_COMMAND, NO_VOLUME, NOT_OPENED, OUTPUT_FAULT, PIECE, WORKED, Server,

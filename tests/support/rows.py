@@ -21,12 +21,12 @@ REALM = "".join(f"{name} {byte * 32}\n" for name, byte in (("user", "01"), ("des
 
 
 class Setting(NamedTuple):
-    """What holds of a row: what stands before and behind its text, the program's words, which call fails, and the files of its folder."""
+    """What holds of a row: what stands before and behind its text, the program's words, which calls fail, and the files of its folder."""
 
     before: bytes = b""
     after: bytes = b""
     words: Tuple[str, ...] = ("run",)
-    failing: Tuple[Tuple[str, int], ...] = ()
+    failing: Tuple[str, ...] = ()
     files: Tuple[str, ...] = ()
 
     def read(self, line):
@@ -40,9 +40,9 @@ class Setting(NamedTuple):
         if name == "folder":
             return self._replace(files=words)
         if name == "fails":
-            return self._replace(failing=(("read", int(words[0])), ("write", int(words[1]))))
+            return self._replace(failing=tuple(f"{call} {at}" for call, at in zip(("input", "output"), words) if at != "0"))
         if name == "dials":
-            return self._replace(failing=(("dial", int(words[0])),))
+            return self._replace(failing=tuple(f"connect {at}" for at in words if at != "0"))
         return None
 
 
@@ -84,7 +84,7 @@ def is_answered(test, row):
     with tempfile.TemporaryDirectory() as folder:
         for name in setting.files:
             make(folder, name)
-        ended = run(*setting.words, text=row.text, folder=folder, env=failing(**dict(setting.failing)))
+        ended = run(*setting.words, text=row.text, folder=folder, env=failing(*setting.failing))
     test.assertEqual((ended.status, shown(ended.printed), ended.errors), (row.number, shown(row.put), b""))
 
 
