@@ -165,6 +165,7 @@ class Loopback(unittest.TestCase):
             # Its servers are of its session, and go on where it fails.
             with contextlib.suppress(ProcessLookupError):
                 os.killpg(child.pid, signal.SIGKILL)
+            child.communicate()
         self.assertEqual((child.returncode, errors), (0, b""))
         return printed
 

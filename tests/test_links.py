@@ -1,6 +1,7 @@
 """What `copy` prints and with which status it ends, where its links end, bring what they shouldn't or fail, or where a dial, a draw or its
 output fails; and that both servers end with status 0 all the same."""
 
+import contextlib
 import unittest
 
 from support.before import Failing
@@ -36,19 +37,20 @@ def ended(result):
 class Servers:
     """A source with a small file and a destination with an empty one, for one copy."""
 
-    def __init__(self, folder, conns=(2, 1)):
+    def __init__(self, folder):
         self.folder = folder
         make_volume(folder, "source", tag=1, data=content(SMALL))
         make_volume(folder, "dest", tag=2)
-        self.source = source(folder, conns[0])
-        self.dest = destination(folder, conns[1], 1, self.source.port)
 
     def __enter__(self):
+        with contextlib.ExitStack() as started:
+            self.source = started.enter_context(source(self.folder, 2))
+            self.dest = started.enter_context(destination(self.folder, 1, 1, self.source.port))
+            self.started = started.pop_all()
         return self
 
     def __exit__(self, *_):
-        self.dest.kill()
-        self.source.kill()
+        self.started.close()
 
     def end(self):
         """Both end with status 0. The destination's file is read then."""

@@ -194,11 +194,16 @@ class Server:
         for _ in range(1 if port else MOST_PORTS):
             self.port = port or free_port()
             self.begin(command, volume, self.port, conns, *more)
-            if self.comes_to_listen():
-                return
+            try:
+                if self.comes_to_listen():
+                    return
+            except BaseException:
+                # Nobody else would end it.
+                self.kill()
+                raise
+            printed, errors = self.child.communicate()
             if self.child.returncode != NET_FAULT:
                 break
-        printed, errors = self.child.communicate()
         raise AssertionError(f"{command} doesn't listen: it ended with {self.child.returncode}, {printed!r} {errors!r}")
 
     def begin(self, *words):
