@@ -1,3 +1,4 @@
 pub mod Desk
 pub mod GivenLaws
+pub mod InFlight
 pub mod Workers

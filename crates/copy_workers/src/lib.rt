@@ -4,7 +4,8 @@
 //! A [`Desk`] is what lies under the lock, and a [`Link`] a worker's way to the source. [`run_workers`] runs a thread for each
 //! link until its turns are used, its link is down or the desk is closed; its [`WorkerReport`] tells of each worker why it ended,
 //! and ties what landed to the desk's book. The contracts to read first are those of [`Desk::turn`] and [`run_workers`], with
-//! `specs/Workers.antt`. A [`Gate`] is where workers rest. Nothing is said of which worker comes first, or that a rest ends.
+//! `specs/Workers.antt`. A [`Gate`] is where workers rest. Nothing is said of which worker comes first, or that a rest ends. Which
+//! records answer a worker's calls stands in `specs/InFlight.antt`.
 #![tactic(auto)]
 
 mod counting;
@@ -12,6 +13,7 @@ mod crew;
 mod desk;
 mod gate;
 mod holding;
+mod in_flight;
 mod link;
 mod report;
 mod sending;

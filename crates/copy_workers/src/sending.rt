@@ -2,33 +2,38 @@ ghost use Rattle.std.specs.Prelude.{◌≡◌, ◌+◌, ◌<◌, ◌≤◌, ◌^
 ghost use Rattle.rpc_msg.specs.Records.{record_limit};
 ghost use Rattle.rpc_msg.specs.Watching.{is_down};
 ghost use Rattle.copy_workers.specs.Desk.{given_to, IsSmall};
-ghost use Rattle.outbox.specs.Counting.{records_to};
+ghost use Rattle.copy_workers.specs.InFlight.{with_calls, xids_of};
 ghost use Rattle.copy_workers.specs.Workers.{Sends};
 
+use crate::in_flight::InFlight;
 use crate::link::Link;
 use outbox::{Outgoing, To};
 use rpc_msg::{Put, Sink, Watched, mark};
 
-// Sends the records that are to the worker's link, and says how many they are.
-pub(crate) fn send_all<N: Link>(link: &mut Watched<N>, worker: u8, sent: &[Outgoing]) -> u64
+// Sends the records that are to the worker's link, and says which calls await an answer then.
+pub(crate) fn send_all<N: Link>(
+    link: &mut Watched<N>,
+    worker: u8,
+    awaited: InFlight,
+    sent: &[Outgoing],
+) -> InFlight
     requires small { All IsSmall sent.now }
     requires room { link.old.sent + given_to worker sent.now < 2 ^ 64 }
-    requires few { records_to worker sent.now ≤ 2 }
-    ensures count { result ≡ records_to worker sent.now }
+    ensures awaited { xids_of result ≡ with_calls worker sent.now (xids_of awaited) }
     ensures sends { Sends (given_to worker sent.now) link.old.sent link.new.sent (is_down link.new.signs) }
     ensures down { is_down link.old.signs ≡ true → is_down link.new.signs ≡ true }
 {
-    let mut count = 0;
+    let mut awaited = awaited;
     'records: for outgoing in sent {
         match outgoing.to {
             To::Source(number) if number == worker => {
                 send_one(link, outgoing.bytes.as_slice());
-                count += 1;
+                awaited = awaited.with(outgoing.bytes.as_slice());
             }
             _ => {}
         }
     }
-    count
+    awaited
 }
 
 // Hands the records on that are to connections.

@@ -1,13 +1,15 @@
-ghost use Rattle.std.specs.Prelude.{◌≡◌, ◌+◌, ◌*◌, ◌<◌, ◌≤◌, ◌^◌, true, is_some};
+ghost use Rattle.std.specs.Prelude.{◌≡◌, ◌≢◌, ◌+◌, ◌*◌, ◌<◌, ◌≤◌, ◌^◌, true, [], is_some, if◌then◌else◌};
 ghost use Rattle.rpc_msg.specs.Watching.{is_down};
 ghost use Rattle.copy_workers.specs.Desk.{chunk_limit, given_limit, given_to, IsModest};
-ghost use Rattle.outbox.specs.Counting.{records_to, landed_in};
+ghost use Rattle.outbox.specs.Counting.{landed_in};
+ghost use Rattle.copy_workers.specs.InFlight.{answered_by, with_calls, xid_of, xids_of};
 ghost use Rattle.copy_workers.specs.Workers.{Sends, WasShut, WorkerIs};
 
 use crate::counting::{given_to, landed_in};
 use crate::desk::Desk;
 use crate::gate::Gate;
 use crate::holding::{Held, hold};
+use crate::in_flight::InFlight;
 use crate::link::Link;
 use crate::report::{Ended, WorkerEnd};
 use crate::sending::{post_all, send_all};
@@ -20,8 +22,8 @@ use std::sync::{Mutex, Wait};
 // How often the desk is told that a link is down, where memory is refused.
 const TRIES: u32 = 100;
 
-// Works until the turns are used, the link is down or the desk is closed. Replies are taken as records were sent, and one for
-// which memory was refused is kept and given again.
+// Works until the turns are used, the link is down or the desk is closed. Records are taken as long as a call awaits its answer, and
+// each is given to the desk, whether it is one or not; one for which memory was refused is kept and given again.
 pub(crate) fn work_all<R: Wait, L: Ledger, T: Ledger, G: Ledger, N: Link, K: Desk<L, T, G, N>>(
     rt: &R,
     alloc: Global,
@@ -51,10 +53,10 @@ pub(crate) fn work_all<R: Wait, L: Ledger, T: Ledger, G: Ledger, N: Link, K: Des
     ensures shut { WasShut K.shut_by result.1 }
 {
     let mut done = Ended::nothing();
-    let mut owed = 0;
+    let mut awaited = InFlight::Nothing;
     let mut kept = false;
     'turns: while done.turned < turns {
-        let reply = fetch(link, owed, kept);
+        let reply = fetch(link, awaited, kept);
         if link.down().is_some() {
             report_down(rt, alloc, gate, desk, worker, link);
             return (done.ending(WorkerEnd::Down), None);
@@ -68,7 +70,14 @@ pub(crate) fn work_all<R: Wait, L: Ledger, T: Ledger, G: Ledger, N: Link, K: Des
             }
             Held::Gave(out) => {
                 done.count(worker, &out);
-                owed = owed - u64::from(reply) + carry_out(link, gate, worker, reply, &out);
+                awaited = carry_out(
+                    link,
+                    gate,
+                    worker,
+                    awaited_still(link, awaited, reply),
+                    reply,
+                    &out,
+                );
                 kept = false;
             }
         }
@@ -80,34 +89,45 @@ pub(crate) fn work_all<R: Wait, L: Ledger, T: Ledger, G: Ledger, N: Link, K: Des
     (done.ending(WorkerEnd::Turns), None)
 }
 
-// Takes the next reply where one is owed and none is kept, and says whether there is one. The link may go down by it.
-fn fetch<N: Link>(link: &mut Watched<N>, owed: u64, kept: bool) -> bool
-    ensures owed { result ≡ true → 0 < owed }
+// Takes the next record where a call awaits its answer and none is kept, and says whether there is one. The link may go down by it.
+fn fetch<N: Link>(link: &mut Watched<N>, awaited: InFlight, kept: bool) -> bool
+    ensures awaited { result ≡ true → xids_of awaited ≢ [] }
     ensures sent { link.new.sent ≡ link.old.sent }
     ensures down { is_down link.old.signs ≡ true → is_down link.new.signs ≡ true }
 {
-    if owed == 0 {
+    if awaited.is_empty() {
         return false;
     }
     kept || link.next() == Got::Whole
 }
 
-// Sends what a holding gave, wakes the others where it may have given them work, and rests where there was nothing to send. It
-// says how many replies will come.
+// Which calls await an answer still, behind the record that came, where one did.
+fn awaited_still<N: Link>(link: &Watched<N>, awaited: InFlight, reply: bool) -> InFlight
+    ensures { xids_of result ≡ (if reply then answered_by (xid_of link.now.feed.told) (xids_of awaited) else xids_of awaited) }
+{
+    if reply {
+        return awaited.without(link.record());
+    }
+    awaited
+}
+
+// Sends what a holding gave, wakes the others where it may have given them work, and rests where there was nothing to send. It says
+// which calls await an answer then.
 fn carry_out<N: Link>(
     link: &mut Watched<N>,
     gate: &Gate,
     worker: u8,
+    awaited: InFlight,
     reply: bool,
     out: &Outbox,
-) -> u64
+) -> InFlight
     requires modest { IsModest worker out.now }
     requires room { link.old.sent + given_to worker out.now.sent < 2 ^ 64 }
-    ensures count { result ≡ records_to worker out.now.sent }
+    ensures awaited { xids_of result ≡ with_calls worker out.now.sent (xids_of awaited) }
     ensures sends { Sends (given_to worker out.now.sent) link.old.sent link.new.sent (is_down link.new.signs) }
     ensures down { is_down link.old.signs ≡ true → is_down link.new.signs ≡ true }
 {
-    let count = send_all(link, worker, out.sent.as_slice());
+    let awaited = send_all(link, worker, awaited, out.sent.as_slice());
     post_all(link, out.sent.as_slice());
     if reply || !out.notes.as_slice().is_empty() {
         gate.wake();
@@ -115,7 +135,7 @@ fn carry_out<N: Link>(
     if out.sent.is_empty() {
         link.link().rest();
     }
-    count
+    awaited
 }
 
 // Tells the desk that the worker's link is down.

@@ -7,8 +7,8 @@ use std::sync::atomic::{AtomicU64, Ordering};
 use std::thread::yield_now;
 use streams::{Put, Sink, Source, Stream, Take};
 
-/// A record of eight bytes, behind its mark (RFC 5531 section 11).
-const REPLY: [u8; 12] = [0x80, 0, 0, 8, 1, 2, 3, 4, 5, 6, 7, 8];
+/// A record of eight bytes, behind its mark (RFC 5531 section 11). Its first word is that of each call of the toy machine.
+const REPLY: [u8; 12] = [0x80, 0, 0, 8, b'c', b'a', b'l', b'l', 5, 6, 7, 8];
 
 /// How often a link looks whether the crowd has come.
 const LOOKS: u32 = 1_000_000;

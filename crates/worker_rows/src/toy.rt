@@ -66,7 +66,7 @@ fn ask(alloc: Global, worker: u8) -> Mem<Outbox>
     let mut out = Outbox::new(alloc)?;
     out.sent.push(Outgoing {
         to: To::Source(worker),
-        bytes: Octets::from_slice(alloc, b"record")?,
+        bytes: Octets::from_slice(alloc, b"call 1")?,
         seal: None,
         label: Label::Call(CallLabel::Null),
     })?;

@@ -2,10 +2,11 @@ use Rattle.std.proofs.Common.{ap, arith}
 use Rattle.rpc_msg.specs.Watching.{is_down}
 use Rattle.copy_workers.proofs.Sent.{sends_join, sends_none, up_by}
 use Rattle.copy_workers.specs.GivenLaws.{modest_given}
+use Rattle.copy_workers.specs.Workers.{Sends}
 use Rattle.copy_workers.proofs.worker.work_all.Goals as goal
 
-pub carry_out-requires-clause-room : goal.carry_out-requires-clause-room
-carry_out-requires-clause-room g c =
+pub carry_out-awaited-requires-clause-room : goal.carry_out-awaited-requires-clause-room
+carry_out-awaited-requires-clause-room g c =
     let kept = c.turns.invariant in
     let modest = c.in-Gave.ensures.modest in
     omega (arith, c.fetch-reply.ensures.sent, kept.sends.most, kept.few, kept.within, c.requires.turns, modest_given _ _ modest)
@@ -18,7 +19,8 @@ turns-preserved g c =
     let share = ap (λ d. d.share) c.count.ensures in
     let turned = ap (λ d. d.turned) c.count.ensures in
     let given = ap (λ d. d.given) c.count.ensures in
-    let fetched = sends_join kept.sends (sends_none _ _ (is_down c.fetch-reply.new.link.signs) c.fetch-reply.ensures.sent)
+    let fetched : Sends c.turns.done.given 0 c.fetch-reply.new.link.sent (is_down c.fetch-reply.new.link.signs) =
+    sends_join kept.sends (sends_none _ _ (is_down c.fetch-reply.new.link.signs) c.fetch-reply.ensures.sent)
     c.fetch-reply.ensures.down (omega arith) in record {
       share_parts = omega (arith, held.share_parts, kept.share_parts);
       turned_parts = omega (arith, held.turned_parts, kept.turned_parts);
@@ -29,8 +31,7 @@ turns-preserved g c =
       within = omega (arith, c.turns-test.true, turned);
       landed = omega (arith, kept.landed, share, turned, modest.one_chunk);
       few = omega (arith, kept.few, given, turned, modest_given _ _ modest);
-      owed = omega (arith, kept.owed, c.carry_out.ensures.count, modest.few, turned);
-      sends = sends_join fetched c.carry_out.ensures.sends c.carry_out.ensures.down given;
+      sends = sends_join fetched c.carry_out-awaited.ensures.sends c.carry_out-awaited.ensures.down given;
     }
 
 pub returns-clause-worker : goal.returns-clause-worker

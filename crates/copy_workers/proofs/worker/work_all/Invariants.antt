@@ -15,7 +15,6 @@ invariant-turns g l = record {
   within : l.done.turned ≤ l.turns;
   landed : l.done.share ≤ chunk_limit * l.done.turned;
   few : l.done.given ≤ given_limit * l.done.turned;
-  owed : l.owed ≤ 2 * l.done.turned;
   sends : Sends l.done.given 0 l.link.sent (is_down l.link.signs);
 }
 
