@@ -1,10 +1,13 @@
-"""Workers of a destination, as processes on ports of this machine: records that answer no call of theirs don't put them out of step."""
+"""Workers of a destination, as processes on ports of this machine: records that answer no call of theirs don't put them out of step, and a
+destination that has nothing to do hardly runs."""
 
+import os
+import time
 import unittest
 
 from support.program import Ended
 from support.proxy import ANY, TO_CLIENT, Proxy, Rule, before, marked, repeated
-from support.servers import WORKED, content, copy, destination, file_of, make_volume, new_folder, source
+from support.servers import WORKED, awaited, content, copy, destination, file_of, make_volume, new_folder, source
 from support.tables import each
 
 EXACT = Ended(WORKED, b"stable\nexact\n", b"")
@@ -15,15 +18,22 @@ SIZE = 655_360
 # A record that answers nothing: it has an xid, and nothing behind that.
 STRAY = marked(bytes(4))
 
+# How long a destination has nothing to do, in seconds.
+IDLE = 20
 
-def copies_over(test, workers, letter, *rules):
-    """A copy whose workers reach the source by a proxy with these rules."""
+# How many wakes of the system a worker takes at most where there is nothing to do: it had ten a second before its rests grew.
+FEW = 20
+
+
+def copies_over(test, workers, letter, *rules, first=lambda process, proxy: None):
+    """A copy whose workers reach the source by a proxy with these rules, behind something that is done with the destination's process."""
     data = content(SIZE)
     with new_folder() as folder:
         make_volume(folder, "source", blocks=192, tag=1, data=data)
         make_volume(folder, "dest", blocks=192, tag=2)
         with source(folder, 1 + workers) as of, Proxy(of.port, *rules) as proxy:
             with destination(folder, 1, workers, proxy.port) as to:
+                first(to.child.pid, proxy)
                 test.assertEqual(copy(folder, of.port, to.port, f"1 0 1 0 {SIZE} {letter}"), EXACT)
                 to.end()
                 of.end()
@@ -36,6 +46,30 @@ def stays_in_step(test, workers, act):
     copies_over(test, workers, "n", Rule(TO_CLIENT, ANY, act))
 
 
+def rests_long(test, workers):
+    """A destination that has nothing to do wakes hardly ever, and copies behind that."""
+    def rest(process, _):
+        # Beside the workers there are the thread that accepts connections and the one that started the workers.
+        awaited("the workers have begun", lambda: len(wakes_of(process)) == workers + 2)
+        old = wakes_of(process)
+        time.sleep(IDLE)
+        new = wakes_of(process)
+        test.assertEqual(sorted(new), sorted(old))
+        test.assertLess(max(new[thread] - old[thread] for thread in new), FEW)
+    copies_over(test, workers, "n", first=rest)
+
+
+def wakes_of(process):
+    """How often each thread of a process has waited for something and come back."""
+    folder = f"/proc/{process}/task"
+    return {thread: waits_in(os.path.join(folder, thread, "status")) for thread in os.listdir(folder)}
+
+
+def waits_in(file):
+    with open(file, encoding="ascii") as status:
+        return next(int(line.split()[1]) for line in status if line.startswith("voluntary_ctxt_switches"))
+
+
 def load_tests(loader, suite, _):
     acts = [
         ("twice", repeated()),
@@ -44,6 +78,7 @@ def load_tests(loader, suite, _):
     ]
     suite.addTests(each(stays_in_step, ((f"each record to a worker comes {how}, workers {workers}", workers, act)
                                         for how, act in acts for workers in (1, 4))))
+    suite.addTests(each(rests_long, [("a destination has nothing to do", 4)]))
     return suite
 
 

@@ -1,7 +1,7 @@
 ghost use Rattle.std.specs.Prelude.{◌≡◌};
 
 use callback_links::Line;
-use copy_workers::{Gate, Link, Resting};
+use copy_workers::{Gate, Link, Rest, Resting};
 use std::marker::Model;
 use std::sync::ledger::Ledger;
 use std::sync::{Mutex, Wait};
@@ -75,8 +75,8 @@ impl<'a, R: Wait, B: Ledger, F: Source, T: Sink> Sink for WorkerLink<'a, R, B, F
 }
 
 impl<'a, R: Wait, B: Ledger, F: Source, T: Sink + Drop> Link for WorkerLink<'a, R, B, F, T> {
-    fn rest(&mut self) {
-        self.resting.rest();
+    fn rest(&mut self, rest: Rest) -> bool {
+        self.resting.rest(rest)
     }
 
     fn post(&mut self, conn: u32, bytes: &[u8]) {

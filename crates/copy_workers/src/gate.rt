@@ -1,13 +1,15 @@
+use crate::pace::Rest;
 use std::sync::Wait;
 use std::sync::atomic::{AtomicU64, Ordering};
 use std::time::Duration;
 
-// A rest is no longer than this many milliseconds.
+// Who waits for something past the wakes that it saw looks for it again after so many milliseconds.
 const REST_MILLIS: u64 = 100;
 
 /// Where workers rest until something was done that may have given them work. Anyone may wake them, with no lock.
 pub struct Gate {
     wakes: AtomicU64,
+    still: AtomicU64,
 }
 
 impl Gate {
@@ -15,6 +17,7 @@ impl Gate {
     pub fn new() -> Gate {
         Gate {
             wakes: AtomicU64::new(0),
+            still: AtomicU64::new(0),
         }
     }
 
@@ -26,18 +29,31 @@ impl Gate {
 
     /// Rests until there was a wake after those that were seen, or for a tenth of a second. It answers the wakes seen then.
     pub fn wait_past<R: Wait>(&self, rt: &R, seen: u64) -> u64 {
-        if self.wakes.load(Ordering::SeqCst) == seen {
+        self.wait(rt, seen, REST_MILLIS)
+    }
+
+    // Rests until there was a wake after those that were seen, or for so many milliseconds. It answers the wakes seen then.
+    fn wait<R: Wait>(&self, rt: &R, seen: u64, millis: u64) -> u64 {
+        if millis > 0 && self.wakes.load(Ordering::SeqCst) == seen {
             let low = (seen % 0x1_0000_0000) as u32;
             self.wakes
-                .park_timeout(rt, low, Duration::from_millis(REST_MILLIS));
+                .park_timeout(rt, low, Duration::from_millis(millis));
         }
         self.wakes.load(Ordering::SeqCst)
+    }
+
+    // Rests for so many milliseconds, whoever wakes.
+    fn stand_still<R: Wait>(&self, rt: &R, millis: u64) {
+        if millis > 0 {
+            self.still
+                .park_timeout(rt, 0, Duration::from_millis(millis));
+        }
     }
 }
 
 impl Drop for Gate {
     fn drop(self) {
-        let Gate { wakes: _ } = self;
+        let Gate { wakes: _, still: _ } = self;
     }
 }
 
@@ -55,8 +71,12 @@ impl<'a, R: Wait> Resting<'a, R> {
         Resting { rt, gate, seen: 0 }
     }
 
-    /// Rests until there was a wake since the last rest ended, or for a tenth of a second.
-    pub fn rest(&mut self) {
-        self.seen = self.gate.wait_past(self.rt, self.seen);
+    /// Rests until there was a wake since the last rest ended, but no shorter and no longer than this rest may be. Whether there was one.
+    pub fn rest(&mut self, rest: Rest) -> bool {
+        let seen = self.seen;
+        self.gate.stand_still(self.rt, rest.least);
+        let left = rest.most.saturating_sub(rest.least);
+        self.seen = self.gate.wait(self.rt, seen, left);
+        self.seen != seen
     }
 }

@@ -4,8 +4,8 @@
 //! A [`Desk`] is what lies under the lock, and a [`Link`] a worker's way to the source. [`run_workers`] runs a thread for each
 //! link until its turns are used, its link is down or the desk is closed; its [`WorkerReport`] tells of each worker why it ended,
 //! and ties what landed to the desk's book. The contracts to read first are those of [`Desk::turn`] and [`run_workers`], with
-//! `specs/Workers.antt`. A [`Gate`] is where workers rest. Nothing is said of which worker comes first, or that a rest ends. Which
-//! records answer a worker's calls stands in `specs/InFlight.antt`.
+//! `specs/Workers.antt`. A [`Gate`] is where workers rest. Nothing is said of which worker comes first, or that a rest ends; how long
+//! one may be, by how a worker's turns went, stands in `specs/Pace.antt`, and which records answer its calls in `specs/InFlight.antt`.
 #![tactic(auto)]
 
 mod counting;
@@ -15,8 +15,10 @@ mod gate;
 mod holding;
 mod in_flight;
 mod link;
+mod pace;
 mod report;
 mod sending;
+mod turn;
 mod worker;
 
 pub use counting::{given_to, landed_in};
@@ -24,4 +26,5 @@ pub use crew::run_workers;
 pub use desk::Desk;
 pub use gate::{Gate, Resting};
 pub use link::Link;
+pub use pace::Rest;
 pub use report::{WorkerEnd, WorkerReport};

@@ -11,8 +11,10 @@ use crate::gate::Gate;
 use crate::holding::{Held, hold};
 use crate::in_flight::InFlight;
 use crate::link::Link;
+use crate::pace::Pace;
 use crate::report::{Ended, WorkerEnd};
 use crate::sending::{post_all, send_all};
+use crate::turn::{Turn, may_give_work, turn_of};
 use outbox::Outbox;
 use rpc_msg::{Got, Watched};
 use std::alloc::Global;
@@ -54,6 +56,7 @@ pub(crate) fn work_all<R: Wait, L: Ledger, T: Ledger, G: Ledger, N: Link, K: Des
 {
     let mut done = Ended::nothing();
     let mut awaited = InFlight::Nothing;
+    let mut pace = Pace::new();
     let mut kept = false;
     'turns: while done.turned < turns {
         let reply = fetch(link, awaited, kept);
@@ -66,7 +69,7 @@ pub(crate) fn work_all<R: Wait, L: Ledger, T: Ledger, G: Ledger, N: Link, K: Des
             Held::Starved => {
                 done.turned += 1;
                 kept = reply;
-                link.link().rest();
+                pace = take_rest(link, pace.after(Turn::Wanting), InFlight::Nothing);
             }
             Held::Gave(out) => {
                 done.count(worker, &out);
@@ -78,6 +81,7 @@ pub(crate) fn work_all<R: Wait, L: Ledger, T: Ledger, G: Ledger, N: Link, K: Des
                     reply,
                     &out,
                 );
+                pace = take_rest(link, pace.after(turn_of(reply, &out)), awaited);
                 kept = false;
             }
         }
@@ -111,8 +115,7 @@ fn awaited_still<N: Link>(link: &Watched<N>, awaited: InFlight, reply: bool) -> 
     awaited
 }
 
-// Sends what a holding gave, wakes the others where it may have given them work, and rests where there was nothing to send. It says
-// which calls await an answer then.
+// Sends what a holding gave, and wakes the others where it may have given them work. It says which calls await an answer then.
 fn carry_out<N: Link>(
     link: &mut Watched<N>,
     gate: &Gate,
@@ -129,13 +132,22 @@ fn carry_out<N: Link>(
 {
     let awaited = send_all(link, worker, awaited, out.sent.as_slice());
     post_all(link, out.sent.as_slice());
-    if reply || !out.notes.as_slice().is_empty() {
+    if may_give_work(reply, out.notes.as_slice()) {
         gate.wake();
     }
-    if out.sent.is_empty() {
-        link.link().rest();
-    }
     awaited
+}
+
+// Rests as long as is due, where no call awaits an answer.
+fn take_rest<N: Link>(link: &mut Watched<N>, pace: Pace, awaited: InFlight) -> Pace
+    ensures sent { link.new.sent ≡ link.old.sent }
+    ensures signs { link.new.signs ≡ link.old.signs }
+{
+    if !awaited.is_empty() {
+        return pace;
+    }
+    let woken = link.link().rest(pace.rest());
+    pace.rested(woken)
 }
 
 // Tells the desk that the worker's link is down.
@@ -161,7 +173,9 @@ fn report_down<R: Wait, L: Ledger, T: Ledger, G: Ledger, N: Link, K: Desk<L, T, 
                 gate.wake();
                 return;
             }
-            Err(_) => link.link().rest(),
+            Err(_) => {
+                take_rest(link, Pace::new().after(Turn::Wanting), InFlight::Nothing);
+            }
         }
     }
 }

@@ -5,7 +5,7 @@ ghost use Rattle.std.specs.Prelude.{◌≡◌, [], None};
 use crate::making::CHUNK;
 use crate::plan::Links;
 use crate::room::Room;
-use copy_workers::{Link, Resting};
+use copy_workers::{Link, Rest, Resting};
 use outbox::Outgoing;
 use outcome::Mem;
 use rpc_msg::{Fed, RECORD_LIMIT, RecordFeed, mark};
@@ -149,8 +149,8 @@ impl<'a, R: Wait, L: Ledger, T: Ledger, G: Ledger> Sink for RoomLink<'a, R, L, T
 }
 
 impl<'a, R: Wait, L: Ledger, T: Ledger, G: Ledger> Link for RoomLink<'a, R, L, T, G> {
-    fn rest(&mut self) {
-        self.resting.rest();
+    fn rest(&mut self, rest: Rest) -> bool {
+        self.resting.rest(rest)
     }
 
     fn post(&mut self, _conn: u32, bytes: &[u8]) {

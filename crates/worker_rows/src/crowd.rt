@@ -2,7 +2,7 @@
 
 ghost use Rattle.std.specs.Prelude.{◌<◌, [], None};
 
-use copy_workers::Link;
+use copy_workers::{Link, Rest};
 use std::sync::atomic::{AtomicU64, Ordering};
 use std::thread::yield_now;
 use streams::{Put, Sink, Source, Stream, Take};
@@ -74,8 +74,9 @@ impl<'a> Sink for CrowdLink<'a> {
 }
 
 impl<'a> Link for CrowdLink<'a> {
-    fn rest(&mut self) {
+    fn rest(&mut self, _rest: Rest) -> bool {
         yield_now();
+        true
     }
 
     fn post(&mut self, _conn: u32, _bytes: &[u8]) {}

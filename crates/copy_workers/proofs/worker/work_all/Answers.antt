@@ -16,6 +16,7 @@ turns-preserved g c =
     let kept = c.turns.invariant in
     let held = c.in-Gave.ensures in
     let modest = held.modest in
+    let rest = c.take_rest-pace-in-Gave.ensures in
     let share = ap (λ d. d.share) c.count.ensures in
     let turned = ap (λ d. d.turned) c.count.ensures in
     let given = ap (λ d. d.given) c.count.ensures in
@@ -31,7 +32,7 @@ turns-preserved g c =
       within = omega (arith, c.turns-test.true, turned);
       landed = omega (arith, kept.landed, share, turned, modest.one_chunk);
       few = omega (arith, kept.few, given, turned, modest_given _ _ modest);
-      sends = sends_join fetched c.carry_out-awaited.ensures.sends c.carry_out-awaited.ensures.down given;
+      sends = rw (rest.sent, rest.signs) (sends_join fetched c.carry_out-awaited.ensures.sends c.carry_out-awaited.ensures.down given);
     }
 
 pub returns-clause-worker : goal.returns-clause-worker
