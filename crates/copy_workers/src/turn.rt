@@ -9,7 +9,7 @@ pub(crate) enum Turn {
     /// It took, told or sent something.
     Worked,
 
-    /// There was nothing to do.
+    /// There was nothing to do, or the chunk that the worker holds has to wait.
     Empty,
 
     /// There was something to do, but a draw failed or memory was refused.
@@ -28,12 +28,14 @@ pub(crate) fn turn_of(reply: bool, out: &Outbox) -> Turn
     }
 }
 
-// Whether a turn may have given others work.
+// Whether a turn may have given others work. A chunk that has to wait gives none: a worker that said so would wake itself, and each
+// other one that holds a chunk, and none of them would ever rest.
 pub(crate) fn may_give_work(reply: bool, notes: &[Note]) -> bool
     ensures { result ≡ may_give_work reply notes.now }
 {
     match notes {
         [] => reply,
+        [Note::Held { .. }] => false,
         _ => true,
     }
 }
