@@ -10,7 +10,7 @@ TOP = os.path.dirname(os.path.dirname(os.path.dirname(os.path.realpath(__file__)
 PROGRAM = os.environ.get("NFSCOPY_PROGRAM") or os.path.join(TOP, "crates", "nfscopy_main", "out", "nfscopy_main")
 
 # No run of the tests lasts longer than this, in seconds: one that does hangs.
-PATIENCE = 60
+PATIENCE = 120
 
 
 class Ended(NamedTuple):
