@@ -49,6 +49,7 @@ class Talk:
     def __init__(self, test, port, number=1, boot=1):
         self.test, self.number, self.boot = test, number, boot
         self.caller = Caller(port, "user", KEYS["user"], PATIENCE)
+        test.addCleanup(self.hang_up)
         self.session = word(boot) + word(number) + bytes(8)
         self.client = word(boot) + word(number)
         self.stateid = word(1) + word(1) + word(boot) + word(number)
@@ -289,7 +290,9 @@ class Serving(unittest.TestCase):
         for _ in range(20):
             talk.caller.send(talk.caller.call(NULL, DATA, b""))
         reset(talk.caller.socket)
-        Talk(self, server.port, 2).join()
+        another = Talk(self, server.port, 2)
+        another.join()
+        another.hang_up()
         server.end()
 
     # ---- a call of a link fails: that connection ends alone
@@ -456,34 +459,37 @@ class Killed(unittest.TestCase):
         dice = random.Random(3)
         with new_folder() as folder:
             make_volume(folder, "source", tag=TAG)
-            known, commits = bytes(PIECE), 0
+            known = bytes(PIECE)
             for _ in range(KILLS):
                 with source(folder, 1) as server:
-                    known, maybe, made = self.write_until_killed(server, known, dice)
-                    commits += made
+                    known, maybe, commits = self.write_until_killed(server, known, dice)
+                    self.assertEqual(server.kill(), -signal.SIGKILL)
                 found = file_of(folder, "source", PIECE)
                 self.assertIn(found, (known, maybe))
+                self.assertGreater(commits, 0)
                 known = found
-            self.assertGreater(commits, 0)
 
     def write_until_killed(self, server, known, dice):
-        """Writes and commits until the server is killed. What was committed, what was being written, and how many commits there were."""
-        timer = threading.Timer(dice.uniform(0.05, 0.3), server.kill)
+        """Writes and commits until the server is killed, at some moment behind the first commit. What was committed, what was being
+        written, and how many commits there were."""
+        timer = threading.Timer(dice.uniform(0, 0.2), server.kill)
         maybe, commits = known, 0
+        caller = Caller(server.port, "user", KEYS["user"], PATIENCE)
+        caller.join(b"killed")
+        opened = caller.open(1)
         try:
-            caller = Caller(server.port, "user", KEYS["user"], PATIENCE)
-            caller.join(b"killed")
-            opened = caller.open(1)
-            timer.start()
             while True:
                 at = dice.randrange(PIECE - BLOCK)
                 maybe = known[:at] + bytes([dice.randrange(256)]) * BLOCK + known[at + BLOCK :]
                 caller.write(opened, at, maybe[at : at + BLOCK])
                 caller.commit(opened)
                 known, commits = maybe, commits + 1
+                if commits == 1:
+                    timer.start()
         except (Ended, OSError):
             pass
-        timer.join()
+        if commits:
+            timer.join()
         caller.socket.close()
         return known, maybe, commits
 

@@ -77,7 +77,11 @@ class Caller:
         self.socket = socket.create_connection(("127.0.0.1", port), timeout)
         self.socket.setsockopt(socket.IPPROTO_TCP, socket.TCP_NODELAY, 1)
         self.xid = 0
-        self.begin(name.encode(), key)
+        try:
+            self.begin(name.encode(), key)
+        except BaseException:
+            self.socket.close()
+            raise
 
     # ---- records and calls
 
