@@ -1,4 +1,4 @@
-"""How the program takes its standard input and puts its standard output: in any pieces, interrupted, up to its limits, and in calls that fail.
+"""How the program takes its standard input and puts its standard output: in pieces, interrupted, up to its limits, and in calls that fail.
 
 `show` puts the lines of a record as it ends, and `run` reads all of its input first.
 """
@@ -134,6 +134,10 @@ class Limits(unittest.TestCase):
 
 
 class FailingReads(unittest.TestCase):
+    def test_an_input_that_is_closed(self):
+        for command in ("show", "run"):
+            self.assertEqual(ended(started(command, preexec_fn=lambda: os.close(0))), (3, b"", b""), command)
+
     def test_an_input_that_is_a_folder(self):
         for command in ("show", "run"):
             folder = os.open(TOP, os.O_RDONLY)

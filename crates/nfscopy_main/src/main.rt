@@ -35,8 +35,8 @@ const MOST_DISK_BLOCKS: u64 = 32_964;
 /// How many bytes it has.
 const ROOM: u64 = MOST_DISK_BLOCKS * 4096;
 
-/// A file that keeps nothing.
-const NOTHING: &str = "/dev/null";
+/// A folder: as a file it can be neither read nor written.
+const FOLDER: &str = "/";
 
 /// The system's random bytes.
 const RANDOM: &str = "/dev/urandom";
@@ -106,19 +106,16 @@ fn call<R: Threads + Wait + Sync, D: CrashDisk + Drop + Send>(
     ExitCode::from(status)
 }
 
-/// Opens the file at a path, which may be made where there is none. The numbers of the standard streams are taken meanwhile, so that it
-/// gets none of them where one is closed: what is printed would go into the file.
+/// Opens the file of a volume at a path, which may be made where there is none. It is locked until the program ends: two programs that
+/// write one volume would destroy it, so one that another has open isn't opened.
 fn open(rt: &HostRuntime, path: &str, make: bool) -> io::Result<File> {
-    let _taken = [
-        File::open(rt, NOTHING)?,
-        File::open(rt, NOTHING)?,
-        File::open(rt, NOTHING)?,
-    ];
-    OpenOptions::new()
+    let file = OpenOptions::new()
         .read(true)
         .write(true)
         .create(make)
-        .open(rt, path)
+        .open(rt, path)?;
+    file.try_lock()?;
+    Ok(file)
 }
 
 /// The disk of the file at a path, for a volume that is to be made. A shorter file gets room for the largest one.
@@ -163,10 +160,20 @@ fn on_new_file<R: Threads + Wait + Sync>(
     call(rt, threads, words, disks, realm, TcpNet::dialing(rt))
 }
 
-/// The realm of the file `realm.txt`.
-fn realm_of_file(rt: &HostRuntime) -> Option<Realm> {
-    let text = fs::read(rt, REALM).ok()?;
-    read_realm(rt.alloc(), text.as_slice()).ok()?
+/// The realm of the file `realm.txt`, or the exit status where there is none.
+fn realm_of_file(rt: &HostRuntime) -> Result<Realm, u8> {
+    let text = match fs::read(rt, REALM) {
+        Ok(text) => text,
+        Err(error) if error.kind() == ErrorKind::OutOfMemory => {
+            return Err(ExitStatus::NoMemory.code());
+        }
+        Err(_) => return Err(NOT_OPENED),
+    };
+    match read_realm(rt.alloc(), text.as_slice()) {
+        Ok(Some(realm)) => Ok(realm),
+        Ok(None) => Err(NOT_OPENED),
+        Err(_) => Err(ExitStatus::NoMemory.code()),
+    }
 }
 
 /// Does what the words of a server ask for, on the disk of the file that they name, at its port. A port at which nothing can listen is a
@@ -179,10 +186,11 @@ fn at_port<R: Threads + Wait + Sync>(
 ) -> ExitCode
     requires { service_in (command_of (map string_bytes words.now)) ≡ Some asked }
 {
-    let not_opened = ExitCode::from(NOT_OPENED);
-    let Some(realm) = realm_of_file(rt) else {
-        return not_opened;
+    let realm = match realm_of_file(rt) {
+        Ok(realm) => realm,
+        Err(status) => return ExitCode::from(status),
     };
+    let not_opened = ExitCode::from(NOT_OPENED);
     let Some(path) = words.get(1) else {
         return not_opened;
     };
@@ -218,8 +226,9 @@ fn disks_of(side: Side, disk: FileDisk) -> Disks<FileDisk>
 fn over_links<R: Threads + Wait + Sync>(rt: &HostRuntime, threads: &R, words: &[String]) -> ExitCode
     requires { is_copy (command_of (map string_bytes words.now)) ≡ true }
 {
-    let Some(realm) = realm_of_file(rt) else {
-        return ExitCode::from(NOT_OPENED);
+    let realm = match realm_of_file(rt) {
+        Ok(realm) => realm,
+        Err(status) => return ExitCode::from(status),
     };
     let disks: Disks<MemoryDisk> = Disks {
         source: None,
@@ -229,26 +238,44 @@ fn over_links<R: Threads + Wait + Sync>(rt: &HostRuntime, threads: &R, words: &[
     call(rt, threads, words, disks, &realm, TcpNet::dialing(rt))
 }
 
-fn main(rt: HostRuntime) -> ExitCode {
-    let Ok(words) = words(&rt) else {
+/// Takes the numbers of those standard streams that are closed, so that no file and no link gets them: what it brings would be read as
+/// the input, and what is printed would go into it. Of what has such a number a read fails, and so does a write.
+fn taken(rt: &HostRuntime) -> io::Result<[File; 3]> {
+    Ok([
+        File::open(rt, FOLDER)?,
+        File::open(rt, FOLDER)?,
+        File::open(rt, FOLDER)?,
+    ])
+}
+
+/// Does what the program's words ask for.
+fn do_words<R: Threads + Wait + Sync>(rt: &HostRuntime, threads: &R) -> ExitCode {
+    let Ok(words) = words(rt) else {
         return ExitCode::from(ExitStatus::NoMemory.code());
     };
     if let Some(asked) = asked_service(&words) {
-        return at_port(&rt, &rt, &words, asked);
+        return at_port(rt, threads, &words, asked);
     }
     if is_copy(&words) {
-        return over_links(&rt, &rt, &words);
+        return over_links(rt, threads, &words);
     }
     let Ok(realm) = realm(rt.alloc()) else {
         return ExitCode::from(ExitStatus::NoMemory.code());
     };
     if is_format(&words) {
-        return on_new_file(&rt, &rt, &words, &realm);
+        return on_new_file(rt, threads, &words, &realm);
     }
     let disks = Disks {
         source: Some(disk(rt.alloc())),
         dest: Some(disk(rt.alloc())),
     };
     disks_suffice::<MemoryDisk>();
-    call(&rt, &rt, &words, disks, &realm, TcpNet::dialing(&rt))
+    call(rt, threads, &words, disks, &realm, TcpNet::dialing(rt))
+}
+
+fn main(rt: HostRuntime) -> ExitCode {
+    match taken(&rt) {
+        Ok(_taken) => do_words(&rt, &rt),
+        Err(_) => ExitCode::from(NOT_OPENED),
+    }
 }
