@@ -59,9 +59,9 @@ fn accept_all<
 
 /// Accepts up to `conns` connections of a net, and serves the records of each by the machine under the lock, in threads, sixteen
 /// connections at most at once; one by itself where no thread can be had. A connection is given 1,048,576 records; where fewer
-/// than that are left of the server's 16,777,216, it waits until no other is served, and gives the next one all that are left.
-/// Each connection that was accepted is hung up: those that have ended before the next one is accepted, and the others as they
-/// end. Where a connection wants memory, that one ends, and is counted. It accepts no more where accepting fails, no connection
+/// than that are left of the server's 16,777,216, it waits until those that end gave back enough, or no other is served, and then
+/// gives the next one all that are left. Each connection that was accepted is hung up: those that have ended before the next one is
+/// accepted, and the others as they end. Where a connection wants memory, that one ends, and is counted. It accepts no more where accepting fails, no connection
 /// is left, or no record is. The share has eighteen parts of the ledger at least, and no connection's calls.
 pub fn serve<
     R: Threads + Wait + Sync,

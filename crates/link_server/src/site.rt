@@ -178,6 +178,24 @@ impl<C: Origin<K>, K: Machine, F: Source + Drop, T: Sink + Drop, N: Net<From = F
         self.finish(rt, bell, net, at);
     }
 
+    // Waits until the records of one connection are left, or none is served any more. Those that a connection leaves are back as soon
+    // as it has ended, so that one that goes on holds up nobody for whom others left enough.
+    fn get_records<R: Threads + Wait>(&mut self, rt: &R, bell: &Bell, net: &mut N)
+        requires kept { N.Told → KeptAt (Answers K.calls_of K.step K.kept C.origin) (books_of N.hung N.up N.accepted net.old) self.old }
+        ensures kept { N.Told → KeptAt (Answers K.calls_of K.step K.kept C.origin) (books_of N.hung N.up N.accepted net.new) self.new }
+        ensures records { self.new.tally.left < EACH_RECORDS → self.new.running ≡ 0 }
+        ensures fewer { self.new.running ≤ self.old.running }
+        ensures enough { EACH_RECORDS ≤ self.old.tally.left → self.new ≡ self.old }
+        ensures waits { Waits self.old self.new }
+        ensures coming { N.Told → N.coming net.new ≡ N.coming net.old }
+        ensures faults { N.faults net.new ≡ N.faults net.old }
+    {
+        'short: while self.tally.left < EACH_RECORDS && !self.running.is_empty() {
+            let at = self.wait_for_one(rt, bell);
+            self.finish(rt, bell, net, at);
+        }
+    }
+
     // Waits until all have ended, and hangs each up as it ends.
     pub(crate) fn wait_for_all<R: Threads + Wait>(&mut self, rt: &R, bell: &Bell, net: &mut N)
         requires kept { N.Told → KeptAt (Answers K.calls_of K.step K.kept C.origin) (books_of N.hung N.up N.accepted net.old) self.old }
@@ -262,9 +280,7 @@ impl<C: Origin<K>, K: Machine, F: Source + Drop, T: Sink + Drop, N: Net<From = F
         ensures later { N.faults net.old ≤ N.faults net.new }
     {
         self.make_room(rt, bell, net);
-        if self.tally.left < EACH_RECORDS {
-            self.wait_for_all(rt, bell, net);
-        }
+        self.get_records(rt, bell, net);
         if self.tally.left == 0 {
             return Err(Stop::Spent);
         }
