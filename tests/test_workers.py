@@ -5,7 +5,6 @@ import os
 import subprocess
 import sys
 import time
-import unittest
 
 from support.program import Ended
 from support.proxy import ANY, TO_CLIENT, TO_SERVER, Proxy, Rule, before, held, marked, repeated
@@ -85,8 +84,8 @@ class First:
 
 
 class Silence:
-    """A gate that opens late. It takes down how long a process runs where nothing more comes to a proxy, while one that never rests runs for
-    so long beside it: on a machine with much to do that takes a while."""
+    """A gate that opens late. It takes down how long a process runs where nothing more comes to a proxy, while one that never rests runs
+    for so long beside it: on a machine with much to do that takes a while."""
 
     def __init__(self):
         self.process = self.proxy = self.spent = None
@@ -141,7 +140,3 @@ def load_tests(loader, suite, _):
     suite.addTests(each(rests_long, [("a destination has nothing to do", 4)]))
     suite.addTests(each(waits_idly, [("a chunk of a consecutive copy comes late", 4)]))
     return suite
-
-
-if __name__ == "__main__":
-    unittest.main()
