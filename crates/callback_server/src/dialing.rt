@@ -12,13 +12,13 @@ use std::alloc::Global;
 use std::sync::ledger::Ledger;
 use std::sync::{Mutex, Wait};
 
-/// Why a worker's link wasn't dialed.
+/// Why no worker works.
 #[derive(Clone, Copy, PartialEq, Eq)]
 pub enum DialFault {
-    /// The dial failed.
+    /// The dial of a worker's link failed.
     Failed,
 
-    /// Memory was refused.
+    /// Memory was refused, or the thread that runs the workers.
     NoMemory,
 }
 

@@ -1,40 +1,69 @@
-ghost use Rattle.std.specs.Prelude.{[], IfOk};
+ghost use Rattle.std.specs.Prelude.{[], None, ⊤, IfOk};
 ghost use Rattle.net_links.specs.Links.{DialHasCause, IfUp, IsNew, IsNoEnd};
 ghost use Rattle.net_links.specs.Tcp.{tcp_standing};
 
-use crate::net::{Dialed, Halves, Net};
-use std::io::{self, ErrorKind, Read};
+use crate::net::{ClosingSource, Dialed, Halves, Net};
+use std::io;
 use std::net::{
     Ipv4Addr, Net as SystemNet, OpenStream, Shutdown, SocketAddr, SocketAddrV4, TcpListener,
     TcpStream,
 };
+use std::thread::sleep;
+use std::time::{Clock, Duration};
 use streams::{Put, Reading, Sink, Source, Stream, Take, Writing};
 
-/// A stream that shuts its socket down, both ways, as soon as a read finds the end or fails. So the other end sees the close at
-/// once, though the link is hung up later.
+/// How many milliseconds are rested where no connection could be accepted. So one who tries again takes no processor while the system
+/// lacks what a socket takes.
+const REST_MILLIS: u64 = 50;
+
+/// How many seconds a put to a connection that was accepted waits for an end that takes nothing. Then it fails.
+const PUT_SECONDS: u64 = 60;
+
+/// The way from the other end of a connection of TCP. It shuts the socket down, both ways, where it is closed, and as soon as a
+/// take finds the end or fails. It tells nothing but its count of faults.
 #[derive(Drop)]
-pub struct ClosingStream {
+pub struct TcpFrom {
     stream: TcpStream,
+    failed: u64,
 }
 
-impl Read for ClosingStream {
-    fn read(&mut self, buf: &mut [u8]) -> io::Result<usize> {
-        let answer = self.stream.read(buf);
-        let goes_on = match &answer {
-            Ok(count) => *count > 0 || buf.is_empty(),
-            Err(error) => error.kind() == ErrorKind::Interrupted,
-        };
-        if !goes_on {
-            let _ = self.stream.shutdown(Shutdown::Both);
+impl TcpFrom {
+    fn shut(&self) {
+        let _ = self.stream.shutdown(Shutdown::Both);
+    }
+}
+
+impl Stream for TcpFrom {
+    ghost gives = { λ f. record { left = None; whole = None; faults = f.failed; failing = [] } };
+}
+
+impl Source for TcpFrom {
+    fn take(&mut self, buf: &mut [u8]) -> Take {
+        let taken = Reading::new(&self.stream).take(buf);
+        match taken {
+            Take::Took(_) => {}
+            Take::End => self.shut(),
+            Take::Failed => {
+                self.failed = self.failed.saturating_add(1);
+                self.shut();
+            }
         }
-        answer
+        taken
+    }
+}
+
+impl ClosingSource for TcpFrom {
+    ghost closed = { λ _. ⊤ };
+
+    fn close(&mut self) {
+        self.shut();
     }
 }
 
 /// A connection of TCP (RFC 9293). It tells nothing but its counts of faults. What it is given goes out at once.
 #[derive(Drop)]
 pub struct TcpLink {
-    from: Reading<ClosingStream>,
+    from: TcpFrom,
     to: Writing<TcpStream>,
 }
 
@@ -46,7 +75,7 @@ impl TcpLink {
         stream.set_nodelay(true)?;
         let other = stream.try_clone()?;
         Ok(TcpLink {
-            from: Reading::new(ClosingStream { stream }),
+            from: TcpFrom { stream, failed: 0 },
             to: Writing::new(other),
         })
     }
@@ -71,11 +100,11 @@ impl Sink for TcpLink {
 }
 
 impl Halves for TcpLink {
-    type From = Reading<ClosingStream>;
+    type From = TcpFrom;
 
     type To = Writing<TcpStream>;
 
-    fn halves(self) -> (Reading<ClosingStream>, Writing<TcpStream>) {
+    fn halves(self) -> (TcpFrom, Writing<TcpStream>) {
         let TcpLink { from, to } = self;
         (from, to)
     }
@@ -122,16 +151,13 @@ impl<'a, R: SystemNet<Listener = TcpListener, Stream = TcpStream>> TcpNet<'a, R>
         Some(address.port())
     }
 
-    // The link of a stream, or a fault more.
-    fn up(&mut self, stream: io::Result<TcpStream>) -> Dialed<TcpLink>
+    // The link, or a fault more.
+    fn up(&mut self, link: io::Result<TcpLink>) -> Dialed<TcpLink>
+        requires new { IfOk link (λ up. IsNew (tcp_standing up)) }
         ensures new { IfUp result (λ link. IsNew (tcp_standing link)) }
         ensures answer { IsNoEnd result }
         ensures cause { DialHasCause self.old.faults self.new.faults result }
     {
-        let link = match stream {
-            Ok(stream) => TcpLink::new(stream),
-            Err(error) => Err(error),
-        };
         match link {
             Ok(link) => Dialed::Up(link),
             Err(_) => {
@@ -142,8 +168,17 @@ impl<'a, R: SystemNet<Listener = TcpListener, Stream = TcpStream>> TcpNet<'a, R>
     }
 }
 
-impl<'a, R: SystemNet<Listener = TcpListener, Stream = TcpStream>> Net for TcpNet<'a, R> {
-    type From = Reading<ClosingStream>;
+// The link of the next connection.
+fn next_link(listener: &TcpListener) -> io::Result<TcpLink>
+    ensures { IfOk result (λ link. IsNew (tcp_standing link)) }
+{
+    let (stream, _) = listener.accept()?;
+    stream.set_write_timeout(Some(Duration::from_secs(PUT_SECONDS)))?;
+    TcpLink::new(stream)
+}
+
+impl<'a, R: SystemNet<Listener = TcpListener, Stream = TcpStream> + Clock> Net for TcpNet<'a, R> {
+    type From = TcpFrom;
 
     type To = Writing<TcpStream>;
 
@@ -165,19 +200,22 @@ impl<'a, R: SystemNet<Listener = TcpListener, Stream = TcpStream>> Net for TcpNe
         let Some(listener) = &self.listener else {
             return Dialed::End;
         };
-        let stream = match listener.accept() {
-            Ok((stream, _)) => Ok(stream),
-            Err(error) => Err(error),
-        };
-        self.up(stream)
+        let link = next_link(listener);
+        if link.is_err() {
+            sleep(self.rt, Duration::from_millis(REST_MILLIS));
+        }
+        self.up(link)
     }
 
     fn dial(&mut self, port: u16) -> Dialed<TcpLink> {
-        let stream = TcpStream::connect(self.rt, here(port));
-        self.up(stream)
+        let link = match TcpStream::connect(self.rt, here(port)) {
+            Ok(stream) => TcpLink::new(stream),
+            Err(error) => Err(error),
+        };
+        self.up(link)
     }
 
-    fn hang_up(&mut self, from: Reading<ClosingStream>, to: Writing<TcpStream>) {
+    fn hang_up(&mut self, from: TcpFrom, to: Writing<TcpStream>) {
         let _ = to.into_inner().shutdown(Shutdown::Both);
     }
 }
