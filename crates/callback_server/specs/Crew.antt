@@ -1,5 +1,5 @@
 -- The workers' links: how they were dialed, and how they were hung up. Own definitions.
-use Rattle.std.specs.Prelude.{◌≡◌, ℕ, ◌+◌, ◌<◌, ◌≤◌, Bool, List, [], ◌∷◌, ◌++◌, length, map, Option, Some, None}
+use Rattle.std.specs.Prelude.{◌≡◌, ℕ, ◌+◌, ◌<◌, Bool, List, [], ◌∷◌, ◌++◌, length, map, Option, Some, None}
 use Rattle.copy_workers.specs.Workers.{rows, AllWorkers}
 use Rattle.copy_workers.specs.declared.report.WorkerEnd.{WorkerEnd}
 use Rattle.rpc_msg.specs.Watching.{Watch}
@@ -72,14 +72,8 @@ pub record ServesBeside (told : Type 0) (answers : Caller → List ℕ → List 
   pub worked : WorkedIs workers turns crew report
   pub served : told → ServesThen answers before now (standing_of crew) tally
 
--- So many links were dialed where no worker works: fewer than workers were asked for where a dial failed; where memory was wanted,
--- that of the thread that runs the workers too, as many at most.
-abbrev pub DialedUpTo : (count workers : ℕ) → DialFault → Type 0
-DialedUpTo count workers faults.Failed = count < workers
-DialedUpTo count workers faults.NoMemory = count ≤ workers
-
--- No connection was accepted, for this cause. Of the workers' links some were dialed and hung up again.
-pub record ServesNone (told : Type 0) (before now : Books) (workers : ℕ) (fault : DialFault) : Type 0 where
+-- No connection was accepted. Of the workers' links some were dialed and hung up again.
+pub record ServesNone (told : Type 0) (before now : Books) (workers : ℕ) : Type 0 where
   pub links : List Standing
-  pub few : DialedUpTo (length links) workers fault
+  pub few : length links < workers
   pub hung : told → HangsAll links (record before { up = before.up + length links }) now

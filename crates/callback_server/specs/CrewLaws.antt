@@ -1,15 +1,13 @@
 -- What follows of a server of connections beside workers: from how the workers' links were dialed, how connections were served then, and
 -- how those links were hung up in the end.
-use Rattle.std.proofs.Common.{◌≡◌, ℕ, ◌+◌, ◌<◌, ◌≤◌, List, ◌++◌, length, ap, ◌∙◌, arith}
+use Rattle.std.proofs.Common.{◌≡◌, ℕ, ◌+◌, ◌<◌, List, ◌++◌, length, ap, ◌∙◌, arith}
 use Rattle.std.proofs.lemmas.List.{length-map}
 use Rattle.net_links.specs.Links.{Standing}
 use Rattle.rpc_msg.specs.Watching.{Watch}
 use Rattle.link_server.specs.Answering.{Caller}
 use Rattle.link_server.specs.Keeping.{Books}
 use Rattle.link_server.specs.declared.tally.Tally.{Tally}
-use Rattle.callback_server.specs.Crew.{standing_of, DialedUpTo, Dials, HangsAll, ServesThen}
-use Rattle.callback_server.specs.declared.dialing.DialFault.{DialFault}
-use Rattle.callback_server.specs.declared.dialing.DialFault.TheVariants as faults
+use Rattle.callback_server.specs.Crew.{standing_of, Dials, HangsAll, ServesThen}
 use Rattle.callback_server.specs.Keeping.{Serves}
 
 -- Connections were served while so many links were up that had been dialed; these were hung up then.
@@ -50,13 +48,5 @@ crew_none before mid now crew dials hangs =
     let dialed : mid ≡ record before { up = before.up + length (standing_of crew) } = rw (count_standing crew) dials in
     rw dialed at hangs
 
--- fewer were dialed than were asked for
-pub few_standing : (crew : List (Watch Standing)) (workers : ℕ) (fault : DialFault) → length crew < workers
-    → DialedUpTo (length (standing_of crew)) workers fault
-few_standing crew workers faults.Failed few = rw (count_standing crew) few
-few_standing crew workers faults.NoMemory few = omega (arith, count_standing crew, few)
-
--- all were
-pub all_standing : (crew : List (Watch Standing)) (workers : ℕ) → length crew ≡ workers
-    → DialedUpTo (length (standing_of crew)) workers faults.NoMemory
-all_standing crew workers all = omega (arith, count_standing crew, all)
+pub few_standing : (crew : List (Watch Standing)) (workers : ℕ) → length crew < workers → length (standing_of crew) < workers
+few_standing crew workers few = rw (count_standing crew) few

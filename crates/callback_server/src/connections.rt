@@ -7,7 +7,7 @@ use crate::connection::{Closed, serve_link};
 use crate::host::Host;
 use callback_links::Line;
 use copy_workers::Gate;
-use link_server::{ACCEPT_TRIES, ALL_RECORDS, EACH_RECORDS, Stop, Tally};
+use link_server::{ALL_RECORDS, EACH_RECORDS, Stop, Tally};
 use net_links::{Dialed, Halves, Net};
 use rpc_msg::{Sink, Source};
 use std::alloc::Global;
@@ -16,8 +16,7 @@ use std::sync::{Mutex, Wait};
 
 /// Serves up to `conns` connections of a net, one after the other, and hangs each up as soon as it has ended. A connection is given
 /// 1,048,576 records, or all that are left of the server's 16,777,216. Where it wants memory, it ends, and is counted. No more is
-/// accepted where accepting fails 200 times in a row, no connection is left, or no record is. The share of the line's ledger is all of
-/// it.
+/// accepted where accepting fails, no connection is left, or no record is. The share of the line's ledger is all of it.
 pub fn serve_each<
     R: Wait,
     Q: Ledger,
@@ -49,7 +48,6 @@ pub fn serve_each<
         left: ALL_RECORDS,
         stop: Stop::All,
     };
-    let mut tries = 1;
     'conns: while tally.accepted < conns {
         if tally.left == 0 {
             tally.stop = Stop::Spent;
@@ -57,7 +55,6 @@ pub fn serve_each<
         }
         match net.accept() {
             Dialed::Up(link) => {
-                tries = 1;
                 let (from, to) = link.halves();
                 let given = tally.left.min(EACH_RECORDS);
                 let conn = tally.accepted;
@@ -70,7 +67,6 @@ pub fn serve_each<
                 tally.stop = Stop::End;
                 return tally;
             }
-            Dialed::Failed if tries < ACCEPT_TRIES => tries += 1,
             Dialed::Failed => {
                 tally.stop = Stop::Failed;
                 return tally;

@@ -36,8 +36,7 @@ impl<N, L: Ledger, T: Ledger, G: Ledger, Z> Promise<Worked<N, L, T, G, Z>> for W
     }) };
 }
 
-// Starts a thread that runs workers. Where no thread can be had, it closes the host for workers, which end at once, and hands their
-// links back: nobody works then.
+// Starts a thread that runs workers. Where no thread can be had, it closes the host for workers, and they end at once.
 pub(crate) fn start<
     's,
     E,
@@ -60,7 +59,7 @@ pub(crate) fn start<
     given: Share<G>,
     links: Vec<Watched<N>>,
     turns: u64,
-) -> Result<PromisedHandle<Worked<N, L, T, G, Z>, Works>, Vec<Watched<N>>>
+) -> Result<PromisedHandle<Worked<N, L, T, G, Z>, Works>, Worked<N, L, T, G, Z>>
     requires some { 1 ≤ length links.items }
     requires few { length links.items ≤ 8 }
     requires unsent { AllUnsent links.items }
@@ -69,7 +68,13 @@ pub(crate) fn start<
     requires given { (given.parts ≡ G.parts) × (given.amount ≡ 0) × (8 ≤ G.parts) }
     requires turns { turns < 2 ^ 32 }
     ensures started { IfOk result (λ handle. (handle.promise.workers ≡ length links.items) × (handle.promise.turns ≡ turns)) }
-    ensures refused { IfErr result (λ idle. length idle.items ≡ length links.items) }
+    ensures refused { IfErr result (λ worked. WorkedIs (length links.items) turns worked.links.items (record {
+      shares = worked.report.shares;
+      turned = worked.report.turned;
+      given = worked.report.given;
+      ends = worked.report.ends;
+      shut = is_some worked.report.shut;
+    })) }
 {
     let workers = links.len();
     let job = move || -> Worked<N, L, T, G, Z>
@@ -90,8 +95,7 @@ pub(crate) fn start<
         Ok(handle) => Ok(handle),
         Err(refused) => {
             close_host(rt, desk);
-            let Worked { links, report: _ } = (refused.value)();
-            Err(links)
+            Err((refused.value)())
         }
     }
 }

@@ -12,13 +12,13 @@ use std::alloc::Global;
 use std::sync::ledger::Ledger;
 use std::sync::{Mutex, Wait};
 
-/// Why no worker works.
+/// Why a worker's link wasn't dialed.
 #[derive(Clone, Copy, PartialEq, Eq)]
 pub enum DialFault {
-    /// The dial of a worker's link failed.
+    /// The dial failed.
     Failed,
 
-    /// Memory was refused, or the thread that runs the workers.
+    /// Memory was refused.
     NoMemory,
 }
 

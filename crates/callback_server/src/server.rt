@@ -1,4 +1,4 @@
-ghost use Rattle.std.specs.Prelude.{◌≡◌, ◌<◌, ◌≤◌, ◌^◌, length, is_some, IfErr, IfOk};
+ghost use Rattle.std.specs.Prelude.{◌≡◌, ◌<◌, ◌≤◌, ◌^◌, length, is_some};
 ghost use Rattle.copy_workers.specs.Workers.{AllUnsent};
 ghost use Rattle.link_server.specs.Keeping.{books_of, StopIs};
 ghost use Rattle.callback_server.specs.Crew.{WorkedIs};
@@ -30,10 +30,9 @@ pub struct Shares<Q: Ledger, B: Ledger, L: Ledger, T: Ledger, G: Ledger> {
 
 /// Serves up to `conns` connections of a net, one after the other, while workers work at these links. A connection is given
 /// 1,048,576 records, or all that are left of the server's 16,777,216. Each one that was accepted is hung up as soon as it has ended.
-/// Where it wants memory, that one ends, and is counted. No more is accepted where accepting fails 200 times in a row, no connection
-/// is left, or no record is. Then the host is closed for workers, which are waited for. Where no thread can be had for the workers,
-/// the host is closed for them, no connection is accepted, since what is asked for would never be done, and their links are handed
-/// back. Each share is all of its ledger, with no amount; that of calls is two parts of one at least.
+/// Where it wants memory, that one ends, and is counted. No more is accepted where accepting fails, no connection is left, or no
+/// record is. Then the host is closed for workers, which are waited for. Each share is all of its ledger, with no amount; that of
+/// calls is two parts of one at least.
 pub fn serve_beside<
     R: Threads + Wait + Sync,
     Q: Ledger + Send,
@@ -58,7 +57,7 @@ pub fn serve_beside<
     turns: u64,
     crew: Vec<Watched<K>>,
     net: &mut N,
-) -> Result<(Tally, Worked<K, L, T, G, Z>), Vec<Watched<K>>>
+) -> (Tally, Worked<K, L, T, G, Z>)
     requires some { 1 ≤ length crew.items }
     requires few { length crew.items ≤ 8 }
     requires unsent { AllUnsent crew.items }
@@ -68,47 +67,36 @@ pub fn serve_beside<
     requires all { (8 ≤ L.parts) × (shares.all.parts ≡ L.parts) × (shares.all.amount ≡ 0) }
     requires turned { (8 ≤ T.parts) × (shares.turned.parts ≡ T.parts) × (shares.turned.amount ≡ 0) }
     requires given { (8 ≤ G.parts) × (shares.given.parts ≡ G.parts) × (shares.given.amount ≡ 0) }
-    ensures worked { IfOk result (λ done. WorkedIs (length crew.items) turns done.1.links.items (record {
-      shares = done.1.report.shares;
-      turned = done.1.report.turned;
-      given = done.1.report.given;
-      ends = done.1.report.ends;
-      shut = is_some done.1.report.shut;
-    })) }
-    ensures served { IfOk result (λ done. N.Told → Serves H.answers
-        (books_of N.hung N.up N.accepted net.old) (books_of N.hung N.up N.accepted net.new) done.0) }
-    ensures stop { IfOk result (λ done. StopIs N.Told conns done.0.accepted done.0.left
-        (N.coming net.new) (N.faults net.old) (N.faults net.new) done.0.stop) }
-    ensures idle { IfErr result (λ links. length links.items ≡ length crew.items) }
-    ensures none { IfErr result (λ _. net.new ≡ net.old) }
+    ensures worked { WorkedIs (length crew.items) turns result.1.links.items (record {
+      shares = result.1.report.shares;
+      turned = result.1.report.turned;
+      given = result.1.report.given;
+      ends = result.1.report.ends;
+      shut = is_some result.1.report.shut;
+    }) }
+    ensures served { N.Told → Serves H.answers (books_of N.hung N.up N.accepted net.old) (books_of N.hung N.up N.accepted net.new) result.0 }
+    ensures stop { StopIs N.Told conns result.0.accepted result.0.left (N.coming net.new) (N.faults net.old) (N.faults net.new) result.0.stop }
     ensures later { N.faults net.old ≤ N.faults net.new }
 {
-    let (net, done) = thread::scope(
+    let (net, tally, worked) = thread::scope(
         thread::scope_env(),
         rt,
-        |scope| -> (
-            &mut N,
-            Result<(Tally, Worked<K, L, T, G, Z>), Vec<Watched<K>>>,
-        )
+        |scope| -> (&mut N, Tally, Worked<K, L, T, G, Z>)
             requires { (1 ≤ length crew.items) × (length crew.items ≤ 8) × AllUnsent crew.items × (turns < 2 ^ 32)
                 × (2 ≤ shares.calls.parts) × (B.parts ≡ 1) × (shares.own.parts ≡ 1) × (shares.own.amount ≡ 0)
                 × (8 ≤ L.parts) × (shares.all.parts ≡ L.parts) × (shares.all.amount ≡ 0)
                 × (8 ≤ T.parts) × (shares.turned.parts ≡ T.parts) × (shares.turned.amount ≡ 0)
                 × (8 ≤ G.parts) × (shares.given.parts ≡ G.parts) × (shares.given.amount ≡ 0) }
             ensures name { result.0.ghost_name ≡ net.entry.ghost_name }
-            ensures worked { IfOk result.1 (λ done. WorkedIs (length crew.items) turns done.1.links.items (record {
-              shares = done.1.report.shares;
-              turned = done.1.report.turned;
-              given = done.1.report.given;
-              ends = done.1.report.ends;
-              shut = is_some done.1.report.shut;
-            })) }
-            ensures served { IfOk result.1 (λ done. N.Told → Serves H.answers
-                (books_of N.hung N.up N.accepted net.entry.now) (books_of N.hung N.up N.accepted result.0.now) done.0) }
-            ensures stop { IfOk result.1 (λ done. StopIs N.Told conns done.0.accepted done.0.left
-                (N.coming result.0.now) (N.faults net.entry.now) (N.faults result.0.now) done.0.stop) }
-            ensures idle { IfErr result.1 (λ links. length links.items ≡ length crew.items) }
-            ensures none { IfErr result.1 (λ _. result.0.now ≡ net.entry.now) }
+            ensures worked { WorkedIs (length crew.items) turns result.2.links.items (record {
+              shares = result.2.report.shares;
+              turned = result.2.report.turned;
+              given = result.2.report.given;
+              ends = result.2.report.ends;
+              shut = is_some result.2.report.shut;
+            }) }
+            ensures served { N.Told → Serves H.answers (books_of N.hung N.up N.accepted net.entry.now) (books_of N.hung N.up N.accepted result.0.now) result.1 }
+            ensures stop { StopIs N.Told conns result.1.accepted result.1.left (N.coming result.0.now) (N.faults net.entry.now) (N.faults result.0.now) result.1.stop }
             ensures later { N.faults net.entry.now ≤ N.faults result.0.now }
         {
             let Shares {
@@ -118,22 +106,25 @@ pub fn serve_beside<
                 turned,
                 given,
             } = shares;
-            let handle = match start(
+            let crew = start(
                 rt, alloc, scope, desk, gate, all, turned, given, crew, turns,
-            ) {
-                Ok(handle) => handle,
-                Err(links) => return (net, Err(links)),
-            };
+            );
             let tally = serve_each(
                 rt, alloc, desk, gate, line, &mut calls, &mut own, conns, net,
             );
-            desk.lock(rt).close();
-            gate.wake();
-            (net, Ok((tally, handle.join(rt))))
+            let worked = match crew {
+                Ok(handle) => {
+                    desk.lock(rt).close();
+                    gate.wake();
+                    handle.join(rt)
+                }
+                Err(worked) => worked,
+            };
+            (net, tally, worked)
         },
     );
     take_back(net);
-    done
+    (tally, worked)
 }
 
 // Takes a net back that a scope was lent.

@@ -39,7 +39,7 @@ nothing_landed {M = M} mech source principal own host new = ap (λ (x : Destinat
 
 -- no connection was served, for this cause
 pub leaves_net : {N : Type 0} (n : NetWords N) (answers : Caller → List ℕ → List ℕ → Caller → Type 0) (service : DestService) (net net_now : N)
-    (fault : DialFault) → LeavesNet n answers service net net_now fault → DialedFor (n.faults net) (n.faults net_now) fault
+    (fault : DialFault) → LeavesNet n answers service net net_now → DialedFor (n.faults net) (n.faults net_now) fault
     → MeetsNet n answers service net net_now (Err fault)
 leaves_net n answers service net net_now dials.Failed leaves rose = (leaves, rose)
 leaves_net n answers service net net_now dials.NoMemory leaves none = leaves

@@ -21,7 +21,7 @@ use Rattle.volume_format.specs.DiskWords.{DiskWords}
 use Rattle.dest_server.specs.declared.serving.DestService.{DestService}
 use Rattle.dest_server.specs.declared.serving.TheConstants.{MOST_TURNS}
 
--- The end of a server whose workers worked, or didn't.
+-- The end of a server whose workers were dialed, or weren't.
 abbrev pub end_after : Result Tally DialFault → ServeEnd
 end_after (Ok tally) = end_by tally.stop tally.starved
 end_after (Err dials.Failed) = ends.NetFault
@@ -35,16 +35,15 @@ module _ {N : Type 0} (n : NetWords N) (answers : Caller → List ℕ → List �
     pub beside : ServesBeside n.told answers (n.books net) (n.books net_now) service.workers MOST_TURNS report tally
     pub stop : StopIs n.told service.conns tally.accepted tally.left (n.coming net_now) (n.faults net) (n.faults net_now) tally.stop
 
-  -- No connection was accepted, since a worker's link wasn't dialed or no thread could be had for the workers. The links that were
-  -- dialed are hung up.
-  abbrev pub LeavesNet : DialFault → Type 0
-  LeavesNet fault = ServesNone n.told (n.books net) (n.books net_now) service.workers fault
+  -- No connection was accepted, since a worker's link wasn't dialed. Those that were are hung up.
+  abbrev pub LeavesNet : Type 0
+  LeavesNet = ServesNone n.told (n.books net) (n.books net_now) service.workers
 
   -- What was done with the net, where the volume was opened.
   abbrev pub MeetsNet : Result Tally DialFault → Type 0
   MeetsNet (Ok tally) = WorksNet tally
-  MeetsNet (Err dials.Failed) = LeavesNet dials.Failed × Rose (n.faults net) (n.faults net_now)
-  MeetsNet (Err dials.NoMemory) = LeavesNet dials.NoMemory
+  MeetsNet (Err dials.Failed) = LeavesNet × Rose (n.faults net) (n.faults net_now)
+  MeetsNet (Err dials.NoMemory) = LeavesNet
 
 module _ {D K N : Type 0} (w : DiskWords D) (n : NetWords N) (s : ServerWords D K) (service : DestService)
     (taken taken_now : Option (List ℕ)) (writes writes_now : ℕ) (net net_now : N) where
@@ -63,8 +62,8 @@ module _ {D K N : Type 0} (w : DiskWords D) (n : NetWords N) (s : ServerWords D 
     pub is : end ≡ end_after done
     pub puts : Keeps taken taken_now
 
-  -- Want of memory has no cause. Nobody was served, and the disk was let go or handed back unopened; or a worker's dial, the thread that
-  -- runs the workers or a connection that was served wanted memory.
+  -- Want of memory has no cause. Nobody was served, and the disk was let go or handed back unopened; or a worker's dial or a connection that
+  -- was served wanted memory.
   abbrev pub Starved : D → Option D → Type 0
   Starved disk None = Idle w n s service.conns taken taken_now writes writes_now net net_now
   Starved disk (Some now) =

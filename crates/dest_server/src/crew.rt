@@ -49,8 +49,8 @@ pub(crate) struct Service {
 // the workers' links up. A connection is given 1,048,576 records, or all that are left of the server's 16,777,216. Each one that was
 // accepted is hung up as soon as it has ended. Where it wants memory, that one ends, and is counted. No more is accepted where
 // accepting fails, no connection is left, or no record is. Then the host is closed for workers. Where a dial fails, or memory is
-// refused for it or the thread that runs the workers, no connection is accepted, and those links that were dialed are hung up. Each
-// share is all of its ledger, with no amount; that of calls is two parts of one at least.
+// refused for it, no connection is accepted, and those links that were dialed are hung up. Each share is all of its ledger, with no
+// amount; that of calls is two parts of one at least.
 pub(crate) fn serve_desk<
     'a,
     R: Threads + Wait + Sync,
@@ -89,8 +89,7 @@ pub(crate) fn serve_desk<
         served.tally) }
     ensures stop { IfOk result (λ served. StopIs N.Told service.conns served.tally.accepted served.tally.left (N.coming net.new)
         (N.faults net.old) (N.faults net.new) served.tally.stop) }
-    ensures none { IfErr result (λ fault. ServesNone N.Told (books_of N.hung N.up N.accepted net.old) (books_of N.hung N.up N.accepted net.new)
-        service.workers fault) }
+    ensures none { IfErr result (λ _. ServesNone N.Told (books_of N.hung N.up N.accepted net.old) (books_of N.hung N.up N.accepted net.new) service.workers) }
     ensures fault { IfErr result (λ fault. DialedFor (N.faults net.old) (N.faults net.new) fault) }
     ensures later { N.faults net.old ≤ N.faults net.new }
 {
@@ -101,7 +100,7 @@ pub(crate) fn serve_desk<
         hang_all(crew, net);
         return Err(fault);
     }
-    let done = serve_beside(
+    let (tally, worked) = serve_beside(
         rt,
         alloc,
         desk,
@@ -113,15 +112,7 @@ pub(crate) fn serve_desk<
         crew,
         net,
     );
-    match done {
-        Ok((tally, worked)) => {
-            let Worked { links, report } = worked;
-            hang_all(links, net);
-            Ok(Served { tally, report })
-        }
-        Err(links) => {
-            hang_all(links, net);
-            Err(DialFault::NoMemory)
-        }
-    }
+    let Worked { links, report } = worked;
+    hang_all(links, net);
+    Ok(Served { tally, report })
 }

@@ -1,11 +1,11 @@
 //! Connections that bring nothing before a crowd was accepted.
 
-ghost use Rattle.std.specs.Prelude.{◌≡◌, ◌≤◌, [], None, ⊤};
+ghost use Rattle.std.specs.Prelude.{◌≡◌, ◌≤◌, [], None};
 
 use crate::memory::tell;
 use crate::run::run;
 use link_server::Tally;
-use net_links::{ClosingSource, Dialed, Halves, Net};
+use net_links::{Dialed, Halves, Net};
 use outcome::Mem;
 use std::alloc::Global;
 use std::fmt::Write;
@@ -89,12 +89,6 @@ impl<'a> Source for CrowdFrom<'a> {
         self.at += 1;
         Take::Took(1)
     }
-}
-
-impl<'a> ClosingSource for CrowdFrom<'a> {
-    ghost closed = { λ _. ⊤ };
-
-    fn close(&mut self) {}
 }
 
 impl<'a> Stream for CrowdTo<'a> {}

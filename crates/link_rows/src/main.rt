@@ -21,7 +21,6 @@ use std::marker::Sync;
 use std::net::{Net, TcpListener, TcpStream};
 use std::sync::Wait;
 use std::thread::Threads;
-use std::time::Clock;
 
 /// How many lines were tried, and how many of these were answered otherwise.
 #[derive(Clone, Copy)]
@@ -39,7 +38,7 @@ impl Tally {
     }
 }
 
-fn answer<R: Net<Listener = TcpListener, Stream = TcpStream> + Clock + Threads + Wait + Sync>(
+fn answer<R: Net<Listener = TcpListener, Stream = TcpStream> + Threads + Wait + Sync>(
     rt: &R,
     alloc: Global,
     call: &str,
@@ -50,7 +49,7 @@ fn answer<R: Net<Listener = TcpListener, Stream = TcpStream> + Clock + Threads +
 }
 
 /// The answer to `serve CONNS FAILS CONNECTION..`, `dials FAILS PORTS PORT..`, `crowd CONNS TOGETHER` or `tcp CONNS`.
-fn answer_words<R: Net<Listener = TcpListener, Stream = TcpStream> + Clock + Threads + Wait + Sync>(
+fn answer_words<R: Net<Listener = TcpListener, Stream = TcpStream> + Threads + Wait + Sync>(
     rt: &R,
     alloc: Global,
     words: &[&str],
@@ -67,7 +66,7 @@ fn answer_words<R: Net<Listener = TcpListener, Stream = TcpStream> + Clock + Thr
 }
 
 /// Tries a line, and prints it where it is answered otherwise.
-fn try_line<R: Net<Listener = TcpListener, Stream = TcpStream> + Clock + Threads + Wait + Sync>(
+fn try_line<R: Net<Listener = TcpListener, Stream = TcpStream> + Threads + Wait + Sync>(
     rt: &R,
     out: &HostRuntime,
     line: &str,

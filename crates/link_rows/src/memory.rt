@@ -13,8 +13,7 @@ use std::sync::Wait;
 use std::thread::Threads;
 
 /// `CONNS FAILS CONNECTION..`: why no more were accepted, how many were, how many of them starved, and the records that are left;
-/// then of each connection that was hung up the bytes that it took, how many it has left, and whether it was left open until then, as
-/// these sort.
+/// then of each connection that was hung up the bytes that it took and how many it has left, as these sort.
 pub fn serve_mem<R: Threads + Wait + Sync>(
     rt: &R,
     alloc: Global,
@@ -62,15 +61,12 @@ fn joined(alloc: Global, parts: &str) -> Mem<Vec<u8>> {
     bytes(alloc, &hex, 0)
 }
 
-/// Numbers with commas between them; `3-5` is 3, 4 and 5. What isn't one is left out.
+/// Numbers with commas between them. What isn't one is left out.
 pub fn numbers(alloc: Global, text: &str) -> Mem<Vec<u64>> {
     let mut numbers = Vec::new(alloc);
     for word in text.split(',') {
-        let (first, last) = word.split_once('-').unwrap_or((word, word));
-        if let (Ok(first), Ok(last)) = (first.parse::<u64>(), last.parse::<u64>()) {
-            for number in first..=last {
-                numbers.push(number)?;
-            }
+        if let Ok(number) = word.parse::<u64>() {
+            numbers.push(number)?;
         }
     }
     Ok(numbers)
@@ -115,6 +111,5 @@ fn tell_link(link: &HungLink, text: &mut String) -> Mem<()> {
     for byte in link.taken() {
         write!(text, "{byte:02x}")?;
     }
-    let open = if link.closed() { "" } else { " open" };
-    Ok(write!(text, "] {}{open}", link.left().len())?)
+    Ok(write!(text, "] {}", link.left().len())?)
 }

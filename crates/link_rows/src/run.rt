@@ -4,8 +4,8 @@ ghost use Rattle.std.specs.Prelude.{◌≡◌, ◌≤◌, Some};
 
 use crate::toy::Toy;
 use link_server::{Counted, Origin, Tally, serve};
-use net_links::{ClosingSource, Net};
-use rpc_msg::Sink;
+use net_links::Net;
+use rpc_msg::{Sink, Source};
 use std::alloc::Global;
 use std::marker::{Brand, Send, Sync};
 use std::sync::ledger::Blank;
@@ -15,7 +15,7 @@ use std::thread::Threads;
 /// Serves up to so many connections of a net.
 pub fn run<
     R: Threads + Wait + Sync,
-    F: ClosingSource + Send + Drop,
+    F: Source + Send + Drop,
     T: Sink + Send + Drop,
     N: Net<From = F, To = T>,
 >(rt: &R, alloc: Global, conns: u32, net: &mut N) -> Tally {
@@ -25,7 +25,7 @@ pub fn run<
 fn run_by<
     C: Origin<Toy> + Send,
     R: Threads + Wait + Sync,
-    F: ClosingSource + Send + Drop,
+    F: Source + Send + Drop,
     T: Sink + Send + Drop,
     N: Net<From = F, To = T>,
 >(rt: &R, alloc: Global, blank: Blank, toy: Toy, conns: u32, net: &mut N) -> Tally

@@ -11,7 +11,6 @@ use std::marker::Sync;
 use std::net::{self, TcpListener, TcpStream};
 use std::sync::Wait;
 use std::thread::{Threads, join};
-use std::time::Clock;
 use streams::{Sink, Source, Take, put_all};
 
 /// A record of four bytes, behind its mark (RFC 5531 section 11).
@@ -22,18 +21,25 @@ const REPLY_LEN: usize = 9;
 
 /// `CONNS`: so many connections one after another, each of which puts a record and takes its reply. What the server did, and how
 /// many replies were right but for the connection's number.
-pub fn serve_tcp<
-    R: net::Net<Listener = TcpListener, Stream = TcpStream> + Clock + Threads + Wait + Sync,
->(rt: &R, alloc: Global, conns: u32, text: &mut String) -> Mem<()> {
+pub fn serve_tcp<R: net::Net<Listener = TcpListener, Stream = TcpStream> + Threads + Wait + Sync>(
+    rt: &R,
+    alloc: Global,
+    conns: u32,
+    text: &mut String,
+) -> Mem<()> {
     match TcpNet::listening(rt, 0) {
         Ok(net) => serve_net(rt, alloc, conns, net, text),
         Err(_) => Ok(text.push_str("no listener")?),
     }
 }
 
-fn serve_net<
-    R: net::Net<Listener = TcpListener, Stream = TcpStream> + Clock + Threads + Wait + Sync,
->(rt: &R, alloc: Global, conns: u32, mut net: TcpNet<'_, R>, text: &mut String) -> Mem<()> {
+fn serve_net<R: net::Net<Listener = TcpListener, Stream = TcpStream> + Threads + Wait + Sync>(
+    rt: &R,
+    alloc: Global,
+    conns: u32,
+    mut net: TcpNet<'_, R>,
+    text: &mut String,
+) -> Mem<()> {
     let port = net.port().unwrap_or(0);
     let (right, tally) = join(
         rt,
@@ -49,7 +55,7 @@ fn tell_right(right: u32, tally: &Tally, text: &mut String) -> Mem<()> {
 }
 
 /// Asks at a port so often, and counts the right replies.
-fn ask_all<R: net::Net<Listener = TcpListener, Stream = TcpStream> + Clock>(
+fn ask_all<R: net::Net<Listener = TcpListener, Stream = TcpStream>>(
     rt: &R,
     port: u16,
     conns: u32,

@@ -6,24 +6,23 @@ use crate::bell::Bell;
 use crate::counted::{Counted, Origin};
 use crate::machine::Machine;
 use crate::site::Site;
-use crate::tally::{ACCEPT_TRIES, MOST_LINKS, Stop, Tally};
-use net_links::{ClosingSource, Net};
-use rpc_msg::Sink;
+use crate::tally::{MOST_LINKS, Stop, Tally};
+use net_links::Net;
+use rpc_msg::{Sink, Source};
 use std::alloc::Global;
 use std::marker::{Send, Sync};
 use std::sync::ledger::Share;
 use std::sync::{Mutex, Wait};
 use std::thread::{self, Scope, Threads};
 
-// Accepts connections until as many were as are asked for, or there are no more, and waits until all have ended. Where accepting fails,
-// those that have ended are hung up before the next try, since what the system lacks may be theirs.
+// Accepts connections until as many were as are asked for, or there are no more, and waits until all have ended.
 fn accept_all<
     's,
     E,
     R: Threads + Wait + Sync,
     C: Origin<K> + Send + 's,
     K: Machine + Send + 's,
-    F: ClosingSource + Send + Drop + 's,
+    F: Source + Send + Drop + 's,
     T: Sink + Send + Drop + 's,
     N: Net<From = F, To = T>,
 >(
@@ -44,15 +43,10 @@ fn accept_all<
 {
     let mut site = Site::new(alloc, all, net);
     let mut stop = Stop::All;
-    let mut tries = 1;
     'conns: while site.accepted() < conns {
         site.gather(rt, bell, net);
         match site.accept(rt, bell, net) {
-            Ok((from, to)) => {
-                tries = 1;
-                site.admit(rt, alloc, scope, bell, desk, net, from, to);
-            }
-            Err(Stop::Failed) if tries < ACCEPT_TRIES => tries += 1,
+            Ok((from, to)) => site.admit(rt, alloc, scope, bell, desk, net, from, to),
             Err(cause) => {
                 stop = cause;
                 break;
@@ -65,16 +59,15 @@ fn accept_all<
 
 /// Accepts up to `conns` connections of a net, and serves the records of each by the machine under the lock, in threads, sixteen
 /// connections at most at once; one by itself where no thread can be had. A connection is given 1,048,576 records; where fewer
-/// than that are left of the server's 16,777,216, it waits until those that end gave back enough, or no other is served, and gives
-/// the next one all that are left then. Each connection that was accepted is closed as it ends, and hung up: those that have ended
-/// before the next one is accepted, and the others as they end. Where a connection wants memory, that one ends, and is counted.
-/// It accepts no more where accepting fails 200 times in a row, no connection is left, or no record is. The share has eighteen
-/// parts of the ledger at least, and no connection's calls.
+/// than that are left of the server's 16,777,216, it waits until those that end gave back enough, or no other is served, and then
+/// gives the next one all that are left. Each connection that was accepted is hung up: those that have ended before the next one is
+/// accepted, and the others as they end. Where a connection wants memory, that one ends, and is counted. It accepts no more where accepting fails, no connection
+/// is left, or no record is. The share has eighteen parts of the ledger at least, and no connection's calls.
 pub fn serve<
     R: Threads + Wait + Sync,
     C: Origin<K> + Send,
     K: Machine + Send,
-    F: ClosingSource + Send + Drop,
+    F: Source + Send + Drop,
     T: Sink + Send + Drop,
     N: Net<From = F, To = T>,
 >(

@@ -22,4 +22,4 @@ pub use counted::{Counted, Origin};
 pub use laws::links_are_hung_up_for_a_cause;
 pub use machine::{MOST_CALLS, Machine};
 pub use shared::Shared;
-pub use tally::{ACCEPT_TRIES, ALL_RECORDS, EACH_RECORDS, MOST_LINKS, Stop, Tally};
+pub use tally::{ALL_RECORDS, EACH_RECORDS, MOST_LINKS, Stop, Tally};

@@ -6,7 +6,6 @@ ghost use Rattle.link_server.specs.Serving.{ServedIs, Went};
 use crate::counted::{Counted, Origin};
 use crate::machine::Machine;
 use crate::shared::Shared;
-use net_links::ClosingSource;
 use rpc_msg::{Pumped, RecordFeed, Sink, Source, pump_records};
 use std::alloc::Global;
 use std::sync::ledger::{Ledger, Share};
@@ -23,9 +22,8 @@ pub(crate) struct Closed<C: Ledger, F, T> {
     pub(crate) unused: u64,
 }
 
-// Serves the records of a new connection, at most as many as are given, and closes it then: whatever ended it, the other end needn't
-// wait until it is hung up.
-pub(crate) fn serve_link<R: Wait, C: Origin<K>, K: Machine, F: ClosingSource, T: Sink>(
+// Serves the records of a new connection, at most as many as are given.
+pub(crate) fn serve_link<R: Wait, C: Origin<K>, K: Machine, F: Source, T: Sink>(
     rt: &R,
     alloc: Global,
     desk: &Mutex<Counted<C, K>>,
@@ -39,7 +37,6 @@ pub(crate) fn serve_link<R: Wait, C: Origin<K>, K: Machine, F: ClosingSource, T:
     requires calls { mine.amount ≡ 0 }
     requires new { IsNew (record { brings = F.gives from; takes = T.takes to }) }
     ensures part { 0 < result.mine.parts }
-    ensures closed { F.closed result.from }
     ensures served { ServedIs (Answers K.calls_of K.step K.kept C.origin) given result.unused result.end
         (record { brings = F.gives result.from; takes = T.takes result.to }) }
 {
@@ -48,7 +45,6 @@ pub(crate) fn serve_link<R: Wait, C: Origin<K>, K: Machine, F: ClosingSource, T:
     let mut left = given;
     let mut handler = Shared::new(rt, desk, mine, conn);
     let end = pump(alloc, &mut from, &mut to, &mut handler, &mut left);
-    from.close();
     Closed {
         mine: handler.hand_back(),
         from,

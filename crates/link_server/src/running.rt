@@ -8,8 +8,7 @@ use crate::counted::{Counted, Origin};
 use crate::link::{Closed, serve_link};
 use crate::machine::Machine;
 use crate::tally::EACH_RECORDS;
-use net_links::ClosingSource;
-use rpc_msg::Sink;
+use rpc_msg::{Sink, Source};
 use std::alloc::Global;
 use std::marker::{PhantomData, Send, Sync};
 use std::sync::ledger::Share;
@@ -23,15 +22,14 @@ pub(crate) struct Served<C, K> {
     of: PhantomData<K>,
 }
 
-impl<C: Origin<K>, K: Machine, F: ClosingSource, T: Sink> Promise<Closed<C, F, T>>
-    for Served<C, K> {
+impl<C: Origin<K>, K: Machine, F: Source, T: Sink> Promise<Closed<C, F, T>> for Served<C, K> {
     ghost kept_by = { λ _ closed. ClosesFull (Answers K.calls_of K.step K.kept C.origin) closed.mine.parts closed.unused closed.end
         (record { brings = F.gives closed.from; takes = T.takes closed.to }) };
 }
 
 // A connection that is served by a thread, and the seat of that thread.
 #[derive(Drop)]
-pub(crate) struct Running<C: Origin<K>, K: Machine, F: ClosingSource + Drop, T: Sink + Drop> {
+pub(crate) struct Running<C: Origin<K>, K: Machine, F: Source + Drop, T: Sink + Drop> {
     pub(crate) seat: u8,
     pub(crate) handle: PromisedHandle<Closed<C, F, T>, Served<C, K>>,
 }
@@ -43,7 +41,7 @@ pub(crate) fn start<
     R: Threads + Wait + Sync,
     C: Origin<K> + Send + 's,
     K: Machine + Send + 's,
-    F: ClosingSource + Send + Drop + 's,
+    F: Source + Send + Drop + 's,
     T: Sink + Send + Drop + 's,
 >(
     rt: &'s R,

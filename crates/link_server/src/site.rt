@@ -11,8 +11,8 @@ use crate::link::{Closed, serve_link};
 use crate::machine::Machine;
 use crate::running::{Running, start};
 use crate::tally::{ALL_RECORDS, EACH_RECORDS, MOST_LINKS, Stop, Tally};
-use net_links::{ClosingSource, Dialed, Halves, Net};
-use rpc_msg::{Pumped, Sink};
+use net_links::{Dialed, Halves, Net};
+use rpc_msg::{Pumped, Sink, Source};
 use std::alloc::Global;
 use std::marker::{Model, Send, Sync};
 use std::snapshot::Snapshot;
@@ -22,14 +22,14 @@ use std::thread::{Scope, Threads};
 
 // A server that accepts: the connections that threads serve, what is left of the share of calls, and what was done.
 #[derive(Drop)]
-pub(crate) struct Site<C: Origin<K>, K: Machine, F: ClosingSource + Drop, T: Sink + Drop, N: Net> {
+pub(crate) struct Site<C: Origin<K>, K: Machine, F: Source + Drop, T: Sink + Drop, N: Net> {
     before: Snapshot<N>,
     running: Vec<Running<C, K, F, T>>,
     all: Share<C>,
     tally: Tally,
 }
 
-impl<C: Origin<K>, K: Machine, F: ClosingSource + Drop, T: Sink + Drop, N: Net> Model
+impl<C: Origin<K>, K: Machine, F: Source + Drop, T: Sink + Drop, N: Net> Model
     for Site<C, K, F, T, N> {
     ghost use Rattle.std.specs.Prelude.{◌+◌, ◌*◌, ◌≤◌, vec_len};
     ghost use Rattle.link_server.specs.Accepting.{SiteState};
@@ -52,13 +52,13 @@ impl<C: Origin<K>, K: Machine, F: ClosingSource + Drop, T: Sink + Drop, N: Net> 
     } };
 }
 
-impl<
-    C: Origin<K>,
-    K: Machine,
-    F: ClosingSource + Drop,
-    T: Sink + Drop,
-    N: Net<From = F, To = T>,
-> Site<C, K, F, T, N> {
+impl<C: Origin<K>, K: Machine, F: Source + Drop, T: Sink + Drop, N: Net<From = F, To = T>> Site<
+    C,
+    K,
+    F,
+    T,
+    N,
+> {
     // It did nothing yet. Where memory is refused, it serves each connection by itself.
     pub(crate) fn new(alloc: Global, all: Share<C>, net: &N) -> Site<C, K, F, T, N>
         requires { MOST_LINKS + 2 ≤ all.parts }

@@ -12,11 +12,6 @@ pub const EACH_RECORDS: u64 = 1_048_576;
 /// How many connections are served at once.
 pub const MOST_LINKS: usize = 16;
 
-/// How often in a row a connection is tried to be accepted. At a port, with a rest behind each, these are ten seconds: for so long the
-/// system may lack what a socket takes, until others give it back; and where it stays so, whoever watches over the server learns of it
-/// soon.
-pub const ACCEPT_TRIES: u32 = 200;
-
 /// Why a server accepted no more.
 #[derive(Clone, Copy, Debug, PartialEq, Eq)]
 pub enum Stop {
@@ -24,7 +19,7 @@ pub enum Stop {
     All,
     /// No connection was left.
     End,
-    /// Accepting failed, 200 times in a row.
+    /// Accepting failed.
     Failed,
     /// All records were taken.
     Spent,

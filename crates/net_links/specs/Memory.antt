@@ -1,5 +1,5 @@
 -- Links and nets in memory: what they hold, and what exactly each call answers. Own definitions.
-use Rattle.std.specs.Prelude.{◌≡◌, ◌==◌, ℕ, ◌+◌, ◌≤◌, Bool, false, true, min, List, [], ◌∷◌, ◌⊎◌, length, map, position, slice_index_or, Option, Some, None}
+use Rattle.std.specs.Prelude.{◌≡◌, ◌==◌, ℕ, ◌+◌, ◌≤◌, false, true, min, List, [], ◌∷◌, ◌⊎◌, length, map, position, slice_index_or, Option, Some, None}
 use Rattle.std.specs.List.{remove}
 use Rattle.outcome.specs.Plan.{Plan, is_due, after_call, planned_faults}
 use Rattle.streams.specs.Memory.{SourceState, SinkState}
@@ -8,14 +8,9 @@ use Rattle.net_links.specs.Links.{Standing}
 use Rattle.net_links.specs.declared.net.Dialed.{Dialed}
 use Rattle.net_links.specs.declared.net.Dialed.TheVariants as dialed
 
--- The way from the other end of a link in memory: what it brings, and whether the link was closed.
-pub record FromState : Type 0 where
-  pub source : SourceState
-  pub closed : Bool
-
 -- A link in memory: what it brings, and what it takes.
 pub record LinkState : Type 0 where
-  pub from : FromState
+  pub source : SourceState
   pub sink : SinkState
 
 -- How it stands.
@@ -26,7 +21,7 @@ abbrev pub taking : SinkState → Taking
 taking sink = record { taken = Some sink.taken; pieces = None; faults = planned_faults sink.plan + sink.starved; failing = sink.plan.failing }
 
 abbrev pub standing : LinkState → Standing
-standing link = record { brings = giving link.from.source; takes = taking link.sink }
+standing link = record { brings = giving link.source; takes = taking link.sink }
 
 -- A connection that is to come: the bytes that it brings, and the numbers of its takes and of its puts that are to fail.
 pub record Coming : Type 0 where
@@ -37,10 +32,7 @@ pub record Coming : Type 0 where
 -- The link that it is then, with which nothing was done.
 abbrev pub link_of : Coming → LinkState
 link_of connection = record {
-  from = record {
-    source = record { left = connection.bytes; whole = connection.bytes; plan = record { calls = 0; failing = connection.takes } };
-    closed = false;
-  };
+  source = record { left = connection.bytes; whole = connection.bytes; plan = record { calls = 0; failing = connection.takes } };
   sink = record { taken = []; plan = record { calls = 0; failing = connection.puts }; starved = 0 };
 }
 

@@ -1,14 +1,13 @@
 ghost use Rattle.std.specs.Prelude.{◌≡◌};
 ghost use Rattle.net_links.specs.Memory.{LinkState};
 
-use crate::mem_from::MemFrom;
 use std::marker::Model;
-use streams::MemSink;
+use streams::{MemSink, MemSource};
 
 /// A connection in memory that was hung up, as it stood then.
 #[derive(Drop)]
 pub struct HungLink {
-    from: MemFrom,
+    source: MemSource,
     sink: MemSink,
 }
 
@@ -17,21 +16,14 @@ impl Model for HungLink {
 
     ghost Value = { LinkState };
 
-    ghost view = { λ l. record { from = l.from; sink = l.sink } };
+    ghost view = { λ l. record { source = l.source; sink = l.sink } };
 }
 
 impl HungLink {
-    pub(crate) fn new(from: MemFrom, sink: MemSink) -> HungLink
-        ensures { result ≡ record { from = from; sink = sink } }
+    pub(crate) fn new(source: MemSource, sink: MemSink) -> HungLink
+        ensures { result ≡ record { source = source; sink = sink } }
     {
-        HungLink { from, sink }
-    }
-
-    /// Whether it was closed before it was hung up.
-    pub fn closed(&self) -> bool
-        ensures { result ≡ self.now.from.closed }
-    {
-        self.from.closed()
+        HungLink { source, sink }
     }
 
     /// The bytes that were put to it.
@@ -43,16 +35,16 @@ impl HungLink {
 
     /// The bytes that it brought and that weren't taken from it: none exactly where it had ended.
     pub fn left(&self) -> &[u8]
-        ensures { result.now ≡ self.now.from.source.left }
+        ensures { result.now ≡ self.now.source.left }
     {
-        self.from.source().bytes()
+        self.source.bytes()
     }
 
     /// How many takes were asked of it. The count stops at the end of its type.
     pub fn takes(&self) -> u64
-        ensures { result ≡ self.now.from.source.plan.calls }
+        ensures { result ≡ self.now.source.plan.calls }
     {
-        self.from.source().calls()
+        self.source.calls()
     }
 
     /// How many puts were asked of it. The count stops at the end of its type.

@@ -2,7 +2,6 @@ ghost use Rattle.std.specs.Prelude.{◌≡◌};
 ghost use Rattle.net_links.specs.Links.{IsNew};
 ghost use Rattle.net_links.specs.Memory.{giving, taking, link_of, standing};
 
-use crate::mem_from::MemFrom;
 use crate::net::Halves;
 use std::alloc::Global;
 use std::marker::Model;
@@ -29,7 +28,7 @@ impl Model for Connection {
 /// at planned calls, and a put fails where memory is refused too.
 #[derive(Drop)]
 pub struct MemLink {
-    from: MemFrom,
+    source: MemSource,
     sink: MemSink,
 }
 
@@ -38,7 +37,7 @@ impl Model for MemLink {
 
     ghost Value = { LinkState };
 
-    ghost view = { λ l. record { from = l.from; sink = l.sink } };
+    ghost view = { λ l. record { source = l.source; sink = l.sink } };
 }
 
 impl MemLink {
@@ -49,21 +48,21 @@ impl MemLink {
     {
         let Connection { bytes, takes, puts } = connection;
         MemLink {
-            from: MemFrom::new(MemSource::new(bytes, takes)),
+            source: MemSource::new(bytes, takes),
             sink: MemSink::new(alloc, puts),
         }
     }
 }
 
 impl Stream for MemLink {
-    ghost gives = { λ l. giving l.from.source };
+    ghost gives = { λ l. giving l.source };
 
     ghost takes = { λ l. taking l.sink };
 }
 
 impl Source for MemLink {
     fn take(&mut self, buf: &mut [u8]) -> Take {
-        self.from.take(buf)
+        self.source.take(buf)
     }
 }
 
@@ -74,14 +73,14 @@ impl Sink for MemLink {
 }
 
 impl Halves for MemLink {
-    type From = MemFrom;
+    type From = MemSource;
 
     type To = MemSink;
 
-    fn halves(self) -> (MemFrom, MemSink)
-        ensures { result ≡ (self.from, self.sink) }
+    fn halves(self) -> (MemSource, MemSink)
+        ensures { result ≡ (self.source, self.sink) }
     {
-        let MemLink { from, sink } = self;
-        (from, sink)
+        let MemLink { source, sink } = self;
+        (source, sink)
     }
 }

@@ -3,14 +3,13 @@ ghost use Rattle.net_links.specs.Links.{IsNew, IfUp, ups, Accepts, IsNoEnd, Dial
 ghost use Rattle.net_links.specs.Memory.{giving, taking, standing, net_faults, hung_of, place_of, AcceptIs, DialIs};
 
 use crate::hung_link::HungLink;
-use crate::mem_from::MemFrom;
 use crate::mem_link::{Connection, MemLink};
 use crate::net::{Dialed, Net};
 use outcome::{Mem, Planned};
 use std::alloc::Global;
 use std::collections::VecDeque;
 use std::marker::Model;
-use streams::MemSink;
+use streams::{MemSink, MemSource};
 
 /// A connection in memory that waits to be dialed.
 #[derive(Drop)]
@@ -134,7 +133,7 @@ fn place_of(dials: &[Dial], port: u16) -> Option<usize>
 }
 
 impl Net for MemNet {
-    type From = MemFrom;
+    type From = MemSource;
 
     type To = MemSink;
 
@@ -200,10 +199,10 @@ impl Net for MemNet {
         Dialed::Up(MemLink::new(self.alloc, connection))
     }
 
-    fn hang_up(&mut self, from: MemFrom, to: MemSink)
+    fn hang_up(&mut self, from: MemSource, to: MemSink)
         requires { 0 < self.old.up }
-        ensures kept { self.new ≡ record self.old { up = self.new.up; hung = self.old.hung ++ record { from = from; sink = to } ∷ [] } }
-        ensures hung { HangsUp (hung_of self.old) (hung_of self.new) (record { brings = giving from.source; takes = taking to }) }
+        ensures kept { self.new ≡ record self.old { up = self.new.up; hung = self.old.hung ++ record { source = from; sink = to } ∷ [] } }
+        ensures hung { HangsUp (hung_of self.old) (hung_of self.new) (record { brings = giving from; takes = taking to }) }
         ensures up { self.old.up ≡ self.new.up + 1 }
     {
         self.hung.push_reserved(HungLink::new(from, to));

@@ -14,22 +14,10 @@ pub enum Dialed<L> {
     Failed,
 }
 
-/// The way from the other end of a link, by which the whole link can be closed.
-pub trait ClosingSource: Source {
-    // The link was closed by it.
-    ghost closed: { Self → Type 0 };
-
-    /// Closes the link, so that its other end learns at once that nothing more is taken or put, though the link is hung up later.
-    /// What it gives stays as it is.
-    fn close(&mut self)
-        ensures gives { Self.gives self.new ≡ Self.gives self.old }
-        ensures closed { closed self.new };
-}
-
 /// A link of one connection, whose two ways can be taken apart.
 pub trait Halves: Source + Sink {
     /// The way from the other end.
-    type From: ClosingSource + Drop;
+    type From: Source + Drop;
 
     /// The way to the other end.
     type To: Sink + Drop;
@@ -43,7 +31,7 @@ pub trait Halves: Source + Sink {
 /// Where links come from. Whether a net tells of its links is a matter of its type.
 pub trait Net {
     /// The way from the other end of a link.
-    type From: ClosingSource + Drop;
+    type From: Source + Drop;
 
     /// The way to the other end of a link.
     type To: Sink + Drop;
@@ -69,7 +57,7 @@ pub trait Net {
     // How many calls failed. The count stops at the end of its type.
     ghost faults: { Self → ℕ };
 
-    /// Accepts the next connection. The end is answered exactly where none is left. Where it failed, it may be tried again.
+    /// Accepts the next connection. The end is answered exactly where none is left.
     fn accept(&mut self) -> Dialed<Self::Link>
         ensures new { IfUp result (λ link. IsNew (record { brings = Self.Link.gives link; takes = Self.Link.takes link })) }
         ensures coming { Told → Accepts (coming self.old) (coming self.new) result }

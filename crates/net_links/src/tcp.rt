@@ -1,69 +1,40 @@
-ghost use Rattle.std.specs.Prelude.{[], None, ⊤, IfOk};
+ghost use Rattle.std.specs.Prelude.{[], IfOk};
 ghost use Rattle.net_links.specs.Links.{DialHasCause, IfUp, IsNew, IsNoEnd};
 ghost use Rattle.net_links.specs.Tcp.{tcp_standing};
 
-use crate::net::{ClosingSource, Dialed, Halves, Net};
-use std::io;
+use crate::net::{Dialed, Halves, Net};
+use std::io::{self, ErrorKind, Read};
 use std::net::{
     Ipv4Addr, Net as SystemNet, OpenStream, Shutdown, SocketAddr, SocketAddrV4, TcpListener,
     TcpStream,
 };
-use std::thread::sleep;
-use std::time::{Clock, Duration};
 use streams::{Put, Reading, Sink, Source, Stream, Take, Writing};
 
-/// How many milliseconds are rested where no connection could be accepted. So one who tries again takes no processor while the system
-/// lacks what a socket takes.
-const REST_MILLIS: u64 = 50;
-
-/// How many seconds a put to a connection that was accepted waits for an end that takes nothing. Then it fails.
-const PUT_SECONDS: u64 = 60;
-
-/// The way from the other end of a connection of TCP. It shuts the socket down, both ways, where it is closed, and as soon as a
-/// take finds the end or fails. It tells nothing but its count of faults.
+/// A stream that shuts its socket down, both ways, as soon as a read finds the end or fails. So the other end sees the close at
+/// once, though the link is hung up later.
 #[derive(Drop)]
-pub struct TcpFrom {
+pub struct ClosingStream {
     stream: TcpStream,
-    failed: u64,
 }
 
-impl TcpFrom {
-    fn shut(&self) {
-        let _ = self.stream.shutdown(Shutdown::Both);
-    }
-}
-
-impl Stream for TcpFrom {
-    ghost gives = { λ f. record { left = None; whole = None; faults = f.failed; failing = [] } };
-}
-
-impl Source for TcpFrom {
-    fn take(&mut self, buf: &mut [u8]) -> Take {
-        let taken = Reading::new(&self.stream).take(buf);
-        match taken {
-            Take::Took(_) => {}
-            Take::End => self.shut(),
-            Take::Failed => {
-                self.failed = self.failed.saturating_add(1);
-                self.shut();
-            }
+impl Read for ClosingStream {
+    fn read(&mut self, buf: &mut [u8]) -> io::Result<usize> {
+        let answer = self.stream.read(buf);
+        let goes_on = match &answer {
+            Ok(count) => *count > 0 || buf.is_empty(),
+            Err(error) => error.kind() == ErrorKind::Interrupted,
+        };
+        if !goes_on {
+            let _ = self.stream.shutdown(Shutdown::Both);
         }
-        taken
-    }
-}
-
-impl ClosingSource for TcpFrom {
-    ghost closed = { λ _. ⊤ };
-
-    fn close(&mut self) {
-        self.shut();
+        answer
     }
 }
 
 /// A connection of TCP (RFC 9293). It tells nothing but its counts of faults. What it is given goes out at once.
 #[derive(Drop)]
 pub struct TcpLink {
-    from: TcpFrom,
+    from: Reading<ClosingStream>,
     to: Writing<TcpStream>,
 }
 
@@ -75,7 +46,7 @@ impl TcpLink {
         stream.set_nodelay(true)?;
         let other = stream.try_clone()?;
         Ok(TcpLink {
-            from: TcpFrom { stream, failed: 0 },
+            from: Reading::new(ClosingStream { stream }),
             to: Writing::new(other),
         })
     }
@@ -100,11 +71,11 @@ impl Sink for TcpLink {
 }
 
 impl Halves for TcpLink {
-    type From = TcpFrom;
+    type From = Reading<ClosingStream>;
 
     type To = Writing<TcpStream>;
 
-    fn halves(self) -> (TcpFrom, Writing<TcpStream>) {
+    fn halves(self) -> (Reading<ClosingStream>, Writing<TcpStream>) {
         let TcpLink { from, to } = self;
         (from, to)
     }
@@ -151,13 +122,16 @@ impl<'a, R: SystemNet<Listener = TcpListener, Stream = TcpStream>> TcpNet<'a, R>
         Some(address.port())
     }
 
-    // The link, or a fault more.
-    fn up(&mut self, link: io::Result<TcpLink>) -> Dialed<TcpLink>
-        requires new { IfOk link (λ up. IsNew (tcp_standing up)) }
+    // The link of a stream, or a fault more.
+    fn up(&mut self, stream: io::Result<TcpStream>) -> Dialed<TcpLink>
         ensures new { IfUp result (λ link. IsNew (tcp_standing link)) }
         ensures answer { IsNoEnd result }
         ensures cause { DialHasCause self.old.faults self.new.faults result }
     {
+        let link = match stream {
+            Ok(stream) => TcpLink::new(stream),
+            Err(error) => Err(error),
+        };
         match link {
             Ok(link) => Dialed::Up(link),
             Err(_) => {
@@ -168,17 +142,8 @@ impl<'a, R: SystemNet<Listener = TcpListener, Stream = TcpStream>> TcpNet<'a, R>
     }
 }
 
-// The link of the next connection.
-fn next_link(listener: &TcpListener) -> io::Result<TcpLink>
-    ensures { IfOk result (λ link. IsNew (tcp_standing link)) }
-{
-    let (stream, _) = listener.accept()?;
-    stream.set_write_timeout(Some(Duration::from_secs(PUT_SECONDS)))?;
-    TcpLink::new(stream)
-}
-
-impl<'a, R: SystemNet<Listener = TcpListener, Stream = TcpStream> + Clock> Net for TcpNet<'a, R> {
-    type From = TcpFrom;
+impl<'a, R: SystemNet<Listener = TcpListener, Stream = TcpStream>> Net for TcpNet<'a, R> {
+    type From = Reading<ClosingStream>;
 
     type To = Writing<TcpStream>;
 
@@ -200,22 +165,19 @@ impl<'a, R: SystemNet<Listener = TcpListener, Stream = TcpStream> + Clock> Net f
         let Some(listener) = &self.listener else {
             return Dialed::End;
         };
-        let link = next_link(listener);
-        if link.is_err() {
-            sleep(self.rt, Duration::from_millis(REST_MILLIS));
-        }
-        self.up(link)
+        let stream = match listener.accept() {
+            Ok((stream, _)) => Ok(stream),
+            Err(error) => Err(error),
+        };
+        self.up(stream)
     }
 
     fn dial(&mut self, port: u16) -> Dialed<TcpLink> {
-        let link = match TcpStream::connect(self.rt, here(port)) {
-            Ok(stream) => TcpLink::new(stream),
-            Err(error) => Err(error),
-        };
-        self.up(link)
+        let stream = TcpStream::connect(self.rt, here(port));
+        self.up(stream)
     }
 
-    fn hang_up(&mut self, from: TcpFrom, to: Writing<TcpStream>) {
+    fn hang_up(&mut self, from: Reading<ClosingStream>, to: Writing<TcpStream>) {
         let _ = to.into_inner().shutdown(Shutdown::Both);
     }
 }

@@ -19,7 +19,7 @@ use crate::run::usage;
 use command_line::Command;
 use disk_model::CrashDisk;
 use gss_mech::Mechanism;
-use net_links::{ClosingSource, Net};
+use net_links::Net;
 use port_commands::{copy, serve_as_dest, serve_as_source};
 use std::alloc::Global;
 use std::marker::{Send, Sync};
@@ -47,7 +47,7 @@ pub fn nfscopy<
     M: Mechanism + Sync,
     C: Clock + Drop + Send,
     W: Draws + Drop + Send,
-    F: ClosingSource + Send + Drop,
+    F: Source + Send + Drop,
     T: Sink + Send + Drop,
     N: Net<From = F, To = T>,
 >(

@@ -16,7 +16,7 @@ use command_line::{DestOrder, Service, serve_code};
 use dest_server::{DestService, Partner, serve_dest};
 use disk_model::Disk;
 use gss_mech::Mechanism;
-use net_links::{ClosingSource, Net};
+use net_links::Net;
 use outcome::Mem;
 use run_ends::{dest_name, dest_place, dest_source, source_peers, source_place};
 use source_server::{Acquaintance, ServeEnd, serve_source};
@@ -34,7 +34,7 @@ pub fn serve_as_source<
     M: Mechanism + Send,
     C: Clock + Drop + Send,
     W: Draws + Drop + Send,
-    F: ClosingSource + Send + Drop,
+    F: Source + Send + Drop,
     T: Sink + Send + Drop,
     N: Net<From = F, To = T>,
 >(
@@ -80,7 +80,7 @@ pub fn serve_as_dest<
     M: Mechanism + Send + Drop,
     C: Clock + Drop + Send,
     W: Draws + Drop + Send,
-    F: ClosingSource + Send + Drop,
+    F: Source + Send + Drop,
     T: Sink + Send + Drop,
     N: Net<From = F, To = T>,
 >(

@@ -17,7 +17,7 @@ use copy_privs::Peer;
 use disk_model::Disk;
 use gss_mech::Mechanism;
 use link_server::{Counted, Machine, Origin, Stop, Tally, serve};
-use net_links::{ClosingSource, Net};
+use net_links::Net;
 use nfs_base::NetLoc;
 use outcome::NoMemory;
 use source_core::SourceCore;
@@ -26,7 +26,7 @@ use std::marker::{Brand, Send, Sync};
 use std::sync::ledger::Blank;
 use std::sync::{Mutex, Wait};
 use std::thread::Threads;
-use streams::{Clock, Draws, Sink};
+use streams::{Clock, Draws, Sink, Source};
 use volume_format::{not_volume_line, put_line};
 use wire_xdr::Items;
 
@@ -72,7 +72,7 @@ pub fn serve_source<
     M: Mechanism + Send,
     C: Clock + Drop + Send,
     W: Draws + Drop + Send,
-    F: ClosingSource + Send + Drop,
+    F: Source + Send + Drop,
     T: Sink + Send + Drop,
     N: Net<From = F, To = T>,
 >(
@@ -135,7 +135,7 @@ pub fn serve_source<
 fn serve_all<
     L: Origin<K> + Send,
     K: Machine + Send,
-    F: ClosingSource + Send + Drop,
+    F: Source + Send + Drop,
     T: Sink + Send + Drop,
     N: Net<From = F, To = T>,
     R: Threads + Wait + Sync,

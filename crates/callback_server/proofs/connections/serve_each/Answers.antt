@@ -1,12 +1,12 @@
-use Rattle.std.proofs.Common.{◌∙◌, arith, rules}
+use Rattle.std.proofs.Common.{◌∙◌, arith}
 use Rattle.net_links.specs.Links.{Standing}
 use Rattle.link_server.specs.Keeping.{books_of}
 use Rattle.callback_server.specs.Keeping.{ServesOne}
 use Rattle.callback_server.proofs.Steps.{serves_more, tally_grows}
 use Rattle.callback_server.proofs.connections.serve_each.Goals as goal
 
-pub conns-preserved-in-Up : goal.conns-preserved-in-Up
-conns-preserved-in-Up g c =
+pub conns-preserved : goal.conns-preserved
+conns-preserved g c =
     let served = c.serve_link-closed.result in
     let link : Standing = record { brings = g.F.Stream.gives served.from; takes = g.T.Stream.takes served.to } in
     let hung = c.hang.ensures in
@@ -28,7 +28,6 @@ conns-preserved-in-Up g c =
       starved = grown.1;
       left = grown.2;
       stop = grown.3 ∙ c.conns.invariant.stop;
-      tries = search rules;
       faults = omega (arith, c.conns.invariant.faults, c.in-Up.ensures.cause, hung.faults);
       calls = c.serve_link-closed.ensures.calls;
       own = c.serve_link-closed.ensures.own;

@@ -1,7 +1,7 @@
-use Rattle.std.proofs.Common.{◌≡◌, ◌+◌, ◌-◌, ◌*◌, ◌≤◌}
+use Rattle.std.proofs.Common.{◌≡◌, ◌-◌, ◌≤◌}
 use Rattle.link_server.specs.Keeping.{books_of}
 use Rattle.link_server.specs.declared.tally.Stop.TheVariants.{All}
-use Rattle.link_server.specs.declared.tally.TheConstants.{ACCEPT_TRIES, ALL_RECORDS}
+use Rattle.link_server.specs.declared.tally.TheConstants.{ALL_RECORDS}
 use Rattle.callback_server.specs.Keeping.{Serves}
 use Rattle.callback_server.proofs.connections.serve_each.Given as goal
 
@@ -12,11 +12,10 @@ invariant-conns g l = record {
   starved : l.tally.starved ≤ l.tally.accepted;
   left : l.tally.left ≤ ALL_RECORDS;
   stop : l.tally.stop ≡ All;
-  tries : (1 ≤ l.tries) × (l.tries ≤ ACCEPT_TRIES);
   faults : g.N.Net.faults l.initial.net ≤ g.N.Net.faults l.net;
   calls : 2 ≤ l.calls.parts;
   own : (l.own.parts ≡ 1) × (l.own.amount ≡ 0);
 }
 
 abbrev pub decreases-conns : goal.decreases-conns
-decreases-conns g l = ACCEPT_TRIES * (l.conns - l.tally.accepted) + (ACCEPT_TRIES - l.tries)
+decreases-conns g l = l.conns - l.tally.accepted

@@ -3,8 +3,8 @@ use Rattle.std.proofs.Common.{rules}
 use Rattle.callback_server.proofs.crew.start.Goals as goal
 
 -- what may be sent by the function's own bounds may be sent by those of what it calls
-pub job-links-requires-after_bounds : goal.job-links-requires-after_bounds
-job-links-requires-after_bounds g c κs within = (
+pub job-requires-after_bounds : goal.job-requires-after_bounds
+job-requires-after_bounds g c κs within = (
   search rules,
   param_send _ _ (given_send _ _ g.row.H c.type_bounds.send-H),
   param_send _ _ (given_send _ _ g.row.N c.type_bounds.send-N),

@@ -1,9 +1,8 @@
-use Rattle.std.proofs.Common.{◌≡◌, ◌+◌, ◌-◌, ◌*◌, ◌≤◌}
+use Rattle.std.proofs.Common.{◌≡◌, ◌-◌, ◌≤◌}
 use Rattle.link_server.specs.Answering.{Answers}
 use Rattle.link_server.specs.Accepting.{KeptAt}
 use Rattle.link_server.specs.Keeping.{books_of}
 use Rattle.link_server.specs.declared.tally.Stop.TheVariants.{All}
-use Rattle.link_server.specs.declared.tally.TheConstants.{ACCEPT_TRIES}
 use Rattle.link_server.proofs.acceptor.accept_all.Given as goal
 
 abbrev pub invariant-conns : goal.invariant-conns
@@ -12,9 +11,8 @@ invariant-conns g l = record {
   before : l.site.before ≡ l.initial.site.before;
   few : l.site.tally.accepted ≤ l.conns;
   stop : l.stop ≡ All;
-  tries : (1 ≤ l.tries) × (l.tries ≤ ACCEPT_TRIES);
   faults : g.N.Net.faults l.initial.net ≤ g.N.Net.faults l.net;
 }
 
 abbrev pub decreases-conns : goal.decreases-conns
-decreases-conns g l = ACCEPT_TRIES * (l.conns - l.site.tally.accepted) + (ACCEPT_TRIES - l.tries)
+decreases-conns g l = l.conns - l.site.tally.accepted

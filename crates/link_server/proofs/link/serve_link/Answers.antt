@@ -7,7 +7,7 @@ returns-clause-served g c = record {
   last = c.pump-end.new.handler;
   start = record { brings = g.F.Stream.gives c.args.from; takes = g.T.Stream.takes c.args.to };
   new = c.requires.new;
-  same = rw c.close.ensures.gives c.pump-end.ensures.whole;
+  same = c.pump-end.ensures.whole;
   few = went_few _ _ _ _ _ _ _ _ c.pump-end.ensures.went;
-  went = rw (c.close.ensures.gives, ← c.requires.calls, ← c.new-handler.ensures) c.pump-end.ensures.went;
+  went = rw (← c.requires.calls, ← c.new-handler.ensures) c.pump-end.ensures.went;
 }
