@@ -2,7 +2,7 @@
 
 use crate::plan::{Copied, Links, Plan};
 use crate::running::run;
-use crate::telling::tell;
+use crate::telling::{tell, tell_landed};
 use outcome::Mem;
 use row_text::{number, word, words};
 use std::alloc::Global;
@@ -10,6 +10,9 @@ use std::fmt::Write;
 use std::sync::Wait;
 use std::thread::Threads;
 use two_ends::Wrong;
+
+/// So many turns each worker has: more than it needs.
+const TURNS: u32 = 100_000_000;
 
 /// Adds what a call is answered by, or what it lacks.
 pub fn answered<R: Threads + Wait + Sync>(
@@ -31,6 +34,9 @@ fn answer<R: Threads + Wait + Sync>(
     text: &mut String,
 ) -> Result<(), Wrong> {
     let words = words(alloc, call)?;
+    if word(&words, 0) == "bench" {
+        return bench(rt, alloc, number(&words, 1), number(&words, 2), text);
+    }
     row(rt, alloc, read_plan(&words), text)
 }
 
@@ -50,9 +56,11 @@ fn row<R: Threads + Wait + Sync>(
 fn read_plan(words: &[&str]) -> Plan {
     Plan {
         workers: number(words, 1).min(8) as u8,
+        turns: TURNS,
         size: number(words, 2),
         copied: copied(word(words, 3)),
         links: links(word(words, 0), number(words, 4)),
+        compares: true,
     }
 }
 
@@ -73,5 +81,31 @@ fn links(kind: &str, answers: u32) -> Links {
         "breaking" => Links::Breaking,
         "failing" => Links::Failing(answers),
         _ => Links::Free,
+    }
+}
+
+/// Adds how many bytes of a file of so many mebibytes land. Where there are no workers, the ends are made and the copy is taken
+/// all the same.
+fn bench<R: Threads + Wait + Sync>(
+    rt: &R,
+    alloc: Global,
+    workers: u32,
+    mebibytes: u32,
+    text: &mut String,
+) -> Result<(), Wrong> {
+    let ran = run(rt, alloc, bench_plan(workers, mebibytes))?;
+    tell_landed(workers, ran.seen.counts.landed, text)?;
+    Ok(())
+}
+
+/// The plan of so many workers and mebibytes. For no workers it is that of one without turns.
+fn bench_plan(workers: u32, mebibytes: u32) -> Plan {
+    Plan {
+        workers: workers.clamp(1, 8) as u8,
+        turns: if workers == 0 { 0 } else { TURNS },
+        size: mebibytes.min(64) * 1_048_576,
+        copied: Copied::Whole,
+        links: Links::Free,
+        compares: false,
     }
 }

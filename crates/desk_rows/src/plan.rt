@@ -40,12 +40,18 @@ pub struct Plan {
     /// How many workers there are, at most eight.
     pub workers: u8,
 
+    /// How many turns each of them has.
+    pub turns: u32,
+
     /// How many bytes the source's file has.
     pub size: u32,
 
     pub copied: Copied,
 
     pub links: Links,
+
+    /// Whether the files are compared afterwards.
+    pub compares: bool,
 }
 
 impl Plan {

@@ -53,8 +53,8 @@ pub struct Seen {
 pub struct Ran {
     pub seen: Seen,
 
-    /// Whether each of the destination's files has the bytes of the source's.
-    pub same: bool,
+    /// Whether each of the destination's files has the bytes of the source's, where the plan compares them.
+    pub same: Option<bool>,
 }
 
 /// What workers did together, by what is reported of each.
@@ -88,10 +88,16 @@ pub(crate) fn told(
     source: &mut SourceCore<MemoryDisk, Realm>,
     dest: &mut DestCore<MemoryDisk, Realm>,
 ) -> Result<Ran, Wrong> {
+    if !plan.compares {
+        return Ok(Ran { seen, same: None });
+    }
     let mut here = vec![in alloc; 0; CHUNK]?;
     let mut there = vec![in alloc; 0; CHUNK]?;
     let same = are_same(plan, source, dest, &mut here, &mut there);
-    Ok(Ran { seen, same })
+    Ok(Ran {
+        seen,
+        same: Some(same),
+    })
 }
 
 /// Whether each of the destination's files has the bytes of the source's. The room for those of a chunk is lent.

@@ -25,9 +25,6 @@ use std::thread::Threads;
 use streams::CountDraws;
 use two_ends::Wrong;
 
-/// So many turns each worker has: more than it needs.
-const TURNS: u32 = 100_000_000;
-
 /// The shares of landed bytes, of turns and of bytes given to send, each with all parts of its ledger.
 #[derive(Drop)]
 struct Shares<L: Ledger, T: Ledger, G: Ledger> {
@@ -37,7 +34,7 @@ struct Shares<L: Ledger, T: Ledger, G: Ledger> {
 }
 
 /// Makes the ends, lets the client begin its copies, has them carried out by workers, and lets the client take leave. Then the
-/// files are compared.
+/// files are compared, where the plan says so.
 pub fn run<R: Threads + Wait + Sync>(rt: &R, alloc: Global, plan: Plan) -> Result<Ran, Wrong> {
     let source = Mutex::new(SourceEnd::new(new_source(alloc, plan.size)?));
     run_from(rt, alloc, plan, &source)
@@ -229,7 +226,7 @@ fn carry_out<L: Ledger + Send, T: Ledger + Send, G: Ledger + Send, R: Threads + 
         turned,
         given,
         links.as_mut_slice(),
-        u64::from(TURNS),
+        u64::from(room.plan.turns),
     );
     Ok(count_all(&report))
 }

@@ -11,7 +11,10 @@ use std::fmt::Write;
 pub fn tell(plan: &Plan, ran: &Ran, text: &mut String) -> Mem<()> {
     tell_workers(text, plan.links, &ran.seen)?;
     tell_copies(text, ran.seen.reports)?;
-    text.push_str(if ran.same { ", same" } else { ", other" })?;
+    text.push_str(match ran.same {
+        Some(true) => ", same",
+        Some(false) | None => ", other",
+    })?;
     tell_leave(text, &ran.seen)
 }
 
@@ -63,5 +66,11 @@ fn tell_leave(text: &mut String, seen: &Seen) -> Mem<()> {
     if seen.faults > 0 {
         write!(text, ", {} faults", seen.faults)?;
     }
+    Ok(())
+}
+
+/// Adds how many bytes so many workers landed.
+pub fn tell_landed(workers: u32, landed: u64, text: &mut String) -> Mem<()> {
+    write!(text, "{workers} workers, {landed} bytes")?;
     Ok(())
 }

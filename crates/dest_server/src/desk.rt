@@ -1,5 +1,5 @@
 ghost use Rattle.std.specs.Prelude.{◌≡◌, ◌<◌, ◌≤◌, Some};
-ghost use Rattle.core_desk.specs.Core.{closing_of, LossIs, TurnIs};
+ghost use Rattle.core_desk.specs.Core.{closing_of};
 ghost use Rattle.dest_server.specs.Coming.{core_words, ComesFrom};
 
 use callback_server::Host;
@@ -119,10 +119,6 @@ impl<
     ghost given_book = { λ d. d.desk.given };
 
     ghost shut_by = { λ d. closing_of d.desk.asked (K.steps d.desk.core) };
-
-    ghost takes_turn = { λ worker reply old result new. TurnIs K.steps (K.works worker) (K.takes_reply worker) worker reply old.desk result new.desk };
-
-    ghost loses_link = { λ worker old result new. LossIs K.steps (K.fails_link worker) old.desk result new.desk };
 
     fn turn(
         &mut self,
