@@ -122,8 +122,8 @@ def lands_whole(test, workers, order, kind):
 # ---- copies of a file that is written meanwhile, with records that are lost, and servers that stop
 
 
-def drawn_event(draw, copies):
-    """An event of a run; a copy of those that are left."""
+def drawn_event(draw, copies, stops):
+    """An event of a run: a copy of those that are left; a stop of a server only where servers stop."""
     side = draw.choice("sd")
     pick = draw.randrange(20)
     if pick < 3:
@@ -132,9 +132,9 @@ def drawn_event(draw, copies):
         return f"commit {side} 1"
     if pick < 7 and copies:
         return copies.pop(0)
-    if pick == 7:
+    if pick == 7 and stops:
         return f"crash {side} {draw.randrange(4)}"
-    if pick == 8:
+    if pick == 8 and stops:
         return f"crash {side} after {draw.randrange(24)} {draw.randrange(4)}"
     if pick == 9:
         return draw.choice(["retry", f"tick {draw.choice([1, 31, 95])}"])
@@ -146,11 +146,13 @@ def drawn_event(draw, copies):
 
 
 def drawn_run(seed):
-    """Writes at both servers, two copies, stops and losses in a drawn order; then all of it comes to its end, and both files are shown."""
-    draw = random.Random(seed)
-    copies = [f"copy 1 1 {draw.choice([0, 100])} 1 0 0 {draw.choice('cn')}", f"copy 2 1 5 1 65530 {draw.randrange(1, 60_000)} c"]
+    """Writes at both servers, two copies and losses in a drawn order, and stops in one of three runs; then all of it comes to its end, and
+    both files are shown."""
+    draw, stops = random.Random(seed), seed % 3 == 0
+    copies = [f"copy 1 1 {draw.choice([0, 100])} 1 0 0 {draw.choice('cn')}"]
+    copies.append(f"copy 2 1 5 1 {draw.choice([65_530, 90_000])} {draw.randrange(1, 60_000)} c")
     lines = ["volume s 1 40", "volume d 1 40", "write s 1 65533 3132333435", "write s 1 0 a1a2a3a4", "write d 1 65534 b1b2b3b4", "flow 20"]
-    lines += [drawn_event(draw, copies) for _ in range(50)]
+    lines += [drawn_event(draw, copies, stops) for _ in range(50)]
     lines += ["rounds 30", "retry", "tick 31", "rounds 60"]
     lines += [f"peek {side} 1 {at} 64" for side in "sd" for at in (0, 65_500, 131_040)]
     return as_text(lines)
